@@ -10,54 +10,94 @@ fn has_foreign_comment(before: &[u8]) -> bool {
         .any(|pair| matches!(pair, [b'/', b'/' | b'*'] | [b'(', b'*']))
 }
 
+const TEXTS: &str = "there are no texts and no characters: PRINT takes an INTEGER";
+
+const NOT: &str = "not is written NOT, and unequal #";
+
+// What is said of bytes that begin no token, by the first of them. The first of these with which they begin counts.
+const SLIPS: &[(&[u8], &str)] = &[
+    (
+        b"_",
+        "a name is a letter followed by letters and digits, without _",
+    ),
+    (b"\"", TEXTS),
+    (b"'", TEXTS),
+    (b"`", TEXTS),
+    (b"{", BRACES),
+    (b"}", BRACES),
+    (b"!=", UNEQUAL),
+    (b"!", NOT),
+    (b"~", NOT),
+    (b"&", "and is written AND"),
+    (b"|", "or is written OR"),
+    (b"%", "the remainder is written MOD"),
+    (b"^", "there is no power: multiply with *"),
+    (b"?", "there is no ?: choose with IF"),
+];
+
+const DASH: &str = "this is a dash: minus is -, and a comment begins with two of them";
+
+const QUOTATION: &str = "this is a quotation mark";
+
+// What is said of characters past ASCII that an editor or a keyboard puts for one of ASCII, by their bytes.
+const CHARACTERS: &[(&[u8], &str)] = &[
+    (
+        b"\xEF\xBB\xBF",
+        "this is a byte order mark: save the file without it",
+    ),
+    (
+        b"\xC2\xA0",
+        "this is a blank that keeps words together: put a plain one",
+    ),
+    (b"\xE2\x80\x93", DASH),
+    (b"\xE2\x80\x94", DASH),
+    (b"\xE2\x88\x92", DASH),
+    (b"\xE2\x80\x98", QUOTATION),
+    (b"\xE2\x80\x99", QUOTATION),
+    (b"\xE2\x80\x9A", QUOTATION),
+    (b"\xE2\x80\x9B", QUOTATION),
+    (b"\xE2\x80\x9C", QUOTATION),
+    (b"\xE2\x80\x9D", QUOTATION),
+    (b"\xE2\x80\x9E", QUOTATION),
+    (b"\xE2\x80\x9F", QUOTATION),
+    (b"\xE2\x89\xA0", UNEQUAL),
+    (b"\xE2\x89\xA4", "less or equal is written <="),
+    (b"\xE2\x89\xA5", "greater or equal is written >="),
+];
+
+// What a table says of bytes that begin as one of its rows does.
+fn said_of(rows: &[(&[u8], &'static str)], bytes: &[u8]) -> Option<&'static str> {
+    for (front, said) in rows {
+        if bytes.starts_with(front) {
+            return Some(said);
+        }
+    }
+    None
+}
+
 /// What is said of the bytes that begin no token, where these stand before them in their line.
 pub(crate) fn bad_token_slip(before: &[u8], rest: &[u8]) -> &'static str {
     if has_foreign_comment(before) {
         return COMMENT;
     }
-    match rest {
-        [b'0'..=b'9', ..] => "a number is at most 2147483647",
-        [b'_', ..] => "a name is a letter followed by letters and digits, without _",
-        [b'"' | b'\'' | b'`', ..] => {
-            "there are no texts and no characters: PRINT takes an INTEGER"
-        }
-        [b'{' | b'}', ..] => BRACES,
-        [b'!', b'=', ..] => UNEQUAL,
-        [b'!' | b'~', ..] => "not is written NOT, and unequal #",
-        [b'&', ..] => "and is written AND",
-        [b'|', ..] => "or is written OR",
-        [b'%', ..] => "the remainder is written MOD",
-        [b'^', ..] => "there is no power: multiply with *",
-        [b'?', ..] => "there is no ?: choose with IF",
-        _ => "no token begins so",
+    if rest.first().is_some_and(u8::is_ascii_digit) {
+        return "a number is at most 2147483647";
     }
-}
-
-// What is said of a character past ASCII that an editor or a keyboard puts for one of ASCII.
-fn character_slip(rest: &[u8]) -> Option<&'static str> {
-    match rest {
-        [0xEF, 0xBB, 0xBF, ..] => Some("this is a byte order mark: save the file without it"),
-        [0xC2, 0xA0, ..] => Some("this is a blank that keeps words together: put a plain one"),
-        [0xE2, 0x80, 0x93 | 0x94, ..] | [0xE2, 0x88, 0x92, ..] => {
-            Some("this is a dash: minus is -, and a comment begins with two of them")
-        }
-        [0xE2, 0x80, 0x98..=0x9F, ..] => Some("this is a quotation mark"),
-        [0xE2, 0x89, 0xA0, ..] => Some(UNEQUAL),
-        [0xE2, 0x89, 0xA4, ..] => Some("less or equal is written <="),
-        [0xE2, 0x89, 0xA5, ..] => Some("greater or equal is written >="),
-        _ => None,
+    match said_of(SLIPS, rest) {
+        Some(slip) => slip,
+        None => "no token begins so",
     }
 }
 
 /// Appends what is said of a byte past ASCII.
 pub(crate) fn append_not_ascii(out: &mut String, rest: &[u8]) -> Result<(), AllocError> {
-    if let [first, ..] = rest {
+    if let Some(first) = rest.first() {
         writeln!(
             out,
             "byte {first:02X} is no ASCII, which alone may stand in a text, in comments too"
         )?;
     }
-    match character_slip(rest) {
+    match said_of(CHARACTERS, rest) {
         Some(slip) => writeln!(out, "{slip}"),
         None => Ok(()),
     }

@@ -1,11 +1,11 @@
 // The chain of calls by which a procedure comes back to itself.
 
 use crate::declarations::{Declaration, Sort};
-use crate::lines::append_shown;
 use crate::names::declared_at;
 use crate::scopes::{Scope, Walk};
 use crate::sought::{Sought, Wanted, monitor_of};
 use crate::spot::Spot;
+use hint_lines::append_shown;
 use scanner::{Keyword, Kind, Sign, Token};
 use std::alloc::{AllocError, Global};
 
@@ -16,16 +16,16 @@ const MOST_TOLD: usize = 16;
 
 // A call: in which body it stands, the body of the procedure that it calls, and that procedure's name there.
 #[derive(Clone, Copy)]
-struct Call<'a> {
+struct Call<'t, 'a> {
     caller: u32,
     called: u32,
-    name: Token<'a>,
+    name: &'t Token<'a>,
 }
 
 // A call by which a procedure is reached, and the link that goes on from there; the last one has none.
 #[derive(Clone, Copy)]
-struct Link<'a> {
-    call: Call<'a>,
+struct Link<'t, 'a> {
+    call: Call<'t, 'a>,
     next: Option<usize>,
 }
 
@@ -46,12 +46,12 @@ fn body_called(declarations: &[Declaration<'_>], sought: Sought, name: &[u8]) ->
 }
 
 // The call in a body of what this name finds.
-fn call_to<'a>(
+fn call_to<'t, 'a>(
     declarations: &[Declaration<'_>],
     caller: u32,
     sought: Sought,
-    name: Token<'a>,
-) -> Call<'a> {
+    name: &'t Token<'a>,
+) -> Call<'t, 'a> {
     Call {
         caller,
         called: body_called(declarations, sought, name.text),
@@ -60,13 +60,13 @@ fn call_to<'a>(
 }
 
 // The call behind the word CALL, in this scope.
-fn call_at<'a>(
+fn call_at<'t, 'a>(
     declarations: &[Declaration<'_>],
     scope: Scope,
-    name: Token<'a>,
+    name: &'t Token<'a>,
     behind: Kind,
-    last: Token<'a>,
-) -> Call<'a> {
+    last: &'t Token<'a>,
+) -> Call<'t, 'a> {
     if behind != Kind::Sign(Sign::Dot) {
         let wanted = Wanted::Procedure;
         return call_to(declarations, scope.body, Sought { wanted, scope }, name);
@@ -83,37 +83,57 @@ fn call_at<'a>(
     call_to(declarations, scope.body, sought, last)
 }
 
+// Adds the call that begins with four tokens, where one does, in the scope that a walk comes to there.
+fn add_call<'t, 'a>(
+    calls: &mut Vec<Call<'t, 'a>>,
+    declarations: &[Declaration<'_>],
+    walk: &mut Walk,
+    four: &'t [Token<'a>],
+) -> Result<(), AllocError> {
+    let [before, name, behind, last] = four else {
+        return Ok(());
+    };
+    walk.pass(before.kind);
+    if before.kind != Kind::Keyword(Keyword::Call) || calls.len() >= MOST_CALLS {
+        return Ok(());
+    }
+    calls.push(call_at(declarations, walk.scope, name, behind.kind, last))?;
+    Ok(())
+}
+
 // The calls of a text.
-fn calls_of<'a>(
+fn calls_of<'t, 'a>(
     alloc: Global,
     declarations: &[Declaration<'_>],
-    tokens: &[Token<'a>],
-) -> Result<Vec<Call<'a>>, AllocError> {
+    tokens: &'t [Token<'a>],
+) -> Result<Vec<Call<'t, 'a>>, AllocError> {
     let mut calls = Vec::new(alloc);
     let mut walk = Walk::new();
     for four in tokens.windows(4) {
-        let [before, name, behind, last] = four else {
-            continue;
-        };
-        walk.pass(before.kind);
-        if before.kind == Kind::Keyword(Keyword::Call) && calls.len() < MOST_CALLS {
-            calls.push(call_at(declarations, walk.scope, *name, behind.kind, *last))?;
-        }
+        add_call(&mut calls, declarations, &mut walk, four)?;
     }
     Ok(calls)
 }
 
+// Whether a body has a link.
+fn is_linked(links: &[Link<'_, '_>], body: u32) -> bool {
+    for link in links {
+        if link.call.caller == body {
+            return true;
+        }
+    }
+    false
+}
+
 // Adds a link for each body that calls this one and has none yet.
-fn link_callers<'a>(
-    links: &mut Vec<Link<'a>>,
-    calls: &[Call<'a>],
+fn link_callers<'t, 'a>(
+    links: &mut Vec<Link<'t, 'a>>,
+    calls: &[Call<'t, 'a>],
     called: u32,
     next: Option<usize>,
 ) -> Result<(), AllocError> {
     for call in calls {
-        let caller = call.caller;
-        let is_new = !links.iter().any(|link| link.call.caller == caller);
-        if call.called == called && is_new {
+        if call.called == called && !is_linked(links.as_slice(), call.caller) {
             links.push(Link { call: *call, next })?;
         }
     }
@@ -121,9 +141,9 @@ fn link_callers<'a>(
 }
 
 // Adds links from the callers of a body back and back, up to one that stands in that body, and says which that is.
-fn link_back<'a>(
-    links: &mut Vec<Link<'a>>,
-    calls: &[Call<'a>],
+fn link_back<'t, 'a>(
+    links: &mut Vec<Link<'t, 'a>>,
+    calls: &[Call<'t, 'a>],
     body: u32,
 ) -> Result<Option<usize>, AllocError> {
     link_callers(links, calls, body, None)?;
@@ -131,28 +151,50 @@ fn link_back<'a>(
         let Some(link) = links.get(index) else {
             return Ok(None);
         };
-        let link = *link;
-        if link.call.caller == body {
+        let caller = link.call.caller;
+        if caller == body {
             return Ok(Some(index));
         }
-        link_callers(links, calls, link.call.caller, Some(index))?;
+        link_callers(links, calls, caller, Some(index))?;
     }
     Ok(None)
 }
 
+// Appends where the procedure of this name is called.
+fn append_call(out: &mut String, name: &Token<'_>) -> Result<(), AllocError> {
+    append_shown(out, name.text)?;
+    let place = name.place;
+    writeln!(out, " is called at {}:{}", place.line, place.column)
+}
+
 // Appends the chain that begins with a link.
-fn append_links(out: &mut String, links: &[Link<'_>], first: usize) -> Result<(), AllocError> {
-    let mut at = Some(first);
+fn append_links(out: &mut String, links: &[Link<'_, '_>], first: usize) -> Result<(), AllocError> {
+    let mut at = first;
     for _ in 0..MOST_TOLD {
-        let Some(link) = at.and_then(|index| links.get(index)) else {
+        let Some(link) = links.get(at) else {
             return Ok(());
         };
-        append_shown(out, link.call.name.text)?;
-        let place = link.call.name.place;
-        writeln!(out, " is called at {}:{}", place.line, place.column)?;
-        at = link.next;
+        append_call(out, link.call.name)?;
+        let Some(next) = link.next else {
+            return Ok(());
+        };
+        at = next;
     }
     Ok(())
+}
+
+// Appends the calls that lead from a body back to it.
+fn append_calls_back(
+    alloc: Global,
+    out: &mut String,
+    calls: &[Call<'_, '_>],
+    body: u32,
+) -> Result<(), AllocError> {
+    let mut links = Vec::new(alloc);
+    match link_back(&mut links, calls, body)? {
+        Some(first) => append_links(out, links.as_slice(), first),
+        None => Ok(()),
+    }
 }
 
 /// Appends the calls, in their order, that lead from the procedure whose declared name stands at a place back to it.
@@ -169,9 +211,5 @@ pub(crate) fn append_chain(
         None => return Ok(()),
     };
     let calls = calls_of(alloc, declarations, tokens)?;
-    let mut links = Vec::new(alloc);
-    match link_back(&mut links, calls.as_slice(), body)? {
-        Some(first) => append_links(out, links.as_slice(), first),
-        None => Ok(()),
-    }
+    append_calls_back(alloc, out, calls.as_slice(), body)
 }

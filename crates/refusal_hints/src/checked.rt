@@ -1,7 +1,7 @@
 // What helps with a text that the grammar takes, and the rules of names, types and places don't.
 
 use crate::chains::append_chain;
-use crate::declarations::declarations_of;
+use crate::declarations::{Declaration, declarations_of};
 use crate::names::{append_found, append_redeclared, append_unknown};
 use crate::places::wrong_place_slip;
 use crate::spot::Spot;
@@ -15,6 +15,49 @@ const REENTRY: &str =
 const RECURSION: &str =
     "calls lead from this procedure back to it: use a loop, or an array as a stack";
 
+// Appends what helps with a procedure that would wait for its caller.
+fn append_reentry(
+    alloc: Global,
+    out: &mut String,
+    declarations: &[Declaration<'_>],
+    spot: &Spot<'_, '_>,
+) -> Result<(), AllocError> {
+    append_found(alloc, out, declarations, spot)?;
+    writeln!(out, "{REENTRY}")
+}
+
+// Appends what helps with a procedure to which calls lead back.
+fn append_recursion(
+    alloc: Global,
+    out: &mut String,
+    declarations: &[Declaration<'_>],
+    tokens: &[Token],
+    spot: &Spot<'_, '_>,
+) -> Result<(), AllocError> {
+    writeln!(out, "{RECURSION}")?;
+    append_chain(alloc, out, declarations, tokens, spot)
+}
+
+// Appends what helps with a refusal of a text that declares this.
+fn append_by_kind(
+    alloc: Global,
+    out: &mut String,
+    declarations: &[Declaration<'_>],
+    tokens: &[Token],
+    kind: RefusalKind,
+    spot: &Spot<'_, '_>,
+) -> Result<(), AllocError> {
+    match kind {
+        RefusalKind::Unknown => append_unknown(alloc, out, declarations, spot),
+        RefusalKind::Redeclared => append_redeclared(alloc, out, declarations, spot),
+        RefusalKind::TypeMismatch => append_type(alloc, out, declarations, tokens, spot),
+        RefusalKind::WrongPlace => writeln!(out, "{}", wrong_place_slip(spot)),
+        RefusalKind::DirectReentry => append_reentry(alloc, out, declarations, spot),
+        RefusalKind::Recursion => append_recursion(alloc, out, declarations, tokens, spot),
+        _ => Ok(()),
+    }
+}
+
 /// Appends what helps with such a refusal.
 pub(crate) fn append_checked(
     alloc: Global,
@@ -24,20 +67,5 @@ pub(crate) fn append_checked(
     spot: &Spot<'_, '_>,
 ) -> Result<(), AllocError> {
     let declarations = declarations_of(alloc, tokens)?;
-    let declarations = declarations.as_slice();
-    match kind {
-        RefusalKind::Unknown => append_unknown(alloc, out, declarations, spot),
-        RefusalKind::Redeclared => append_redeclared(alloc, out, declarations, spot),
-        RefusalKind::TypeMismatch => append_type(alloc, out, declarations, tokens, spot),
-        RefusalKind::WrongPlace => writeln!(out, "{}", wrong_place_slip(spot)),
-        RefusalKind::DirectReentry => {
-            append_found(alloc, out, declarations, spot)?;
-            writeln!(out, "{REENTRY}")
-        }
-        RefusalKind::Recursion => {
-            writeln!(out, "{RECURSION}")?;
-            append_chain(alloc, out, declarations, tokens, spot)
-        }
-        _ => Ok(()),
-    }
+    append_by_kind(alloc, out, declarations.as_slice(), tokens, kind, spot)
 }

@@ -48,6 +48,26 @@ fn sort_of(walk: &Walk, before: Kind, behind: Kind, last: Kind) -> Option<(Sort,
     }
 }
 
+// Adds the declaration whose name is the second of four tokens, where one is, in the scope that a walk comes to there.
+fn add_declaration<'a>(
+    found: &mut Vec<Declaration<'a>>,
+    walk: &mut Walk,
+    four: &[Token<'a>],
+) -> Result<(), AllocError> {
+    let [before, name, behind, last] = four else {
+        return Ok(());
+    };
+    walk.pass(before.kind);
+    if name.kind != Kind::Name {
+        return Ok(());
+    }
+    let name = *name;
+    if let Some((sort, scope)) = sort_of(walk, before.kind, behind.kind, last.kind) {
+        found.push(Declaration { name, sort, scope })?;
+    }
+    Ok(())
+}
+
 /// The declarations of a text, in its order.
 pub(crate) fn declarations_of<'a>(
     alloc: Global,
@@ -56,20 +76,7 @@ pub(crate) fn declarations_of<'a>(
     let mut found = Vec::new(alloc);
     let mut walk = Walk::new();
     for four in tokens.windows(4) {
-        let [before, name, behind, last] = four else {
-            continue;
-        };
-        walk.pass(before.kind);
-        if name.kind != Kind::Name {
-            continue;
-        }
-        if let Some((sort, scope)) = sort_of(&walk, before.kind, behind.kind, last.kind) {
-            found.push(Declaration {
-                name: *name,
-                sort,
-                scope,
-            })?;
-        }
+        add_declaration(&mut found, &mut walk, four)?;
     }
     Ok(found)
 }

@@ -1,6 +1,6 @@
 // The source line of a refusal, and a caret under its place.
 
-use crate::lines::append_shown;
+use hint_lines::append_shown;
 use std::alloc::AllocError;
 
 // How many bytes of a long line are shown, and how many of them stand before the place.
@@ -25,36 +25,46 @@ pub(crate) fn split_line(text: &[u8], line: u32, column: u32) -> (&[u8], &[u8]) 
     line.split_at(before)
 }
 
+// Whether a token, or a character of UTF-8, that begins with one byte goes on with another.
+fn goes_on(first: u8, byte: u8) -> bool {
+    if first.is_ascii_alphabetic() {
+        return byte.is_ascii_alphanumeric();
+    }
+    if first.is_ascii_digit() {
+        return byte.is_ascii_digit();
+    }
+    !first.is_ascii() && matches!(byte, 128..192)
+}
+
 /// How many bytes the token has that stands first: where none does, one, or those of a character of UTF-8.
 pub(crate) fn token_length(bytes: &[u8]) -> usize {
-    let more = match bytes {
-        [first, rest @ ..] if first.is_ascii_alphabetic() => {
-            rest.iter()
-                .take_while(|b| b.is_ascii_alphanumeric())
-                .count()
+    if let [b':' | b'<' | b'>', b'=', ..] = bytes {
+        return 2;
+    }
+    let mut length: usize = 1;
+    if let [first, rest @ ..] = bytes {
+        for byte in rest {
+            if !goes_on(*first, *byte) {
+                break;
+            }
+            length = length.saturating_add(1);
         }
-        [first, rest @ ..] if first.is_ascii_digit() => {
-            rest.iter().take_while(|b| b.is_ascii_digit()).count()
-        }
-        [first, rest @ ..] if !first.is_ascii() => {
-            rest.iter().take_while(|b| matches!(**b, 128..192)).count()
-        }
-        [b':' | b'<' | b'>', b'=', ..] => 1,
-        _ => 0,
-    };
-    more.saturating_add(1)
+    }
+    length
+}
+
+// Appends a source byte.
+fn append_byte(out: &mut String, byte: u8) -> Result<(), AllocError> {
+    if byte == b'\t' {
+        return out.push_str(TAB);
+    }
+    append_shown(out, &[byte])
 }
 
 // Appends source bytes.
 fn append_source(out: &mut String, bytes: &[u8]) -> Result<(), AllocError> {
-    for part in bytes.split_inclusive(|byte| *byte == b'\t') {
-        match part {
-            [plain @ .., b'\t'] => {
-                append_shown(out, plain)?;
-                out.push_str(TAB)?;
-            }
-            plain => append_shown(out, plain)?,
-        }
+    for byte in bytes {
+        append_byte(out, *byte)?;
     }
     Ok(())
 }
@@ -88,10 +98,37 @@ fn start_of<'t>(shown_before: &[u8], rest: &'t [u8]) -> &'t [u8] {
 
 // Appends the caret, with the tail that its token's length gives it.
 fn append_caret(out: &mut String, shown: &[u8]) -> Result<(), AllocError> {
-    out.push_str("^")?;
-    let length = token_length(shown);
-    let token = shown.get(..length).unwrap_or(shown);
-    append_under(out, token.get(1..).unwrap_or(&[]), '~')
+    out.push('^')?;
+    let length = token_length(shown).min(shown.len());
+    append_under(out, shown.get(1..length).unwrap_or(&[]), '~')
+}
+
+// Appends a line of source bytes, those before a place and those from there on, where more may stand before and behind
+// them.
+fn append_line(
+    out: &mut String,
+    left: &[u8],
+    right: &[u8],
+    more_before: bool,
+    more_behind: bool,
+) -> Result<(), AllocError> {
+    out.push_str(if more_before { "  .." } else { "  " })?;
+    append_source(out, left)?;
+    append_source(out, right)?;
+    out.push_str(if more_behind { "..\n" } else { "\n" })
+}
+
+// Appends a line with the caret under the first of the bytes on the right.
+fn append_pointer(
+    out: &mut String,
+    left: &[u8],
+    right: &[u8],
+    more_before: bool,
+) -> Result<(), AllocError> {
+    out.push_str(if more_before { "    " } else { "  " })?;
+    append_under(out, left, ' ')?;
+    append_caret(out, right)?;
+    out.push('\n')
 }
 
 /// Appends a line, given as its bytes before a place and those from there on, and a line with a caret under the place.
@@ -102,17 +139,7 @@ pub(crate) fn append_excerpt(
 ) -> Result<(), AllocError> {
     let left = end_of(before, rest);
     let right = start_of(left, rest);
-    let cut = left.len() < before.len();
-    out.push_str(if cut { "  .." } else { "  " })?;
-    append_source(out, left)?;
-    append_source(out, right)?;
-    out.push_str(if right.len() < rest.len() {
-        "..\n"
-    } else {
-        "\n"
-    })?;
-    out.push_str(if cut { "    " } else { "  " })?;
-    append_under(out, left, ' ')?;
-    append_caret(out, right)?;
-    out.push_str("\n")
+    let more_before = left.len() < before.len();
+    append_line(out, left, right, more_before, right.len() < rest.len())?;
+    append_pointer(out, left, right, more_before)
 }

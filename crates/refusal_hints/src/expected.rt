@@ -13,13 +13,24 @@ use std::alloc::{AllocError, Global};
 // How many lexemes are listed.
 const MOST_LISTED: usize = 8;
 
+// Appends a lexeme of a list.
+fn append_listed(alloc: Global, out: &mut String, lexeme: Lexeme) -> Result<(), AllocError> {
+    out.push(' ')?;
+    append_lexeme(alloc, out, lexeme)
+}
+
+// Appends the first lexemes of a list.
+fn append_list(alloc: Global, out: &mut String, lexemes: &[Lexeme]) -> Result<(), AllocError> {
+    for lexeme in lexemes.get(..MOST_LISTED).unwrap_or(lexemes) {
+        append_listed(alloc, out, *lexeme)?;
+    }
+    Ok(())
+}
+
 // Appends what may stand at a place.
 fn append_accepted(alloc: Global, out: &mut String, accepted: &[Lexeme]) -> Result<(), AllocError> {
     out.push_str("here may stand:")?;
-    for lexeme in accepted.iter().take(MOST_LISTED) {
-        out.push_str(" ")?;
-        append_lexeme(alloc, out, *lexeme)?;
-    }
+    append_list(alloc, out, accepted)?;
     out.push_str(if accepted.len() > MOST_LISTED {
         " ..\n"
     } else {
@@ -53,6 +64,12 @@ fn append_slip(alloc: Global, out: &mut String, spot: &Spot<'_, '_>) -> Result<(
     }
 }
 
+// Appends what may stand at a place, and what the slip may be of what stands there.
+fn append_at(alloc: Global, out: &mut String, spot: &Spot<'_, '_>) -> Result<(), AllocError> {
+    append_accepted(alloc, out, spot.accepted)?;
+    append_slip(alloc, out, spot)
+}
+
 /// Appends what may stand behind the tokens before a place, and what the slip may be of those from there on.
 pub(crate) fn append_expected<'t, 'a>(
     alloc: Global,
@@ -66,6 +83,5 @@ pub(crate) fn append_expected<'t, 'a>(
         from,
         accepted: accepted.as_slice(),
     };
-    append_accepted(alloc, out, spot.accepted)?;
-    append_slip(alloc, out, &spot)
+    append_at(alloc, out, &spot)
 }

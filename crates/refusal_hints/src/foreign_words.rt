@@ -1,9 +1,26 @@
 // Words of other languages, and keywords in small letters.
 
 use crate::lexeme::{Lexeme, append_keyword};
-use crate::spot::Spot;
-use scanner::{Keyword, Kind, RefusalKind, Sign, Token, scan};
+use crate::spot::{Spot, tokens_of};
+use scanner::{Keyword, Kind, Sign, Token};
 use std::alloc::{AllocError, Global};
+
+// The keyword that tokens begin with.
+fn first_keyword(tokens: &[Token<'_>]) -> Option<Keyword> {
+    match tokens.first() {
+        Some(token) => match token.kind {
+            Kind::Keyword(word) => Some(word),
+            _ => None,
+        },
+        None => None,
+    }
+}
+
+// The keyword that a text begins with.
+fn keyword_of(alloc: Global, text: &[u8]) -> Result<Option<Keyword>, AllocError> {
+    let tokens = tokens_of(alloc, text)?;
+    Ok(first_keyword(tokens.as_slice()))
+}
 
 // The keyword that a token would be in capitals, if it is a name.
 fn keyword_in_capitals(alloc: Global, token: Token<'_>) -> Result<Option<Keyword>, AllocError> {
@@ -11,18 +28,7 @@ fn keyword_in_capitals(alloc: Global, token: Token<'_>) -> Result<Option<Keyword
         return Ok(None);
     }
     let capitals = token.text.to_ascii_uppercase(alloc)?;
-    let tokens = match scan(alloc, capitals.as_slice()) {
-        Ok(tokens) => tokens,
-        Err(refusal) if refusal.kind == RefusalKind::Memory => return Err(AllocError),
-        Err(_) => return Ok(None),
-    };
-    let [first, ..] = tokens.as_slice() else {
-        return Ok(None);
-    };
-    match first.kind {
-        Kind::Keyword(word) => Ok(Some(word)),
-        _ => Ok(None),
-    }
+    keyword_of(alloc, capitals.as_slice())
 }
 
 // The keyword that a name in small letters is meant to be: what stands at the place, or else just before it.
@@ -31,6 +37,13 @@ fn small_keyword(alloc: Global, spot: &Spot<'_, '_>) -> Result<Option<Keyword>, 
         Some(word) => Ok(Some(word)),
         None => keyword_in_capitals(alloc, spot.token_back(1)),
     }
+}
+
+// Appends that a keyword is written in capitals.
+fn append_in_capitals(alloc: Global, out: &mut String, word: Keyword) -> Result<(), AllocError> {
+    out.push_str("a keyword is written in capitals: ")?;
+    append_keyword(alloc, out, word)?;
+    out.push('\n')
 }
 
 /// Appends that a keyword is written in capitals, where one at the place or before it isn't, and says whether it did.
@@ -42,52 +55,61 @@ pub(crate) fn append_small_keyword(
     let Some(word) = small_keyword(alloc, spot)? else {
         return Ok(false);
     };
-    out.push_str("a keyword is written in capitals: ")?;
-    append_keyword(alloc, out, word)?;
-    out.push_str("\n")?;
+    append_in_capitals(alloc, out, word)?;
     Ok(true)
 }
 
+// Words of other languages, and what is said of them.
+const WORDS: &[(&[&str], &str)] = &[
+    (
+        &["begin"],
+        "there is no BEGIN: statements follow the declarations",
+    ),
+    (
+        &[
+            "for", "repeat", "until", "loop", "exit", "break", "continue",
+        ],
+        "the one loop is WHILE .. DO .. ENDLOOP;",
+    ),
+    (
+        &["elsif", "elseif", "elif"],
+        "there is no ELSIF: ELSE IF .. THEN .. ENDIF; ENDIF;",
+    ),
+    (&["case", "switch"], "there is no CASE: choose with IF"),
+    (
+        &["const", "type", "record", "import", "export"],
+        "variables, procedures and monitors are all that is declared",
+    ),
+    (
+        &["function", "func", "fn", "def", "proc", "method"],
+        "a function is a procedure with a result: PROCEDURE f(): INTEGER;",
+    ),
+    (
+        &["int", "bool", "char", "string", "real", "void", "let"],
+        "a variable is declared so: VAR x: INTEGER;",
+    ),
+    (
+        &["signal", "notifyall"],
+        "NOTIFY wakes one that waits, and BROADCAST all",
+    ),
+];
+
 // Whether a name is one of these words, in small letters or in capitals.
 fn is_one_of(name: &[u8], words: &[&str]) -> bool {
-    words
-        .iter()
-        .any(|word| name.eq_ignore_ascii_case(word.as_bytes()))
+    for word in words {
+        if name.eq_ignore_ascii_case(word.as_bytes()) {
+            return true;
+        }
+    }
+    false
 }
 
 // What stands for a word of another language.
 fn foreign_word(name: &[u8]) -> Option<&'static str> {
-    if is_one_of(name, &["begin"]) {
-        return Some("there is no BEGIN: statements follow the declarations");
-    }
-    if is_one_of(
-        name,
-        &[
-            "for", "repeat", "until", "loop", "exit", "break", "continue",
-        ],
-    ) {
-        return Some("the one loop is WHILE .. DO .. ENDLOOP;");
-    }
-    if is_one_of(name, &["elsif", "elseif", "elif"]) {
-        return Some("there is no ELSIF: ELSE IF .. THEN .. ENDIF; ENDIF;");
-    }
-    if is_one_of(name, &["case", "switch"]) {
-        return Some("there is no CASE: choose with IF");
-    }
-    if is_one_of(name, &["const", "type", "record", "import", "export"]) {
-        return Some("variables, procedures and monitors are all that is declared");
-    }
-    if is_one_of(name, &["function", "func", "fn", "def", "proc", "method"]) {
-        return Some("a function is a procedure with a result: PROCEDURE f(): INTEGER;");
-    }
-    if is_one_of(
-        name,
-        &["int", "bool", "char", "string", "real", "void", "let"],
-    ) {
-        return Some("a variable is declared so: VAR x: INTEGER;");
-    }
-    if is_one_of(name, &["signal", "notifyall"]) {
-        return Some("NOTIFY wakes one that waits, and BROADCAST all");
+    for (words, said) in WORDS {
+        if is_one_of(name, words) {
+            return Some(said);
+        }
     }
     None
 }

@@ -1,24 +1,38 @@
 ghost use Rattle.std.specs.Prelude.{IfOk};
 ghost use Rattle.std.specs.String.{string_bytes};
-ghost use Rattle.refusal_hints.specs.HintLines.{AreHintLines};
+ghost use Rattle.hint_lines.specs.HintLines.{AreHintLines};
 
 use crate::byte_slips::{append_not_ascii, bad_token_slip};
 use crate::checked::append_checked;
 use crate::excerpt::{append_excerpt, split_line};
 use crate::expected::append_expected;
 use crate::limits::append_limit;
-use crate::lines::hint_lines;
-use crate::spot::{Spot, tokens_around};
-use scanner::{Place, Refusal, RefusalKind, Token, scan};
+use crate::spot::{Spot, tokens_around, tokens_of};
+use hint_lines::hint_lines;
+use scanner::{Place, Refusal, RefusalKind, Token};
 use std::alloc::{AllocError, Global};
 
-// The tokens of a text, or none where it has a fault.
-fn tokens_of<'a>(alloc: Global, text: &'a [u8]) -> Result<Vec<Token<'a>>, AllocError> {
-    match scan(alloc, text) {
-        Ok(tokens) => Ok(tokens),
-        Err(refusal) if refusal.kind == RefusalKind::Memory => Err(AllocError),
-        Err(_) => Ok(Vec::new(alloc)),
+// Appends what helps where these tokens of a text tell it.
+fn append_at_token(
+    alloc: Global,
+    out: &mut String,
+    text: &[u8],
+    tokens: &[Token],
+    refusal: Refusal,
+) -> Result<(), AllocError> {
+    let (before, from) = tokens_around(tokens, refusal.place);
+    if refusal.kind == RefusalKind::Expected {
+        return append_expected(alloc, out, before, from);
     }
+    let spot = Spot {
+        before,
+        from,
+        accepted: &[],
+    };
+    if refusal.kind == RefusalKind::Limit {
+        return append_limit(alloc, out, text, tokens, &spot, refusal.place);
+    }
+    append_checked(alloc, out, tokens, refusal.kind, &spot)
 }
 
 // Appends what helps where the tokens of a text tell it.
@@ -29,19 +43,7 @@ fn append_by_tokens(
     refusal: Refusal,
 ) -> Result<(), AllocError> {
     let tokens = tokens_of(alloc, text)?;
-    let (before, from) = tokens_around(tokens.as_slice(), refusal.place);
-    if refusal.kind == RefusalKind::Expected {
-        return append_expected(alloc, out, before, from);
-    }
-    let spot = Spot {
-        before,
-        from,
-        accepted: &[],
-    };
-    if refusal.kind == RefusalKind::Limit {
-        return append_limit(alloc, out, text, tokens.as_slice(), &spot, refusal.place);
-    }
-    append_checked(alloc, out, tokens.as_slice(), refusal.kind, &spot)
+    append_at_token(alloc, out, text, tokens.as_slice(), refusal)
 }
 
 // Appends the line of a refusal's place, and what helps with it.

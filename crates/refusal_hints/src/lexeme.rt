@@ -1,4 +1,4 @@
-use crate::lines::append_shown;
+use hint_lines::append_shown;
 use scanner::{Keyword, Kind, Sign};
 use std::alloc::{AllocError, Global};
 
@@ -26,29 +26,45 @@ impl Lexeme {
     }
 }
 
+// How each sign is written.
+const SIGNS: &[(Sign, &str)] = &[
+    (Sign::Assign, ":="),
+    (Sign::Colon, ":"),
+    (Sign::Semicolon, ";"),
+    (Sign::Comma, ","),
+    (Sign::Dot, "."),
+    (Sign::OpenParen, "("),
+    (Sign::CloseParen, ")"),
+    (Sign::OpenBracket, "["),
+    (Sign::CloseBracket, "]"),
+    (Sign::Equal, "="),
+    (Sign::NotEqual, "#"),
+    (Sign::Less, "<"),
+    (Sign::LessEqual, "<="),
+    (Sign::Greater, ">"),
+    (Sign::GreaterEqual, ">="),
+    (Sign::Plus, "+"),
+    (Sign::Minus, "-"),
+    (Sign::Times, "*"),
+    (Sign::Divide, "/"),
+];
+
 // How a sign is written.
 fn sign_text(sign: Sign) -> &'static str {
-    match sign {
-        Sign::Assign => ":=",
-        Sign::Colon => ":",
-        Sign::Semicolon => ";",
-        Sign::Comma => ",",
-        Sign::Dot => ".",
-        Sign::OpenParen => "(",
-        Sign::CloseParen => ")",
-        Sign::OpenBracket => "[",
-        Sign::CloseBracket => "]",
-        Sign::Equal => "=",
-        Sign::NotEqual => "#",
-        Sign::Less => "<",
-        Sign::LessEqual => "<=",
-        Sign::Greater => ">",
-        Sign::GreaterEqual => ">=",
-        Sign::Plus => "+",
-        Sign::Minus => "-",
-        Sign::Times => "*",
-        Sign::Divide => "/",
+    for (listed, text) in SIGNS {
+        if *listed == sign {
+            return text;
+        }
     }
+    ""
+}
+
+// Appends a word in capitals.
+fn append_capitals(out: &mut String, word: &str) -> Result<(), AllocError> {
+    for byte in word.as_bytes() {
+        append_shown(out, &[byte.to_ascii_uppercase()])?;
+    }
+    Ok(())
 }
 
 /// Appends how a keyword is written: as its variant is, in capitals.
@@ -58,8 +74,7 @@ pub(crate) fn append_keyword(
     word: Keyword,
 ) -> Result<(), AllocError> {
     let name = format!(in alloc; "{word:?}")?;
-    let name = name.as_str().to_ascii_uppercase(alloc)?;
-    append_shown(out, name.as_bytes())
+    append_capitals(out, name.as_str())
 }
 
 /// Appends how a lexeme is written. What has no one spelling is in small letters, which no keyword is.

@@ -13,10 +13,8 @@ mod firsts;
 mod foreign_words;
 mod headers;
 mod hinting;
-mod laws;
 mod lexeme;
 mod limits;
-mod lines;
 mod names;
 mod operators;
 mod places;
@@ -33,4 +31,3 @@ mod wanted_types;
 mod word_slips;
 
 pub use hinting::hints_of;
-pub use laws::shown_laws;

@@ -139,6 +139,20 @@ fn append_words(
     writeln!(out, "up to this one they have {words}")
 }
 
+// Appends which of the names that it is counted with stands at a place, where it is a declared one.
+fn append_name(
+    out: &mut String,
+    declarations: &[Declaration<'_>],
+    tokens: &[Token<'_>],
+    place: Place,
+) -> Result<(), AllocError> {
+    let Some(here) = declared_at(declarations, place) else {
+        return Ok(());
+    };
+    append_count(out, declarations, here)?;
+    append_words(out, tokens, here)
+}
+
 /// Appends which limit is passed at a place of a text, and of declared names which of them stands there.
 pub(crate) fn append_limit(
     alloc: Global,
@@ -150,11 +164,7 @@ pub(crate) fn append_limit(
 ) -> Result<(), AllocError> {
     writeln!(out, "{}", limit_at(text, place, spot))?;
     let declarations = declarations_of(alloc, tokens)?;
-    let Some(here) = declared_at(declarations.as_slice(), place) else {
-        return Ok(());
-    };
-    append_count(out, declarations.as_slice(), &here)?;
-    append_words(out, tokens, &here)
+    append_name(out, declarations.as_slice(), tokens, place)
 }
 
 // The limit that is passed at a place of a text.

@@ -2,12 +2,21 @@
 
 use crate::declarations::{Declaration, Sort};
 use crate::lexeme::append_keyword;
-use crate::lines::append_shown;
 use crate::scopes::Scope;
 use crate::sought::{Sought, Wanted, sought_at};
 use crate::spot::Spot;
+use hint_lines::append_shown;
 use scanner::Place;
 use std::alloc::{AllocError, Global};
+
+// Appends what a name is declared as.
+fn append_sort(alloc: Global, out: &mut String, sort: Sort) -> Result<(), AllocError> {
+    match sort {
+        Sort::Monitor(_) => out.push_str("a monitor"),
+        Sort::Procedure(_) => out.push_str("a procedure"),
+        Sort::Variable(word) => append_keyword(alloc, out, word),
+    }
+}
 
 /// Appends where and as what a name is declared.
 pub(crate) fn append_declaration(
@@ -18,14 +27,22 @@ pub(crate) fn append_declaration(
     append_shown(out, declaration.name.text)?;
     let place = declaration.name.place;
     write!(out, " is declared at {}:{} as ", place.line, place.column)?;
-    match declaration.sort {
-        Sort::Monitor(_) => out.push_str("a monitor\n"),
-        Sort::Procedure(_) => out.push_str("a procedure\n"),
-        Sort::Variable(word) => {
-            append_keyword(alloc, out, word)?;
-            out.push_str("\n")
-        }
-    }
+    append_sort(alloc, out, declaration.sort)?;
+    out.push('\n')
+}
+
+// Appends such a declaration behind a label, if there is one.
+fn append_labelled(
+    alloc: Global,
+    out: &mut String,
+    label: &str,
+    found: Option<&Declaration<'_>>,
+) -> Result<(), AllocError> {
+    let Some(declaration) = found else {
+        return Ok(());
+    };
+    out.push_str(label)?;
+    append_declaration(alloc, out, declaration)
 }
 
 // What isn't found.
@@ -39,11 +56,16 @@ fn absence(wanted: Wanted) -> &'static str {
 }
 
 // The first declaration of a name.
-fn first_of<'a>(declarations: &[Declaration<'a>], name: &[u8]) -> Option<Declaration<'a>> {
-    declarations
-        .iter()
-        .find(|declaration| declaration.name.text == name)
-        .copied()
+fn first_of<'d, 'a>(
+    declarations: &'d [Declaration<'a>],
+    name: &[u8],
+) -> Option<&'d Declaration<'a>> {
+    for declaration in declarations {
+        if declaration.name.text == name {
+            return Some(declaration);
+        }
+    }
+    None
 }
 
 // Appends what a name may be meant to be: one within reach that is like it, and one that is written so out of reach.
@@ -54,15 +76,16 @@ fn append_meant(
     sought: Sought,
     name: &[u8],
 ) -> Result<(), AllocError> {
-    if let Some(alike) = sought.find_alike(alloc, declarations, name)? {
-        out.push_str("like it: ")?;
-        append_declaration(alloc, out, &alike)?;
-    }
-    if let Some(other) = first_of(declarations, name) {
-        out.push_str("out of reach: ")?;
-        append_declaration(alloc, out, &other)?;
-    }
-    Ok(())
+    let alike = sought.find_alike(alloc, declarations, name)?;
+    append_labelled(alloc, out, "like it: ", alike)?;
+    append_labelled(alloc, out, "out of reach: ", first_of(declarations, name))
+}
+
+// Appends that a name isn't found.
+fn append_absence(out: &mut String, wanted: Wanted, name: &[u8]) -> Result<(), AllocError> {
+    out.push_str(absence(wanted))?;
+    append_shown(out, name)?;
+    out.push('\n')
 }
 
 /// Appends what helps with a name that isn't found.
@@ -74,21 +97,19 @@ pub(crate) fn append_unknown(
 ) -> Result<(), AllocError> {
     let name = spot.token(0).text;
     let sought = sought_at(declarations, spot);
-    out.push_str(absence(sought.wanted))?;
-    append_shown(out, name)?;
-    out.push_str("\n")?;
+    append_absence(out, sought.wanted, name)?;
     append_meant(alloc, out, declarations, sought, name)
 }
 
 /// The declaration whose name stands at a place.
-pub(crate) fn declared_at<'a>(
-    declarations: &[Declaration<'a>],
+pub(crate) fn declared_at<'d, 'a>(
+    declarations: &'d [Declaration<'a>],
     place: Place,
-) -> Option<Declaration<'a>> {
+) -> Option<&'d Declaration<'a>> {
     for declaration in declarations {
         let at = declaration.name.place;
         if at == place {
-            return Some(*declaration);
+            return Some(declaration);
         }
     }
     None
@@ -134,7 +155,7 @@ pub(crate) fn append_found(
 ) -> Result<(), AllocError> {
     let sought = sought_at(declarations, spot);
     match sought.find(declarations, spot.token(0).text) {
-        Some(found) => append_declaration(alloc, out, &found),
+        Some(found) => append_declaration(alloc, out, found),
         None => Ok(()),
     }
 }

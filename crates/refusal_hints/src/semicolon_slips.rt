@@ -6,6 +6,23 @@ use crate::spot::Spot;
 use scanner::{Keyword, Sign};
 use std::alloc::AllocError;
 
+// What is said of it where one of these may stand.
+const ACCEPTED: &[(Lexeme, &str)] = &[
+    (
+        Lexeme::Mark(Sign::Comma),
+        "parameters and arguments are separated by commas",
+    ),
+    (
+        Lexeme::Word(Keyword::Into),
+        "FORK tells where the process is kept: FORK p(..) INTO h;",
+    ),
+    (
+        Lexeme::Word(Keyword::If),
+        "a ; ends a statement or a declaration, and no other stands anywhere",
+    ),
+    (Lexeme::Number, "an expression is missing"),
+];
+
 /// What is said of a `;`.
 pub(crate) fn semicolon_slip(spot: &Spot<'_, '_>) -> Option<&'static str> {
     if spot.takes_sign(Sign::Dot) && spot.back(1) == Lexeme::Word(Keyword::End) {
@@ -14,19 +31,7 @@ pub(crate) fn semicolon_slip(spot: &Spot<'_, '_>) -> Option<&'static str> {
     if spot.takes_sign(Sign::OpenParen) && spot.back(1) == Lexeme::Name {
         return Some("the parentheses are needed, also without parameters: p()");
     }
-    if spot.takes_sign(Sign::Comma) {
-        return Some("parameters and arguments are separated by commas");
-    }
-    if spot.takes_word(Keyword::Into) {
-        return Some("FORK tells where the process is kept: FORK p(..) INTO h;");
-    }
-    if spot.takes_word(Keyword::If) {
-        return Some("a ; ends a statement or a declaration, and no other stands anywhere");
-    }
-    if spot.accepts(Lexeme::Number) {
-        return Some("an expression is missing");
-    }
-    None
+    spot.by_accepted(ACCEPTED)
 }
 
 // Whether a token begins or ends something that a `;` has to stand before.

@@ -95,30 +95,30 @@ impl Sought {
     }
 
     /// The declaration that a name finds, of whichever sort.
-    pub(crate) fn find<'a>(
+    pub(crate) fn find<'d, 'a>(
         self,
-        declarations: &[Declaration<'a>],
+        declarations: &'d [Declaration<'a>],
         name: &[u8],
-    ) -> Option<Declaration<'a>> {
+    ) -> Option<&'d Declaration<'a>> {
         let mut found = None;
         let mut nearest = 0;
         for declaration in declarations {
             let nearness = self.nearness(declaration.scope);
             if nearness > nearest && declaration.name.text == name {
                 nearest = nearness;
-                found = Some(*declaration);
+                found = Some(declaration);
             }
         }
         found
     }
 
     /// The declaration within reach whose name is the most like this one, if one is like it.
-    pub(crate) fn find_alike<'a>(
+    pub(crate) fn find_alike<'d, 'a>(
         self,
         alloc: Global,
-        declarations: &[Declaration<'a>],
+        declarations: &'d [Declaration<'a>],
         name: &[u8],
-    ) -> Result<Option<Declaration<'a>>, AllocError> {
+    ) -> Result<Option<&'d Declaration<'a>>, AllocError> {
         let mut found = None;
         let mut least = most_edits(name).saturating_add(1);
         for declaration in declarations {
@@ -126,7 +126,7 @@ impl Sought {
                 let edits = edits_between(alloc, name, declaration.name.text)?;
                 if edits < least {
                     least = edits;
-                    found = Some(*declaration);
+                    found = Some(declaration);
                 }
             }
         }

@@ -1,7 +1,8 @@
 // The tokens before and behind a place, and what may stand there.
 
 use crate::lexeme::Lexeme;
-use scanner::{Keyword, Kind, Place, Sign, Token};
+use scanner::{Keyword, Kind, Place, RefusalKind, Sign, Token, scan};
+use std::alloc::{AllocError, Global};
 
 /// The tokens before a place, those from there on, and what the grammar accepts there.
 #[derive(Clone, Copy)]
@@ -9,6 +10,15 @@ pub(crate) struct Spot<'t, 'a> {
     pub(crate) before: &'t [Token<'a>],
     pub(crate) from: &'t [Token<'a>],
     pub(crate) accepted: &'t [Lexeme],
+}
+
+/// The tokens of a text, or none where it has a fault.
+pub(crate) fn tokens_of<'a>(alloc: Global, text: &'a [u8]) -> Result<Vec<Token<'a>>, AllocError> {
+    match scan(alloc, text) {
+        Ok(tokens) => Ok(tokens),
+        Err(refusal) if refusal.kind == RefusalKind::Memory => Err(AllocError),
+        Err(_) => Ok(Vec::new(alloc)),
+    }
 }
 
 /// The tokens before a place, and those from there on. Where none stands there, none do behind it.
@@ -70,6 +80,16 @@ impl<'a> Spot<'_, 'a> {
     /// Whether the place is behind an operand of an expression.
     pub(crate) fn is_behind_operand(&self) -> bool {
         self.takes_sign(Sign::Times)
+    }
+
+    /// What stands beside the first of these that may stand at the place.
+    pub(crate) fn by_accepted(&self, rows: &[(Lexeme, &'static str)]) -> Option<&'static str> {
+        for (lexeme, said) in rows {
+            if self.accepts(*lexeme) {
+                return Some(said);
+            }
+        }
+        None
     }
 
     /// Whether a lexeme may stand at the place.

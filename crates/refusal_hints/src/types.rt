@@ -2,58 +2,92 @@
 
 use crate::declarations::Declaration;
 use crate::expression_types::{judge, type_of_factor};
-use crate::headers::{Header, header_of};
+use crate::headers::Header;
 use crate::lexeme::{Lexeme, append_keyword};
 use crate::names::append_found;
 use crate::operators::{LOOSEST, operator_before};
 use crate::sought::sought_at;
 use crate::spot::Spot;
-use crate::wanted_types::wanted_at;
+use crate::wanted_types::{header_here, wanted_at};
 use scanner::{Keyword, Sign, Token};
 use std::alloc::{AllocError, Global};
 
-// What an operator takes.
-fn wanted_by_operator(operator: Lexeme) -> Option<&'static str> {
-    match operator {
-        Lexeme::Word(Keyword::And | Keyword::Or | Keyword::Not) => {
-            Some("AND, OR and NOT take BOOLEAN")
+const TRUTHS: &str = "AND, OR and NOT take BOOLEAN";
+
+const NUMBERS: &str = "+ - * / and MOD take INTEGER";
+
+const ORDERS: &str = "< <= > and >= take INTEGER";
+
+const EQUALS: &str = "= and # take two INTEGER or two BOOLEAN, and no PROCESS";
+
+// What the operators take.
+const OPERATORS: &[(Lexeme, &str)] = &[
+    (Lexeme::Word(Keyword::And), TRUTHS),
+    (Lexeme::Word(Keyword::Or), TRUTHS),
+    (Lexeme::Word(Keyword::Not), TRUTHS),
+    (Lexeme::Word(Keyword::Mod), NUMBERS),
+    (Lexeme::Mark(Sign::Plus), NUMBERS),
+    (Lexeme::Mark(Sign::Minus), NUMBERS),
+    (Lexeme::Mark(Sign::Times), NUMBERS),
+    (Lexeme::Mark(Sign::Divide), NUMBERS),
+    (Lexeme::Mark(Sign::Less), ORDERS),
+    (Lexeme::Mark(Sign::LessEqual), ORDERS),
+    (Lexeme::Mark(Sign::Greater), ORDERS),
+    (Lexeme::Mark(Sign::GreaterEqual), ORDERS),
+    (Lexeme::Mark(Sign::Equal), EQUALS),
+    (Lexeme::Mark(Sign::NotEqual), EQUALS),
+];
+
+const TEST: &str = "IF and WHILE take BOOLEAN";
+
+const CONDITION: &str = "WAIT, NOTIFY and BROADCAST take a CONDITION of the monitor";
+
+const COUNT: &str =
+    "there are as many arguments as parameters, and INTO behind CALL only where there is a result";
+
+const ARGUMENT: &str = "an argument has the type of its parameter";
+
+// What is wanted behind tokens that are no operators.
+const WANTED: &[(Lexeme, &str)] = &[
+    (Lexeme::Word(Keyword::If), TEST),
+    (Lexeme::Word(Keyword::While), TEST),
+    (Lexeme::Word(Keyword::Print), "PRINT takes INTEGER"),
+    (Lexeme::Word(Keyword::Join), "JOIN takes PROCESS"),
+    (
+        Lexeme::Word(Keyword::Return),
+        "the value has the type of the procedure's result",
+    ),
+    (Lexeme::Word(Keyword::Wait), CONDITION),
+    (Lexeme::Word(Keyword::Notify), CONDITION),
+    (Lexeme::Word(Keyword::Broadcast), CONDITION),
+    (
+        Lexeme::Word(Keyword::Into),
+        "INTO takes a variable of the result's type behind CALL, a PROCESS behind FORK, an INTEGER behind JOIN",
+    ),
+    (Lexeme::Word(Keyword::Call), COUNT),
+    (Lexeme::Word(Keyword::Fork), COUNT),
+    (Lexeme::Mark(Sign::Dot), COUNT),
+    (Lexeme::Mark(Sign::Assign), "both sides of := have one type"),
+    (Lexeme::Mark(Sign::OpenBracket), "an index is INTEGER"),
+    (Lexeme::Mark(Sign::OpenParen), ARGUMENT),
+    (Lexeme::Mark(Sign::Comma), ARGUMENT),
+];
+
+// What a table says of a token.
+fn said_of(rows: &[(Lexeme, &'static str)], token: Lexeme) -> Option<&'static str> {
+    for (lexeme, said) in rows {
+        if *lexeme == token {
+            return Some(said);
         }
-        Lexeme::Word(Keyword::Mod)
-        | Lexeme::Mark(Sign::Plus | Sign::Minus | Sign::Times | Sign::Divide) => {
-            Some("+ - * / and MOD take INTEGER")
-        }
-        Lexeme::Mark(Sign::Less | Sign::LessEqual | Sign::Greater | Sign::GreaterEqual) => {
-            Some("< <= > and >= take INTEGER")
-        }
-        Lexeme::Mark(Sign::Equal | Sign::NotEqual) => {
-            Some("= and # take two INTEGER or two BOOLEAN, and no PROCESS")
-        }
-        _ => None,
     }
+    None
 }
 
 // What is wanted behind a token.
 fn wanted_behind(token: Lexeme) -> Option<&'static str> {
-    match token {
-        Lexeme::Word(Keyword::If | Keyword::While) => Some("IF and WHILE take BOOLEAN"),
-        Lexeme::Word(Keyword::Print) => Some("PRINT takes INTEGER"),
-        Lexeme::Word(Keyword::Join) => Some("JOIN takes PROCESS"),
-        Lexeme::Word(Keyword::Return) => Some("the value has the type of the procedure's result"),
-        Lexeme::Word(Keyword::Wait | Keyword::Notify | Keyword::Broadcast) => {
-            Some("WAIT, NOTIFY and BROADCAST take a CONDITION of the monitor")
-        }
-        Lexeme::Word(Keyword::Into) => Some(
-            "INTO takes a variable of the result's type behind CALL, a PROCESS behind FORK, an INTEGER behind JOIN",
-        ),
-        Lexeme::Word(Keyword::Call | Keyword::Fork) | Lexeme::Mark(Sign::Dot) => Some(
-            "there are as many arguments as parameters, and INTO behind CALL only where there is a result",
-        ),
-        Lexeme::Mark(Sign::Assign) => Some("both sides of := have one type"),
-        Lexeme::Mark(Sign::OpenBracket) => Some("an index is INTEGER"),
-        Lexeme::Mark(Sign::OpenParen | Sign::Comma) => {
-            Some("an argument has the type of its parameter")
-        }
-        operator => wanted_by_operator(operator),
+    match said_of(WANTED, token) {
+        Some(said) => Some(said),
+        None => said_of(OPERATORS, token),
     }
 }
 
@@ -66,7 +100,7 @@ fn wanted_before(here: Lexeme, behind: Lexeme) -> Option<&'static str> {
         (Lexeme::Name, Lexeme::Mark(Sign::OpenBracket)) => {
             Some("an array is used by its elements alone, and nothing else has an index")
         }
-        (_, operator) => wanted_by_operator(operator),
+        (_, operator) => said_of(OPERATORS, operator),
     }
 }
 
@@ -98,13 +132,31 @@ fn misfit_at(
     let bound = before.map_or(LOOSEST, |operator| operator.looseness);
     let first = type_of_factor(declarations, sought, spot.from);
     let judged = judge(spot.from, first, bound);
-    let held = judged.held?;
+    let Some(held) = judged.held else {
+        return None;
+    };
     let wanted = match (judged.refusing, before) {
         (Some(operator), _) => operator.takes,
         (None, Some(operator)) => operator.takes.or(other_type(held)),
         (None, None) => wanted_at(declarations, tokens, sought, spot),
     };
-    Some((held, wanted?))
+    match wanted {
+        Some(wanted) => Some((held, wanted)),
+        None => None,
+    }
+}
+
+// Appends a type with what stands before and behind it.
+fn append_between(
+    alloc: Global,
+    out: &mut String,
+    before: &str,
+    word: Keyword,
+    behind: &str,
+) -> Result<(), AllocError> {
+    out.push_str(before)?;
+    append_keyword(alloc, out, word)?;
+    out.push_str(behind)
 }
 
 // Appends the type of what begins at a place, and the one that is wanted there.
@@ -115,11 +167,8 @@ fn append_misfit(
 ) -> Result<(), AllocError> {
     match misfit {
         Some((held, wanted)) if held != wanted => {
-            out.push_str("what begins here is ")?;
-            append_keyword(alloc, out, held)?;
-            out.push_str(", and ")?;
-            append_keyword(alloc, out, wanted)?;
-            out.push_str(" is wanted\n")
+            append_between(alloc, out, "what begins here is ", held, ", and ")?;
+            append_between(alloc, out, "", wanted, " is wanted\n")
         }
         _ => Ok(()),
     }
@@ -135,20 +184,23 @@ fn append_header(
     let plural = if count == 1 { "" } else { "s" };
     write!(out, "it has {count} parameter{plural}, and gives ")?;
     match header.result {
-        Some(result) => append_keyword(alloc, out, result)?,
-        None => out.push_str("nothing")?,
+        Some(result) => append_between(alloc, out, "", result, "\n"),
+        None => out.push_str("nothing\n"),
     }
-    out.push_str("\n")
 }
 
-// The head of the procedure whose name stands at a place, if one stands there.
-fn header_here<'t, 'a>(
+// Appends what the procedure takes and gives whose name stands at a place, or else both types, where they are known.
+fn append_types(
+    alloc: Global,
+    out: &mut String,
     declarations: &[Declaration<'_>],
-    tokens: &'t [Token<'a>],
+    tokens: &[Token<'_>],
     spot: &Spot<'_, '_>,
-) -> Option<Header<'t, 'a>> {
-    let sought = sought_at(declarations, spot);
-    header_of(tokens, &sought.find(declarations, spot.token(0).text)?)
+) -> Result<(), AllocError> {
+    match header_here(declarations, tokens, spot) {
+        Some(header) => append_header(alloc, out, header),
+        None => append_misfit(alloc, out, misfit_at(declarations, tokens, spot)),
+    }
 }
 
 /// Appends what helps with a type.
@@ -160,10 +212,7 @@ pub(crate) fn append_type(
     spot: &Spot<'_, '_>,
 ) -> Result<(), AllocError> {
     append_found(alloc, out, declarations, spot)?;
-    match header_here(declarations, tokens, spot) {
-        Some(header) => append_header(alloc, out, header)?,
-        None => append_misfit(alloc, out, misfit_at(declarations, tokens, spot))?,
-    }
+    append_types(alloc, out, declarations, tokens, spot)?;
     append_sentence(out, wanted_behind(spot.back(1)))?;
     append_sentence(out, wanted_before(spot.here(), spot.ahead(1)))
 }

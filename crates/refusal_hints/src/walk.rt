@@ -36,32 +36,44 @@ fn pass(stack: &mut Vec<Symbol>, lexeme: Lexeme) -> Result<(), AllocError> {
     Ok(())
 }
 
-// The stack behind tokens that a text may begin with.
-fn stack_after(alloc: Global, tokens: &[Token]) -> Result<Vec<Symbol>, AllocError> {
-    let mut stack = Vec::new(alloc);
-    push_all(&mut stack, UNIT)?;
+// Passes tokens.
+fn pass_all(stack: &mut Vec<Symbol>, tokens: &[Token]) -> Result<(), AllocError> {
     for token in tokens {
-        pass(&mut stack, Lexeme::of(token.kind))?;
+        pass(stack, Lexeme::of(token.kind))?;
     }
-    Ok(stack)
+    Ok(())
 }
 
-// The lexemes that a stack accepts. What may not be left out comes first.
-fn accepted_by(alloc: Global, stack: &[Symbol]) -> Result<Vec<Lexeme>, AllocError> {
-    let mut found = Vec::new(alloc);
-    let last = stack.iter().rposition(|symbol| !symbol.is_optional());
-    if last.is_none() {
+// How many symbols stand on a stack up to the uppermost that may not be left out, that one too.
+fn height_of_needed(stack: &[Symbol]) -> usize {
+    let mut height = stack.len();
+    for symbol in stack.iter().rev() {
+        if !symbol.is_optional() {
+            return height;
+        }
+        height = height.saturating_sub(1);
+    }
+    0
+}
+
+// Appends the lexemes that a stack accepts. What may not be left out comes first.
+fn append_accepted(found: &mut Vec<Lexeme>, stack: &[Symbol]) -> Result<(), AllocError> {
+    let height = height_of_needed(stack);
+    if height == 0 {
         found.push(Lexeme::Finish)?;
     }
-    let visible = stack.get(last.unwrap_or(0)..).unwrap_or(stack);
-    for symbol in visible {
-        symbol.append_firsts(&mut found)?;
+    for symbol in stack.get(height.saturating_sub(1)..).unwrap_or(stack) {
+        symbol.append_firsts(found)?;
     }
-    Ok(found)
+    Ok(())
 }
 
 /// The lexemes that may stand behind tokens with which a text may begin.
 pub(crate) fn accepted_behind(alloc: Global, tokens: &[Token]) -> Result<Vec<Lexeme>, AllocError> {
-    let stack = stack_after(alloc, tokens)?;
-    accepted_by(alloc, stack.as_slice())
+    let mut stack = Vec::new(alloc);
+    push_all(&mut stack, UNIT)?;
+    pass_all(&mut stack, tokens)?;
+    let mut found = Vec::new(alloc);
+    append_accepted(&mut found, stack.as_slice())?;
+    Ok(found)
 }

@@ -8,37 +8,86 @@ use crate::sought::{Sought, sought_at};
 use crate::spot::Spot;
 use scanner::{Keyword, Kind, Sign, Token};
 
-// The head of the procedure whose name is the token at this index before a place.
-fn header_at<'t, 'a>(
+/// The head of the procedure whose name stands at a place, if one stands there.
+pub(crate) fn header_here<'t, 'a>(
     declarations: &[Declaration<'_>],
     tokens: &'t [Token<'a>],
     spot: &Spot<'_, '_>,
+) -> Option<Header<'t, 'a>> {
+    let sought = sought_at(declarations, spot);
+    match sought.find(declarations, spot.token(0).text) {
+        Some(found) => header_of(tokens, found),
+        None => None,
+    }
+}
+
+// The head of the procedure whose name is the token at this index.
+fn header_at<'t, 'a>(
+    declarations: &[Declaration<'_>],
+    tokens: &'t [Token<'a>],
     index: usize,
 ) -> Option<Header<'t, 'a>> {
+    let Some((before, from)) = tokens.split_at_checked(index) else {
+        return None;
+    };
     let name = Spot {
-        before: spot.before.get(..index)?,
-        from: spot.before.get(index..)?,
+        before,
+        from,
         accepted: &[],
     };
-    let sought = sought_at(declarations, &name);
-    header_of(tokens, &sought.find(declarations, name.token(0).text)?)
+    header_here(declarations, tokens, &name)
+}
+
+// How far a walk back from a place has come.
+#[derive(Clone, Copy)]
+struct WayBack {
+    // How many parentheses it has to pass that open those which it passed.
+    depth: usize,
+    // How many commas it passed outside of them.
+    commas: usize,
+    // Whether it came to the parenthesis that is open.
+    is_open: bool,
+    // Whether it came to the end of another statement.
+    is_over: bool,
+}
+
+impl WayBack {
+    // Passes a sign.
+    fn pass(&mut self, sign: Sign) {
+        match sign {
+            Sign::CloseParen => self.depth = self.depth.saturating_add(1),
+            Sign::OpenParen if self.depth == 0 => self.is_open = true,
+            Sign::OpenParen => self.depth = self.depth.saturating_sub(1),
+            Sign::Comma if self.depth == 0 => self.commas = self.commas.saturating_add(1),
+            Sign::Semicolon => self.is_over = true,
+            _ => {}
+        }
+    }
 }
 
 // The index of the parenthesis that is open behind these tokens, and how many commas stand behind it.
 fn open_parenthesis(before: &[Token<'_>]) -> Option<(usize, usize)> {
-    let mut depth: usize = 0;
-    let mut commas: usize = 0;
-    for (index, token) in before.iter().enumerate().rev() {
-        match token.kind {
-            Kind::Sign(Sign::CloseParen) => depth = depth.saturating_add(1),
-            Kind::Sign(Sign::OpenParen) if depth == 0 => return Some((index, commas)),
-            Kind::Sign(Sign::OpenParen) => depth = depth.saturating_sub(1),
-            Kind::Sign(Sign::Comma) if depth == 0 => commas = commas.saturating_add(1),
-            Kind::Sign(Sign::Semicolon) => return None,
-            _ => {}
+    let mut index = before.len();
+    let mut way = WayBack {
+        depth: 0,
+        commas: 0,
+        is_open: false,
+        is_over: false,
+    };
+    for token in before.iter().rev() {
+        index = index.saturating_sub(1);
+        if let Kind::Sign(sign) = token.kind {
+            way.pass(sign);
+        }
+        if way.is_open || way.is_over {
+            break;
         }
     }
-    None
+    if way.is_open {
+        Some((index, way.commas))
+    } else {
+        None
+    }
 }
 
 // The type of the parameter that a place is the argument for.
@@ -47,25 +96,28 @@ fn wanted_as_argument(
     tokens: &[Token<'_>],
     spot: &Spot<'_, '_>,
 ) -> Option<Keyword> {
-    let (index, commas) = open_parenthesis(spot.before)?;
-    header_at(declarations, tokens, spot, index.checked_sub(1)?)?.parameter(commas)
+    let Some((index, commas)) = open_parenthesis(spot.before) else {
+        return None;
+    };
+    match header_at(declarations, tokens, index.saturating_sub(1)) {
+        Some(header) => header.parameter(commas),
+        None => None,
+    }
 }
 
-// The index of the word that the statement with the last INTO of these tokens begins with.
-fn giver_before(before: &[Token<'_>]) -> Option<usize> {
-    before.iter().rposition(|token| {
-        matches!(
-            token.kind,
-            Kind::Keyword(Keyword::Call | Keyword::Fork | Keyword::Join)
-        )
-    })
-}
-
-// The index of the name of the procedure that a CALL at an index calls.
-fn callee_behind(spot: &Spot<'_, '_>, call: usize) -> usize {
-    match spot.before.get(call.saturating_add(2)) {
+// The result of the procedure that a CALL at an index calls.
+fn result_of_call(
+    declarations: &[Declaration<'_>],
+    tokens: &[Token<'_>],
+    call: usize,
+) -> Option<Keyword> {
+    let name = match tokens.get(call.saturating_add(2)) {
         Some(token) if token.kind == Kind::Sign(Sign::Dot) => call.saturating_add(3),
         _ => call.saturating_add(1),
+    };
+    match header_at(declarations, tokens, name) {
+        Some(header) => header.result,
+        None => None,
     }
 }
 
@@ -75,11 +127,24 @@ fn wanted_behind_into(
     tokens: &[Token<'_>],
     spot: &Spot<'_, '_>,
 ) -> Option<Keyword> {
-    let index = giver_before(spot.before)?;
-    match spot.before.get(index)?.kind {
-        Kind::Keyword(Keyword::Fork) => Some(Keyword::Process),
-        Kind::Keyword(Keyword::Join) => Some(Keyword::Integer),
-        _ => header_at(declarations, tokens, spot, callee_behind(spot, index))?.result,
+    let mut index = spot.before.len();
+    for token in spot.before.iter().rev() {
+        index = index.saturating_sub(1);
+        match token.kind {
+            Kind::Keyword(Keyword::Fork) => return Some(Keyword::Process),
+            Kind::Keyword(Keyword::Join) => return Some(Keyword::Integer),
+            Kind::Keyword(Keyword::Call) => return result_of_call(declarations, tokens, index),
+            _ => {}
+        }
+    }
+    None
+}
+
+// The type of the result of a declared procedure.
+fn result_of(tokens: &[Token<'_>], declaration: &Declaration<'_>) -> Option<Keyword> {
+    match header_of(tokens, declaration) {
+        Some(header) => header.result,
+        None => None,
     }
 }
 
@@ -90,10 +155,9 @@ fn wanted_of_body(
     body: u32,
 ) -> Option<Keyword> {
     for declaration in declarations {
-        if let Sort::Procedure(number) = declaration.sort {
-            if number == body {
-                return header_of(tokens, declaration)?.result;
-            }
+        match declaration.sort {
+            Sort::Procedure(number) if number == body => return result_of(tokens, declaration),
+            _ => {}
         }
     }
     None

@@ -5,11 +5,44 @@ use crate::slip_texts::{LAST_END, NO_OPEN_IF, PLAIN_ARRAY, THEN_AND_DO, TYPES, U
 use crate::spot::Spot;
 use scanner::{Keyword, Sign};
 
+// Keywords that stand where another one may, and what is said of them there.
+const MISPLACED: &[(Keyword, Keyword, &str)] = &[
+    (Keyword::Do, Keyword::Then, THEN_AND_DO),
+    (Keyword::Then, Keyword::Do, THEN_AND_DO),
+    (
+        Keyword::Procedure,
+        Keyword::Entry,
+        "a procedure of a monitor is an ENTRY PROCEDURE or an INTERNAL PROCEDURE",
+    ),
+    (Keyword::Entry, Keyword::Main, MONITORS_ALONE),
+    (Keyword::Internal, Keyword::Main, MONITORS_ALONE),
+    (
+        Keyword::Monitor,
+        Keyword::Main,
+        "monitors stand before the procedures outside them",
+    ),
+    (
+        Keyword::Recover,
+        Keyword::Main,
+        "RECOVER is the last part of a monitor, behind its procedures",
+    ),
+];
+
+const MONITORS_ALONE: &str = "ENTRY and INTERNAL stand in monitors alone";
+
 /// What is said of a keyword.
 pub(crate) fn word_slip(word: Keyword, spot: &Spot<'_, '_>) -> Option<&'static str> {
+    for (misplaced, accepted, said) in MISPLACED {
+        if *misplaced == word && spot.takes_word(*accepted) {
+            return Some(said);
+        }
+    }
+    other_slip(word, spot)
+}
+
+// What is said of a keyword for which no other stands.
+fn other_slip(word: Keyword, spot: &Spot<'_, '_>) -> Option<&'static str> {
     match word {
-        Keyword::Do if spot.takes_word(Keyword::Then) => Some(THEN_AND_DO),
-        Keyword::Then if spot.takes_word(Keyword::Do) => Some(THEN_AND_DO),
         Keyword::End | Keyword::Endif | Keyword::Endloop | Keyword::Else => end_slip(spot),
         Keyword::Integer
         | Keyword::Boolean
@@ -17,18 +50,6 @@ pub(crate) fn word_slip(word: Keyword, spot: &Spot<'_, '_>) -> Option<&'static s
         | Keyword::Condition
         | Keyword::Array => type_slip(spot),
         Keyword::Var => variable_slip(spot),
-        Keyword::Procedure if spot.takes_word(Keyword::Entry) => {
-            Some("a procedure of a monitor is an ENTRY PROCEDURE or an INTERNAL PROCEDURE")
-        }
-        Keyword::Entry | Keyword::Internal if spot.takes_word(Keyword::Main) => {
-            Some("ENTRY and INTERNAL stand in monitors alone")
-        }
-        Keyword::Monitor if spot.takes_word(Keyword::Main) => {
-            Some("monitors stand before the procedures outside them")
-        }
-        Keyword::Recover if spot.takes_word(Keyword::Main) => {
-            Some("RECOVER is the last part of a monitor, behind its procedures")
-        }
         Keyword::Procedure
         | Keyword::Entry
         | Keyword::Internal
@@ -47,20 +68,25 @@ fn keyword_slip(spot: &Spot<'_, '_>) -> Option<&'static str> {
     }
 }
 
+// What is said of a word that ends something, where one of these may stand.
+const ENDS: &[(Lexeme, &str)] = &[
+    (
+        Lexeme::Word(Keyword::Endif),
+        "an IF ends with ENDIF; and has one ELSE at most",
+    ),
+    (Lexeme::Word(Keyword::Endloop), "a WHILE ends with ENDLOOP;"),
+    (Lexeme::Word(Keyword::End), NO_OPEN_IF),
+    (
+        Lexeme::Word(Keyword::Main),
+        "there is an END too many, or MAIN is missing",
+    ),
+];
+
 fn end_slip(spot: &Spot<'_, '_>) -> Option<&'static str> {
-    if spot.takes_word(Keyword::Endif) {
-        return Some("an IF ends with ENDIF; and has one ELSE at most");
+    match spot.by_accepted(ENDS) {
+        Some(said) => Some(said),
+        None => keyword_slip(spot),
     }
-    if spot.takes_word(Keyword::Endloop) {
-        return Some("a WHILE ends with ENDLOOP;");
-    }
-    if spot.takes_word(Keyword::End) {
-        return Some(NO_OPEN_IF);
-    }
-    if spot.takes_word(Keyword::Main) {
-        return Some("there is an END too many, or MAIN is missing");
-    }
-    keyword_slip(spot)
 }
 
 fn type_slip(spot: &Spot<'_, '_>) -> Option<&'static str> {
@@ -76,30 +102,41 @@ fn type_slip(spot: &Spot<'_, '_>) -> Option<&'static str> {
     Some("a result is INTEGER or BOOLEAN")
 }
 
+// What is said of VAR, where one of these may stand.
+const DECLARED: &[(Lexeme, &str)] = &[
+    (
+        Lexeme::Word(Keyword::If),
+        "variables are declared before the first statement",
+    ),
+    (
+        Lexeme::Word(Keyword::Entry),
+        "the variables of a monitor are declared before its procedures",
+    ),
+    (
+        Lexeme::Word(Keyword::Main),
+        "variables are declared in monitors and in procedures alone",
+    ),
+];
+
 fn variable_slip(spot: &Spot<'_, '_>) -> Option<&'static str> {
     if spot.takes_sign(Sign::CloseParen) || spot.back(1) == Lexeme::Mark(Sign::Comma) {
         return Some("parameters are passed by value, without VAR");
     }
-    if spot.takes_word(Keyword::If) {
-        return Some("variables are declared before the first statement");
-    }
-    if spot.takes_word(Keyword::Entry) {
-        return Some("the variables of a monitor are declared before its procedures");
-    }
-    if spot.takes_word(Keyword::Main) {
-        return Some("variables are declared in monitors and in procedures alone");
-    }
-    None
+    spot.by_accepted(DECLARED)
 }
 
+// What is said of a word that begins something outer, where one of these may stand.
+const OPEN: &[(Lexeme, &str)] = &[
+    (Lexeme::Word(Keyword::End), UNENDED),
+    (Lexeme::Word(Keyword::Endif), UNENDED),
+    (Lexeme::Word(Keyword::Endloop), UNENDED),
+];
+
 fn unended_slip(spot: &Spot<'_, '_>) -> Option<&'static str> {
-    if spot.takes_word(Keyword::End)
-        || spot.takes_word(Keyword::Endif)
-        || spot.takes_word(Keyword::Endloop)
-    {
-        return Some(UNENDED);
+    match spot.by_accepted(OPEN) {
+        Some(said) => Some(said),
+        None => keyword_slip(spot),
     }
-    keyword_slip(spot)
 }
 
 /// What is said of a name.

@@ -1,7 +1,7 @@
 use Rattle.std.proofs.Common.{◌≡◌, ◌++◌, drop, map}
 use Rattle.std.specs.String.{string_bytes}
-use Rattle.refusal_hints.specs.HintLines.{shown}
-use Rattle.refusal_hints.proofs.lines.append_shown.Given as goal
+use Rattle.hint_lines.specs.HintLines.{shown}
+use Rattle.hint_lines.proofs.lines.append_shown.Given as goal
 
 abbrev pub invariant-loop-byte : goal.invariant-loop-byte
 invariant-loop-byte l =

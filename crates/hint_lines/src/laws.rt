@@ -1,5 +1,5 @@
 ghost use Rattle.std.specs.Prelude.{◌≡◌, ℕ};
-ghost use Rattle.refusal_hints.specs.HintLines.{IsPrintable, shown};
+ghost use Rattle.hint_lines.specs.HintLines.{IsPrintable, shown};
 
 /// What a line of hints shows of a byte is printable, and the byte itself where that is.
 pub fn shown_laws()

@@ -1,6 +1,6 @@
 ghost use Rattle.std.specs.Prelude.{◌≡◌, ◌++◌, IfOk, OnOk, map};
 ghost use Rattle.std.specs.String.{string_bytes};
-ghost use Rattle.refusal_hints.specs.HintLines.{AreHintLines, hint_line, shown};
+ghost use Rattle.hint_lines.specs.HintLines.{AreHintLines, hint_line, shown};
 
 use std::alloc::{AllocError, Global};
 
@@ -15,8 +15,12 @@ fn shown_byte(byte: u8) -> u8
     }
 }
 
-/// Appends bytes as they are shown.
-pub(crate) fn append_shown(out: &mut String, bytes: &[u8]) -> Result<(), AllocError>
+/// Appends bytes as they are shown: each as itself, or where no terminal shows it as one sign as a question mark.
+///
+/// # Errors
+///
+/// Where memory runs out, and for nothing else.
+pub fn append_shown(out: &mut String, bytes: &[u8]) -> Result<(), AllocError>
     ensures { OnOk result (string_bytes out.new ≡ string_bytes out.old ++ map shown bytes.now) }
 {
     for byte in bytes {
@@ -34,9 +38,13 @@ fn append_line(out: &mut String, said: &[u8]) -> Result<(), AllocError>
     out.push_str("\n")
 }
 
-/// The lines of a text, as hints.
+/// The lines of a text, as hints: each with two blanks before it, and its bytes as they are shown.
+///
+/// # Errors
+///
+/// Where memory runs out, and for nothing else.
 #[tactic(auto, using(crate::proofs::Joined::no_lines, crate::proofs::Joined::one_more))]
-pub(crate) fn hint_lines(alloc: Global, text: &[u8]) -> Result<String, AllocError>
+pub fn hint_lines(alloc: Global, text: &[u8]) -> Result<String, AllocError>
     ensures { IfOk result (λ s. AreHintLines (string_bytes s)) }
 {
     let mut out = String::new(alloc);

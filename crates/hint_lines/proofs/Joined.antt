@@ -2,7 +2,7 @@
 use Rattle.std.proofs.Common.{◌≡◌, ℕ, List, [], ◌∷◌, ◌++◌}
 use Rattle.std.specs.List.{flat_map}
 use Rattle.std.proofs.lemmas.List.{flat_map_more}
-use Rattle.refusal_hints.specs.HintLines.{AreHintLines, hint_line}
+use Rattle.hint_lines.specs.HintLines.{AreHintLines, hint_line}
 
 -- no bytes are no lines
 pub no_lines : (bytes : List ℕ) → bytes ≡ [] → AreHintLines bytes

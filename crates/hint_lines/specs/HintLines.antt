@@ -1,4 +1,4 @@
--- What holds of the hints to each refusal, whatever they say.
+-- What holds of lines of hints, whatever they say.
 use Rattle.std.specs.Prelude.{◌≡◌, ◌≤◌, ℕ, List, [], ◌∷◌, ◌++◌, ◌&&◌, map, nat_le, if◌then◌else◌}
 use Rattle.std.specs.List.{flat_map}
 

@@ -1,6 +1,6 @@
 use Rattle.std.specs.String.{string_bytes}
-use Rattle.refusal_hints.specs.HintLines.{AreHintLines}
-use Rattle.refusal_hints.proofs.lines.hint_lines.Given as goal
+use Rattle.hint_lines.specs.HintLines.{AreHintLines}
+use Rattle.hint_lines.proofs.lines.hint_lines.Given as goal
 
 abbrev pub invariant-loop-line : goal.invariant-loop-line
 invariant-loop-line l = AreHintLines (string_bytes l.out)
