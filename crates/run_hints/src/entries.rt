@@ -3,7 +3,6 @@ use crate::follower::Follower;
 use crate::names::append_number;
 use places::places_of;
 use program::Checked;
-use source_offers::End;
 use source_states::Action;
 use std::alloc::{AllocError, Global};
 

@@ -1,4 +1,4 @@
-use crate::level::{Level, Standing};
+use crate::level::Level;
 use crate::moment::Moment;
 use crate::stands::token_at;
 use places::Places;

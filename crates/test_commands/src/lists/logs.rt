@@ -2,7 +2,6 @@ use crate::lists::failure::Failure;
 use compiler::{compile, compile_checked};
 use isa::Image;
 use program::Checked;
-use std::alloc::Global;
 use std::io;
 use test_logs::{KillTrial, StrayTrial, Subject, Trial, try_kills, try_logs, try_strays};
 
