@@ -12,7 +12,7 @@ ghost use Rattle.futexcalls.specs.Pieces.{takes_at, held_at, IsPhase, LiesIn};
 ghost use Rattle.locals.specs.Looks.{look};
 ghost use Rattle.locals.specs.Requests.{next_step_of};
 ghost use Rattle.locals.specs.Threads.{Thread};
-ghost use Rattle.machine.specs.ConcretePieces.{MakesCall, DoesPiece, IsHeldUp};
+ghost use Rattle.machine.specs.ConcretePieces.{MakesCall, DoesPiece, QueuesSo, IsHeldUp};
 ghost use Rattle.locals.specs.Steps.{local_step};
 ghost use Rattle.machine.specs.States.{thread_of, state_of, opening_concrete};
 ghost use Rattle.machine.specs.Runs.{has_ended};
@@ -365,6 +365,7 @@ impl Machine {
         ensures piece { (phases : ℕ → FutexPhase) (x : Thread) → phases t ≡ phase
             → thread_of (concrete self.old) t ≡ Some x
             → DoesPiece self.old phases t call x result self.new }
+        ensures order { QueuesSo self.old.sleepers t call phase result self.new.sleepers }
         ensures program { self.new.program ≡ self.old.program }
         ensures room { self.new.room ≡ self.old.room }
         ensures holds { IsWellFormed self.new.program (concrete self.new) }
