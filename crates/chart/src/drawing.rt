@@ -52,6 +52,21 @@ impl<'c, 'n> Sheet<'c, 'n> {
         Ok(())
     }
 
+    // Appends the name of the row of a process in which this piece begins.
+    fn append_name(
+        &self,
+        name: &mut Vec<u8>,
+        state: &SourceState,
+        process: u64,
+        piece: Option<u32>,
+    ) -> Result<(), AllocError> {
+        let locals = match state.process(process) {
+            None => &[],
+            Some(made) => made.frame.locals.as_slice(),
+        };
+        append_row_name(name, self.labels, process, piece.unwrap_or(u32::MAX), locals)
+    }
+
     // The row of a process in which this piece begins.
     fn row_of(
         &self,
@@ -59,14 +74,11 @@ impl<'c, 'n> Sheet<'c, 'n> {
         process: u64,
         piece: Option<u32>,
     ) -> Result<Row, AllocError> {
-        let locals = match state.process(process) {
-            None => &[],
-            Some(made) => made.frame.locals.as_slice(),
-        };
-        let number = piece.unwrap_or(u32::MAX);
         let mut name = Vec::new(self.alloc);
-        append_row_name(&mut name, self.labels, process, number, locals)?;
-        Row::new(self.alloc, name, piece, self.last_of(process))
+        self.append_name(&mut name, state, process, piece)?;
+        let mut pieces = Vec::new(self.alloc);
+        pieces.push(piece)?;
+        Ok(Row::new(self.alloc, name, pieces, self.last_of(process)))
     }
 
     // A process is made, in which this piece begins: its row begins.

@@ -59,6 +59,30 @@ fn append_monitors(
     Ok(middle)
 }
 
+// Draws the line above the legend, and begins it.
+fn begin_legend(out: &mut Vec<u8>, wide_as: u64, bottom: u64) -> Result<(), AllocError> {
+    append_shape(
+        out,
+        "<path class='base' d='M12,$H$'/>\n<g class='legend'>\n<text x='12' y='$'>monitors</text>\n",
+        &[
+            bottom.saturating_add(14),
+            wide_as.saturating_sub(12),
+            bottom.saturating_add(38),
+        ],
+    )
+}
+
+// Draws the samples below a height, and ends the legend.
+fn append_samples(out: &mut Vec<u8>, last: u64) -> Result<(), AllocError> {
+    append_shape(
+        out,
+        "<g transform='translate(12,$)'>\n",
+        &[last.saturating_add(28)],
+    )?;
+    out.extend_from_slice(SAMPLES.as_bytes())?;
+    out.extend_from_slice(b"</g>\n</g>\n")
+}
+
 /// Draws the legend below a height, in a picture of that width; the height of the picture with it.
 pub(crate) fn append_legend(
     out: &mut Vec<u8>,
@@ -66,24 +90,8 @@ pub(crate) fn append_legend(
     wide_as: u64,
     bottom: u64,
 ) -> Result<u64, AllocError> {
-    let top = bottom.saturating_add(34);
-    append_shape(
-        out,
-        "<path class='base' d='M12,$H$'/>\n<g class='legend'>\n",
-        &[bottom.saturating_add(14), wide_as.saturating_sub(12)],
-    )?;
-    append_shape(
-        out,
-        "<text x='12' y='$'>monitors</text>\n",
-        &[top.saturating_add(4)],
-    )?;
-    let last = append_monitors(out, labels, wide_as, top)?;
-    append_shape(
-        out,
-        "<g transform='translate(12,$)'>\n",
-        &[last.saturating_add(28)],
-    )?;
-    append_shape(out, SAMPLES, &[])?;
-    append_shape(out, "</g>\n</g>\n", &[])?;
+    begin_legend(out, wide_as, bottom)?;
+    let last = append_monitors(out, labels, wide_as, bottom.saturating_add(34))?;
+    append_samples(out, last)?;
     Ok(last.saturating_add(70))
 }

@@ -5,7 +5,7 @@ use crate::shapes::{append_escaped, append_shape, wide};
 use crate::sheet::Sheet;
 use crate::span::Span;
 use machine::Entry;
-use monitor_waits::attempts;
+use monitor_waits::{Attempt, attempts};
 use program::Checked;
 use source_states::Action;
 use std::alloc::{AllocError, Global};
@@ -39,15 +39,23 @@ fn is_allowed(sign: char) -> bool {
     matches!(sign, ' '..='\u{FFFD}' | '\u{10000}'..)
 }
 
-// The signs of a title that are shown, with a question mark for each that XML may not have.
+// Appends the first signs of a title, with a question mark for each that XML may not have, and `..` where there are more.
+fn append_shown(shown: &mut String, title: &str) -> Result<(), AllocError> {
+    let mut count: usize = 0;
+    for sign in title.chars() {
+        if count == MOST_SIGNS {
+            return shown.push_str("..");
+        }
+        shown.push(if is_allowed(sign) { sign } else { '?' })?;
+        count = count.saturating_add(1);
+    }
+    Ok(())
+}
+
+// The signs of a title that are shown.
 fn shown_title(alloc: Global, title: &str) -> Result<String, AllocError> {
     let mut shown = String::new(alloc);
-    for sign in title.chars().take(MOST_SIGNS) {
-        shown.push(if is_allowed(sign) { sign } else { '?' })?;
-    }
-    if title.chars().nth(MOST_SIGNS).is_some() {
-        shown.push_str("..")?;
-    }
+    append_shown(&mut shown, title)?;
     Ok(shown)
 }
 
@@ -109,25 +117,80 @@ fn append_drawn(out: &mut Vec<u8>, sheet: &Sheet, left: u64) -> Result<(), Alloc
     append_shape(out, "</g>\n", &[])
 }
 
-// The whole picture. The legend is made beside it, since the picture is as tall as it needs.
-fn assemble(alloc: Global, sheet: &Sheet, title: &str) -> Result<Vec<u8>, AllocError> {
-    let title = shown_title(alloc, title)?;
-    let left = sheet.left_reach.saturating_add(20);
+// How far from the left what is drawn begins.
+fn left_of(sheet: &Sheet) -> u64 {
+    sheet.left_reach.saturating_add(20)
+}
+
+// How wide the picture is.
+fn width_of(sheet: &Sheet, title: &str) -> u64 {
     let words = wide(title.chars().count() as u64, 93);
-    let across = left
+    left_of(sheet)
         .saturating_add(sheet.reach)
         .max(words.saturating_add(12))
         .max(SAMPLES_WIDE)
-        .saturating_add(12);
+        .saturating_add(12)
+}
+
+// Appends the whole picture with this legend, so wide and so tall.
+fn append_picture(
+    out: &mut Vec<u8>,
+    sheet: &Sheet,
+    title: &str,
+    legend: &[u8],
+    across: u64,
+    tall: u64,
+) -> Result<(), AllocError> {
+    append_head(out, sheet, across, tall)?;
+    append_title(out, sheet, title)?;
+    append_drawn(out, sheet, left_of(sheet))?;
+    out.extend_from_slice(legend)?;
+    out.extend_from_slice(b"</svg>\n")
+}
+
+// The whole picture with a title of which all is shown. The legend is made beside it, since the picture is as tall as it
+// needs.
+fn assemble_under(alloc: Global, sheet: &Sheet, title: &str) -> Result<Vec<u8>, AllocError> {
+    let across = width_of(sheet, title);
     let mut legend = Vec::new(alloc);
     let tall = append_legend(&mut legend, sheet.labels, across, sheet.bottom)?;
     let mut out = Vec::new(alloc);
-    append_head(&mut out, sheet, across, tall)?;
-    append_title(&mut out, sheet, title.as_str())?;
-    append_drawn(&mut out, sheet, left)?;
-    out.extend_from_slice(legend.as_slice())?;
-    out.extend_from_slice(b"</svg>\n")?;
+    append_picture(&mut out, sheet, title, legend.as_slice(), across, tall)?;
     Ok(out)
+}
+
+// The whole picture.
+fn assemble(alloc: Global, sheet: &Sheet, title: &str) -> Result<Vec<u8>, AllocError> {
+    let title = shown_title(alloc, title)?;
+    assemble_under(alloc, sheet, title.as_str())
+}
+
+// The picture on a sheet that is empty yet.
+fn fill<'c, 'n>(
+    alloc: Global,
+    sheet: &mut Sheet<'c, 'n>,
+    checked: &'c Checked<'n>,
+    title: &str,
+) -> Result<Vec<u8>, AllocError> {
+    sheet.draw_run(checked)?;
+    assemble(alloc, sheet, title)
+}
+
+// The picture of a run in which these attempts to take a monitor failed.
+fn chart_with(
+    alloc: Global,
+    picture: &Picture,
+    failed: &[Attempt],
+) -> Result<Vec<u8>, AllocError> {
+    let labels = Labels {
+        program: picture.checked.program(),
+        names: picture.checked.names(),
+        procedures: picture.procedures,
+    };
+    let count = picture.actions.len() as u64;
+    let span = Span::of(picture.from, picture.to, count);
+    let mut sheet = Sheet::new(alloc, labels, picture.actions, failed, span)?;
+    fill(alloc, &mut sheet, picture.checked, picture.title)
 }
 
 /// The picture of a run, as SVG: well-formed XML, whatever the title is. Of actions that aren't a run it shows those
@@ -137,14 +200,5 @@ fn assemble(alloc: Global, sheet: &Sheet, title: &str) -> Result<Vec<u8>, AllocE
 /// shown.
 pub fn chart(alloc: Global, picture: &Picture) -> Result<Vec<u8>, AllocError> {
     let failed = attempts(alloc, picture.log, picture.actions)?;
-    let labels = Labels {
-        program: picture.checked.program(),
-        names: picture.checked.names(),
-        procedures: picture.procedures,
-    };
-    let count = picture.actions.len() as u64;
-    let span = Span::of(picture.from, picture.to, count);
-    let mut sheet = Sheet::new(alloc, labels, picture.actions, failed.as_slice(), span)?;
-    sheet.draw_run(picture.checked)?;
-    assemble(alloc, &sheet, picture.title)
+    chart_with(alloc, picture, failed.as_slice())
 }

@@ -101,16 +101,14 @@ fn write_holder(
 }
 
 impl Row {
-    /// The row of a process with this name, which begins with this piece and has this last action.
+    /// The row of a process with this name, in which these pieces run, and which has this last action.
     pub fn new(
         alloc: Global,
         name: Vec<u8>,
-        piece: Option<u32>,
+        pieces: Vec<Option<u32>>,
         last: Option<u64>,
-    ) -> Result<Row, AllocError> {
-        let mut pieces = Vec::new(alloc);
-        pieces.push(piece)?;
-        Ok(Row {
+    ) -> Row {
+        Row {
             name,
             pieces,
             trial: None,
@@ -122,7 +120,7 @@ impl Row {
             names_end: 0,
             notes_end: 0,
             gone: false,
-        })
+        }
     }
 
     /// Begins its row in a strip, at this height, with its name.

@@ -77,6 +77,7 @@ impl<'c, 'n> Sheet<'c, 'n> {
         attempts: &'c [Attempt],
         span: Span,
     ) -> Result<Sheet<'c, 'n>, AllocError> {
+        let bars = no_bars(alloc)?;
         Ok(Sheet {
             alloc,
             labels,
@@ -84,7 +85,7 @@ impl<'c, 'n> Sheet<'c, 'n> {
             span,
             attempts,
             lines: Vec::new(alloc),
-            bars: no_bars(alloc)?,
+            bars,
             marks: Vec::new(alloc),
             rows: Vec::new(alloc),
             joined: Vec::new(alloc),

@@ -198,6 +198,41 @@ fn aside_of(
     Ok(Some(out))
 }
 
+// Adds what stands behind the line of an action, which is done; false where it isn't possible.
+fn add_aside(
+    asides: &mut Vec<String>,
+    alloc: Global,
+    file: &str,
+    names: &Names<'_>,
+    follower: &mut Follower<'_, '_>,
+    action: &Action,
+) -> Result<bool, AllocError> {
+    match aside_of(alloc, file, names, follower, action)? {
+        Some(aside) => {
+            asides.push(aside)?;
+            Ok(true)
+        }
+        None => Ok(false),
+    }
+}
+
+// Adds what stands behind the lines of actions, up to the first that isn't possible.
+fn add_asides(
+    asides: &mut Vec<String>,
+    alloc: Global,
+    file: &str,
+    names: &Names<'_>,
+    follower: &mut Follower<'_, '_>,
+    actions: &[Action],
+) -> Result<(), AllocError> {
+    for action in actions {
+        if !add_aside(asides, alloc, file, names, follower, action)? {
+            break;
+        }
+    }
+    Ok(())
+}
+
 /// What stands behind the line of each action of a run of a program, whose text this is: two blanks, `FILE:LINE`, and
 /// what it did; nothing behind that of an end or of an abandoned monitor. Of actions that aren't a run it has those
 /// before the first that isn't possible.
@@ -215,11 +250,6 @@ pub fn asides_of(
     let places = places_of(alloc, text)?;
     let mut follower = Follower::opening(alloc, checked, &places)?;
     let mut asides = Vec::new(alloc);
-    for action in actions {
-        let Some(aside) = aside_of(alloc, file, checked.names(), &mut follower, action)? else {
-            break;
-        };
-        asides.push(aside)?;
-    }
+    add_asides(&mut asides, alloc, file, checked.names(), &mut follower, actions)?;
     Ok(asides)
 }

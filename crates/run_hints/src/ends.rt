@@ -119,6 +119,18 @@ fn append_all(
     append_circles(alloc, out, &follower.state)
 }
 
+// The lines of all that is told at the end of a run.
+fn hints_at_end(
+    alloc: Global,
+    file: &str,
+    follower: &Follower<'_, '_>,
+    names: &Names<'_>,
+) -> Result<String, AllocError> {
+    let mut out = String::new(alloc);
+    append_all(alloc, &mut out, file, follower, names)?;
+    Ok(out)
+}
+
 /// The hints to the end of a run of a program, whose text this is: a line for each process that isn't over or that
 /// aborted, with what it does or did and where, and one for each circle of processes that wait for one another.
 ///
@@ -135,7 +147,5 @@ pub fn end_hints(
     let places = places_of(alloc, text)?;
     let mut follower = Follower::opening(alloc, checked, &places)?;
     follower.pass_all(actions)?;
-    let mut out = String::new(alloc);
-    append_all(alloc, &mut out, file, &follower, checked.names())?;
-    Ok(out)
+    hints_at_end(alloc, file, &follower, checked.names())
 }

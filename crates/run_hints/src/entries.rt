@@ -2,7 +2,7 @@ use crate::ends::append_process;
 use crate::follower::Follower;
 use crate::names::append_number;
 use places::places_of;
-use program::Checked;
+use program::{Checked, Names};
 use source_offers::End;
 use source_states::Action;
 use std::alloc::{AllocError, Global};
@@ -57,6 +57,36 @@ fn append_refusal(
     out.push_str(said)
 }
 
+// Appends the lines of what is refused.
+fn append_lines(
+    out: &mut String,
+    file: &str,
+    follower: &Follower<'_, '_>,
+    names: &Names<'_>,
+    refused: Refused,
+) -> Result<(), AllocError> {
+    let process = u64::from(refused.thread());
+    let made = follower.state.made();
+    if process == 0 || process > made {
+        return append_unmade(out, process, made);
+    }
+    append_refusal(out, follower, refused, process)?;
+    append_process(out, file, follower, names, process)
+}
+
+// The lines of what is refused.
+fn hints_to(
+    alloc: Global,
+    file: &str,
+    follower: &Follower<'_, '_>,
+    names: &Names<'_>,
+    refused: Refused,
+) -> Result<String, AllocError> {
+    let mut out = String::new(alloc);
+    append_lines(&mut out, file, follower, names, refused)?;
+    Ok(out)
+}
+
 /// The hints to an entry of a schedule or a log that is refused behind a run of a program, whose text this is: what is
 /// refused, and where the process stands.
 ///
@@ -74,14 +104,5 @@ pub fn entry_hints(
     let places = places_of(alloc, text)?;
     let mut follower = Follower::opening(alloc, checked, &places)?;
     follower.pass_all(actions)?;
-    let mut out = String::new(alloc);
-    let process = u64::from(refused.thread());
-    let made = follower.state.made();
-    if process == 0 || process > made {
-        append_unmade(&mut out, process, made)?;
-        return Ok(out);
-    }
-    append_refusal(&mut out, &follower, refused, process)?;
-    append_process(&mut out, file, &follower, checked.names(), process)?;
-    Ok(out)
+    hints_to(alloc, file, &follower, checked.names(), refused)
 }

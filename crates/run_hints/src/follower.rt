@@ -29,6 +29,25 @@ fn index_of(process: u64) -> usize {
     process.saturating_sub(1) as usize
 }
 
+// The procedures of a process that begins at this piece.
+fn walker_at(alloc: Global, places: &Places<'_>, piece: u32) -> Result<Walker, AllocError> {
+    let level = Level::new(alloc, places, piece)?;
+    let mut levels = Vec::new(alloc);
+    levels.push(level)?;
+    Ok(Walker { levels })
+}
+
+// A process begins at this piece.
+fn add_walker(
+    walkers: &mut Vec<Walker>,
+    alloc: Global,
+    places: &Places<'_>,
+    piece: u32,
+) -> Result<(), AllocError> {
+    walkers.push(walker_at(alloc, places, piece)?)?;
+    Ok(())
+}
+
 impl<'a, 't> Follower<'a, 't> {
     /// A run that begins.
     pub fn opening(
@@ -36,26 +55,18 @@ impl<'a, 't> Follower<'a, 't> {
         checked: &'a Checked,
         places: &'a Places<'t>,
     ) -> Result<Follower<'a, 't>, AllocError> {
-        let state = SourceState::opening(alloc, checked)?;
         let program = checked.program();
-        let mut follower = Follower {
+        let last = program.procedures.len().saturating_sub(1);
+        let mut walkers = Vec::new(alloc);
+        add_walker(&mut walkers, alloc, places, u32::try_from(last).unwrap_or(0))?;
+        let state = SourceState::opening(alloc, checked)?;
+        Ok(Follower {
             alloc,
             program,
             places,
             state,
-            walkers: Vec::new(alloc),
-        };
-        let last = program.procedures.len().saturating_sub(1);
-        follower.add_walker(u32::try_from(last).unwrap_or(0))?;
-        Ok(follower)
-    }
-
-    // A process begins at this piece.
-    fn add_walker(&mut self, piece: u32) -> Result<(), AllocError> {
-        let mut levels = Vec::new(self.alloc);
-        levels.push(Level::new(self.alloc, self.places, piece)?)?;
-        self.walkers.push(Walker { levels })?;
-        Ok(())
+            walkers,
+        })
     }
 
     /// The procedures of a process, the innermost last.
@@ -163,7 +174,7 @@ impl<'a, 't> Follower<'a, 't> {
                 self.call(number, *procedure)
             }
             (ActionKind::Fork(_), Some(Statement::Fork { procedure, .. })) => {
-                self.add_walker(*procedure)
+                add_walker(&mut self.walkers, self.alloc, self.places, *procedure)
             }
             (ActionKind::Join(child), _) => self.join(number, *child),
             _ => Ok(()),

@@ -1,21 +1,10 @@
 // The names of things. They have letters and digits alone, but for that of the file, of which a byte that a terminal
 // doesn't show as one sign is shown as a question mark.
 
+use hint_lines::append_shown;
 use places::{Piece, Places};
 use program::{Member, Names};
 use std::alloc::AllocError;
-
-/// Appends bytes of a name.
-pub(crate) fn append_bytes(out: &mut String, bytes: &[u8]) -> Result<(), AllocError> {
-    for byte in bytes {
-        out.push(if matches!(*byte, b' '..=b'~') {
-            char::from(*byte)
-        } else {
-            '?'
-        })?;
-    }
-    Ok(())
-}
 
 /// Appends a number in decimal digits.
 pub(crate) fn append_number(out: &mut String, number: u64) -> Result<(), AllocError> {
@@ -29,7 +18,7 @@ pub(crate) fn append_place(
     places: &Places<'_>,
     token: usize,
 ) -> Result<(), AllocError> {
-    append_bytes(out, file.as_bytes())?;
+    append_shown(out, file.as_bytes())?;
     let line = places.place(token).line;
     write!(out, ":{line}")
 }
@@ -37,10 +26,10 @@ pub(crate) fn append_place(
 // Appends the name of a piece, with its monitor's before it.
 fn append_piece_name(out: &mut String, piece: &Piece<'_>) -> Result<(), AllocError> {
     if let Some(monitor) = piece.monitor {
-        append_bytes(out, monitor)?;
+        append_shown(out, monitor)?;
         out.push('.')?;
     }
-    append_bytes(out, piece.name)
+    append_shown(out, piece.name)
 }
 
 /// Appends the name of a piece of this number.
@@ -62,7 +51,7 @@ pub(crate) fn append_monitor(
     monitor: u32,
 ) -> Result<(), AllocError> {
     match names.monitors.get(monitor as usize) {
-        Some(naming) => append_bytes(out, naming.name),
+        Some(naming) => append_shown(out, naming.name),
         None => Ok(()),
     }
 }
@@ -77,7 +66,7 @@ pub(crate) fn append_member(
         return Ok(());
     };
     match naming.members.get(member.number as usize) {
-        Some(name) => append_bytes(out, name),
+        Some(name) => append_shown(out, name),
         None => Ok(()),
     }
 }

@@ -1,7 +1,8 @@
 // Values, as the text writes them.
 
 use crate::follower::Follower;
-use crate::names::{append_bytes, append_piece};
+use crate::names::append_piece;
+use hint_lines::append_shown;
 use program::{Member, MemberType, Program, ValueType};
 use std::alloc::AllocError;
 
@@ -63,7 +64,7 @@ pub(crate) fn append_local(
     piece: u32,
     slot: u32,
 ) -> Result<(), AllocError> {
-    append_bytes(out, follower.places.local(piece, slot))
+    append_shown(out, follower.places.local(piece, slot))
 }
 
 /// Appends the name of a piece, with the arguments that its locals begin with, where it has parameters.

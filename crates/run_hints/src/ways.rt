@@ -1,6 +1,6 @@
 // How to look on.
 
-use crate::names::append_bytes;
+use hint_lines::append_shown;
 use std::alloc::AllocError;
 
 /// How a run was made.
@@ -23,11 +23,11 @@ fn append_options(out: &mut String, way: Way<'_>) -> Result<(), AllocError> {
     match way {
         Way::Workers(Some(log)) | Way::Log(log) => {
             out.push_str(" --log ")?;
-            append_bytes(out, log.as_bytes())
+            append_shown(out, log.as_bytes())
         }
         Way::Schedule(schedule) => {
             out.push_str(" --schedule ")?;
-            append_bytes(out, schedule.as_bytes())
+            append_shown(out, schedule.as_bytes())
         }
         Way::Seed(seed, None) => write!(out, " --seed {seed}"),
         Way::Seed(seed, Some(strays)) => write!(out, " --seed {seed} --strays {strays}"),
@@ -53,7 +53,7 @@ pub fn append_way(out: &mut String, file: &str, way: Way<'_>) -> Result<(), Allo
         return out.push_str(KEEP);
     }
     out.push_str("  mesamon explain ")?;
-    append_bytes(out, file.as_bytes())?;
+    append_shown(out, file.as_bytes())?;
     append_options(out, way)?;
     out.push_str(" tells what led there\n")
 }

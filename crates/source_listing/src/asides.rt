@@ -40,16 +40,24 @@ impl<'t> Source<'t> {
     fn append(&self, out: &mut String, number: u32) -> Result<(), AllocError> {
         write!(out, "-- {number}: ")?;
         let index = (number as usize).saturating_sub(1);
-        for byte in self.lines.get(index).copied().unwrap_or(&[]) {
-            out.push(match *byte {
-                b' '..=b'~' => char::from(*byte),
-                b'\t' => ' ',
-                b'\r' => continue,
-                _ => '?',
-            })?;
+        match self.lines.get(index) {
+            Some(line) => append_shown(out, line),
+            None => Ok(()),
         }
-        Ok(())
     }
+}
+
+// Appends bytes as they are shown.
+fn append_shown(out: &mut String, bytes: &[u8]) -> Result<(), AllocError> {
+    for byte in bytes {
+        match *byte {
+            b' '..=b'~' => out.push(char::from(*byte))?,
+            b'\t' => out.push(' ')?,
+            b'\r' => {}
+            _ => out.push('?')?,
+        }
+    }
+    Ok(())
 }
 
 // Adds the mark of a token.
@@ -140,6 +148,51 @@ impl Beside<'_, '_> {
         }
     }
 
+    // Appends the first source line.
+    fn append_head(&mut self, out: &mut String) -> Result<(), AllocError> {
+        match self.line_at(0) {
+            Some(line) => {
+                self.source.append(out, line)?;
+                out.push('\n')
+            }
+            None => Ok(()),
+        }
+    }
+
+    // What stands before the first line.
+    fn head(&mut self, alloc: Global) -> Result<String, AllocError> {
+        let mut out = String::new(alloc);
+        self.append_head(&mut out)?;
+        Ok(out)
+    }
+
+    // Appends the name of an instruction's word.
+    fn append_word(
+        &mut self,
+        out: &mut String,
+        words: &Words<'_, '_>,
+        place: usize,
+        instruction: Instr,
+    ) -> Result<(), AllocError> {
+        let is_number = self.is_number(place);
+        match instruction {
+            Instr::Push(address) if !is_number => words.append_word(out, address),
+            Instr::Index(address, _) => words.append_word(out, address),
+            _ => Ok(()),
+        }
+    }
+
+    // Appends the source line that begins behind an instruction.
+    fn append_next(&mut self, out: &mut String, place: usize) -> Result<(), AllocError> {
+        match self.line_at(place.saturating_add(1)) {
+            Some(line) => {
+                out.push('\n')?;
+                self.source.append(out, line)
+            }
+            None => Ok(()),
+        }
+    }
+
     // What stands behind the line of an instruction: the name of its word, and the next source line.
     fn tail(
         &mut self,
@@ -149,18 +202,45 @@ impl Beside<'_, '_> {
         instruction: Instr,
     ) -> Result<String, AllocError> {
         let mut out = String::new(alloc);
-        let is_number = self.is_number(place);
-        match instruction {
-            Instr::Push(address) if !is_number => words.append_word(&mut out, address)?,
-            Instr::Index(address, _) => words.append_word(&mut out, address)?,
-            _ => {}
-        }
-        if let Some(line) = self.line_at(place.saturating_add(1)) {
-            out.push('\n')?;
-            self.source.append(&mut out, line)?;
-        }
+        self.append_word(&mut out, words, place, instruction)?;
+        self.append_next(&mut out, place)?;
         Ok(out)
     }
+
+    // Adds what stands behind the lines of instructions.
+    fn add_tails(
+        &mut self,
+        tails: &mut Vec<String>,
+        alloc: Global,
+        words: &Words<'_, '_>,
+        code: &[Instr],
+    ) -> Result<(), AllocError> {
+        let mut place: usize = 0;
+        for instruction in code {
+            tails.push(self.tail(alloc, words, place, *instruction)?)?;
+            place = place.saturating_add(1);
+        }
+        Ok(())
+    }
+
+    // What stands behind the lines of a program's instructions.
+    fn tails(
+        &mut self,
+        alloc: Global,
+        checked: &Checked,
+        code: &[Instr],
+    ) -> Result<Vec<String>, AllocError> {
+        let words = Words::of(alloc, checked.program(), checked.names())?;
+        let mut tails = Vec::new(alloc);
+        self.add_tails(&mut tails, alloc, &words, code)?;
+        Ok(tails)
+    }
+}
+
+// The marks of a program with this text, by rising place.
+fn marks_of_text(alloc: Global, text: &[u8], plan: &Plan<'_>) -> Result<Vec<Mark>, AllocError> {
+    let places = places_of(alloc, text)?;
+    marks_of(alloc, &places, plan)
 }
 
 /// What stands beside the listing of a program's image, whose text this is: before the instructions that a source line
@@ -175,10 +255,8 @@ pub fn listing_of(
     checked: &Checked,
     code: &[Instr],
 ) -> Result<Listing, AllocError> {
-    let places = places_of(alloc, text)?;
     let plan = Plan::of(alloc, checked.program())?;
-    let words = Words::of(alloc, checked.program(), checked.names())?;
-    let marks = marks_of(alloc, &places, &plan)?;
+    let marks = marks_of_text(alloc, text, &plan)?;
     let source = Source::of(alloc, text)?;
     let mut beside = Beside {
         source: &source,
@@ -186,14 +264,7 @@ pub fn listing_of(
         numbers: plan.numbers.as_slice(),
         last: 0,
     };
-    let mut head = String::new(alloc);
-    if let Some(line) = beside.line_at(0) {
-        source.append(&mut head, line)?;
-        head.push('\n')?;
-    }
-    let mut tails = Vec::new(alloc);
-    for (place, instruction) in code.iter().enumerate() {
-        tails.push(beside.tail(alloc, &words, place, *instruction)?)?;
-    }
+    let head = beside.head(alloc)?;
+    let tails = beside.tails(alloc, checked, code)?;
     Ok(Listing { head, tails })
 }

@@ -194,6 +194,20 @@ impl<'c, 'n> Recording<'c, 'n> {
         self.follow_others(state, action)
     }
 
+    // Does an action and writes it; false where it isn't possible.
+    fn record_next<'a>(
+        &mut self,
+        checked: &'a Checked,
+        action: &Action,
+        state: &mut SourceState<'a>,
+    ) -> Result<bool, AllocError> {
+        if !state.advance(self.alloc, checked.program(), action)? {
+            return Ok(false);
+        }
+        self.record(state, action)?;
+        Ok(true)
+    }
+
     // Writes the actions from a state on, up to the first that isn't possible.
     fn record_all<'a>(
         &mut self,
@@ -203,12 +217,24 @@ impl<'c, 'n> Recording<'c, 'n> {
     ) -> Result<(), AllocError> {
         self.add_track(state)?;
         for action in actions {
-            if !state.advance(self.alloc, checked.program(), action)? {
+            if !self.record_next(checked, action, state)? {
                 break;
             }
-            self.record(state, action)?;
         }
         Ok(())
+    }
+
+    // Writes a run from its opening state on, and what ends with it.
+    fn record_run(&mut self, checked: &Checked, actions: &[Action]) -> Result<(), AllocError> {
+        let mut state = SourceState::opening(self.alloc, checked)?;
+        self.record_all(checked, actions, &mut state)
+    }
+
+    // Writes a whole file.
+    fn fill(&mut self, checked: &Checked, actions: &[Action]) -> Result<(), AllocError> {
+        self.record_run(checked, actions)?;
+        self.cut_all()?;
+        self.tape.finish()
     }
 
     // Ends the slices of the processes that aren't over.
@@ -232,17 +258,17 @@ pub fn timeline(
     actions: &[Action],
 ) -> Result<Vec<u8>, AllocError> {
     let names = checked.names();
+    let handovers = handovers(alloc, names, actions)?;
+    let gates = gates(alloc, names)?;
+    let tape = Tape::new(alloc, names)?;
     let mut recording = Recording {
         alloc,
-        tape: Tape::new(alloc, names)?,
+        tape,
         tracks: Vec::new(alloc),
-        gates: gates(alloc, names)?,
-        handovers: handovers(alloc, names, actions)?,
+        gates,
+        handovers,
         slices: Vec::new(alloc),
     };
-    let mut state = SourceState::opening(alloc, checked)?;
-    recording.record_all(checked, actions, &mut state)?;
-    recording.cut_all()?;
-    recording.tape.finish()?;
+    recording.fill(checked, actions)?;
     Ok(recording.tape.out)
 }
