@@ -17,7 +17,7 @@ use Rattle.source_offers.specs.declared.next_action.Offer.{Offer}
 use Rattle.source_offers.specs.declared.process.Process.{Process}
 use Rattle.source_offers.specs.NextAction.{offer_of}
 use Rattle.source_states.specs.States.{state_of}
-use Rattle.protocol.proofs.Sleeps.{put_same}
+use Rattle.words.proofs.Updates.{put_same}
 use Rattle.proof_simulation.specs.Next.{after_next, next_kinds, next_visible, offer_of_process, take_deferred}
 use Rattle.proof_simulation.specs.Next.{internal_next}
 use Rattle.proof_simulation.specs.Ordering.{Resumes, act, awake_waiters}

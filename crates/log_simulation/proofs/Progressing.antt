@@ -39,7 +39,7 @@ use Rattle.meaning.specs.Labels.{Kind, Stray}
 use Rattle.meaning.specs.Runs.{IsStep as IsSourceStep}
 use Rattle.program.specs.declared.kinds.Member.{Member}
 use Rattle.proof_commutation.specs.Deferring.{IsBehind}
-use Rattle.protocol.proofs.Sleeps.{put_same}
+use Rattle.words.proofs.Updates.{put_same}
 use Rattle.proof_simulation.specs.Ordering.{StepsSo, act, raises_number}
 use Rattle.proof_simulation.specs.Next.{take_deferred}
 use Rattle.proof_simulation.specs.Strays.{after_stray, stray_condition}

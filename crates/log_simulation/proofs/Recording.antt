@@ -26,7 +26,7 @@ use Rattle.program.specs.Names.{said_by}
 use Rattle.program.specs.Trees.{Program}
 use Rattle.program.specs.declared.kinds.Member.{Member}
 use Rattle.program.specs.WellFormed.{WellFormed}
-use Rattle.protocol.proofs.Sleeps.{at_put, put_same, put_other}
+use Rattle.words.proofs.Updates.{at_put, put_same, put_other}
 use Rattle.proof_simulation.specs.Explaining.{explanation, IsDue, IsReached}
 use Rattle.proof_simulation.specs.Kills.{killed_last}
 use Rattle.proof_simulation.specs.Ordering.{raises_number}

@@ -12,7 +12,7 @@ use Rattle.lowering.specs.Pieces.{code_of, marks_of}
 use Rattle.proof_thread.specs.Deferrals.{deferred_by_request, deferred_by_step}
 use Rattle.meaning.specs.Labels.{Kind}
 use Rattle.program.specs.Trees.{Program}
-use Rattle.protocol.proofs.Sleeps.{put_same, put_other}
+use Rattle.words.proofs.Updates.{put_same, put_other}
 use Rattle.proof_simulation.specs.Deferred.{deferred_then, is_failing, has_failed}
 use Rattle.log_simulation.specs.Entries.{deferred_at, deferred_locally}
 use Rattle.log_simulation.specs.Deferred.{deferral_of, deferred_by_next_step, Says, CountsDeferred, Raises}

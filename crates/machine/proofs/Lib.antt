@@ -20,3 +20,4 @@ pub mod Killing
 pub mod OwnEvents
 pub mod FrontRuns
 pub mod CallPieces
+pub mod Orders

@@ -1,17 +1,18 @@
 -- What a machine and the phases of its threads stand for, and what its piece of a futex call does.
-use Rattle.std.specs.Prelude.{ℕ, ◌≡◌, ◌%◌, List, [], Some, length}
+use Rattle.std.specs.Prelude.{ℕ, ◌≡◌, ◌%◌, ◌+◌, List, [], Some, length}
 use Rattle.words.specs.Updates.{put}
-use Rattle.buckets.specs.Sleepers.{Sleepers, bucket_count, holder_of}
+use Rattle.buckets.specs.Sleepers.{Sleepers, queue, bucket_count, holder_of}
 use Rattle.futexcalls.specs.Answers.{word_of}
 use Rattle.futexcalls.specs.declared.pieces.FutexCall.{FutexCall}
 use Rattle.futexcalls.specs.declared.pieces.FutexCall.TheVariants.{Wait, Wake, Requeue}
 use Rattle.futexcalls.specs.declared.pieces.FutexPhase.{FutexPhase}
-use Rattle.futexcalls.specs.declared.pieces.FutexPhase.TheVariants.{First}
+use Rattle.futexcalls.specs.declared.pieces.FutexPhase.TheVariants.{First, Second, Compare, Act}
 use Rattle.futexcalls.specs.declared.progress.FutexAnswer.{FutexAnswer}
 use Rattle.futexcalls.specs.declared.progress.FutexAnswer.TheVariants.{Again, Acted}
 use Rattle.futexcalls.specs.declared.progress.FutexProgress.{FutexProgress}
 use Rattle.futexcalls.specs.declared.progress.FutexProgress.TheVariants as told
-use Rattle.futexcalls.specs.PieceResults.{answer_of}
+use Rattle.futexcalls.specs.Pieces.{again_of}
+use Rattle.futexcalls.specs.PieceResults.{answer_of, woken_by, moved_by, queue_by}
 use Rattle.robustexit.specs.declared.phase.ExitPhase.{ExitPhase}
 use Rattle.robustexit.specs.Waking.{WakesOn}
 use Rattle.locals.specs.Threads.{Thread}
@@ -83,3 +84,17 @@ abbrev pub IsHeldUp : List ℕ → Sleepers → ℕ → ExitPhase → Type 0
 IsHeldUp words sleepers t phase =
     (a : ℕ) × (u : ℕ) × WakesOn (length words) t phase (word_of words) a
     × (holder_of sleepers (a % bucket_count sleepers) ≡ Some u)
+
+-- the lists of sleepers behind a piece of a call: as before, or behind its act by their fronts, which its event tells
+abbrev pub QueuesSo : Sleepers → ℕ → FutexCall → FutexPhase → CallStep → Sleepers → Type 0
+QueuesSo s t call phase (Next next) s' = queue s' ≡ queue s
+QueuesSo s t call phase Blocked s' = queue s' ≡ queue s
+QueuesSo s t call First (Done event) s' = ⊥
+QueuesSo s t call Second (Done event) s' = ⊥
+QueuesSo s t call Compare (Done event) s' =
+    (queue s' ≡ queue s) × (event ≡ event_of (call_name call) (again_of call) [] [])
+QueuesSo s t call Act (Done event) s' =
+    (queue s' ≡ queue_by t call (queue s))
+    × (event ≡ event_of (call_name call)
+    (length (woken_by call (queue s)) + length (moved_by call (queue s))) (woken_by call (queue s))
+    (moved_by call (queue s)))

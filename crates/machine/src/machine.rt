@@ -12,7 +12,7 @@ ghost use Rattle.futexcalls.specs.Pieces.{takes_at, held_at, IsPhase, LiesIn};
 ghost use Rattle.locals.specs.Looks.{look};
 ghost use Rattle.locals.specs.Requests.{next_step_of};
 ghost use Rattle.locals.specs.Threads.{Thread};
-ghost use Rattle.machine.specs.ConcretePieces.{MakesCall, DoesPiece, IsHeldUp};
+ghost use Rattle.machine.specs.ConcretePieces.{MakesCall, DoesPiece, QueuesSo, IsHeldUp};
 ghost use Rattle.locals.specs.Steps.{local_step};
 ghost use Rattle.machine.specs.States.{thread_of, state_of, opening_concrete};
 ghost use Rattle.machine.specs.Runs.{has_ended};
@@ -296,6 +296,13 @@ impl Machine {
         self.threads[t as usize - 1].next_step(&self.image, t)
     }
 
+    /// What the next step of thread `t` would be if it stood at `here`.
+    pub fn next_step_at(&self, t: u32, here: &Local) -> NextStep
+        ensures { result ≡ next_step_of (look self.now.program t here.now) }
+    {
+        here.next_step(&self.image, t)
+    }
+
     /// Whether a thread holds the bucket of the word on which the step of thread `t`'s exit in this phase would wake.
     pub fn is_held_up(&self, t: u32, phase: ExitPhase) -> bool
         requires { (0 < t) × (t ≤ length self.now.threads) }
@@ -365,6 +372,7 @@ impl Machine {
         ensures piece { (phases : ℕ → FutexPhase) (x : Thread) → phases t ≡ phase
             → thread_of (concrete self.old) t ≡ Some x
             → DoesPiece self.old phases t call x result self.new }
+        ensures order { QueuesSo self.old.sleepers t call phase result self.new.sleepers }
         ensures program { self.new.program ≡ self.old.program }
         ensures room { self.new.room ≡ self.old.room }
         ensures holds { IsWellFormed self.new.program (concrete self.new) }

@@ -1,8 +1,8 @@
 -- Processes that are made, and processes that are over.
 use Rattle.std.proofs.Common.{◌≡◌, ◌⊎◌, ℕ, ◌+◌, ◌<◌, ◌≤◌, ℤ, List, [], ◌∷◌, ◌++◌, Option, Some, None, refl, sym, ap}
 use Rattle.std.proofs.Common.{◌∙◌, inl, inr, subst, arith, append-nil}
-use Rattle.std.proofs.lemmas.Bool.{cases_eq, cases_lt, ne_eqb}
-use Rattle.words.specs.Updates.{put}
+use Rattle.std.proofs.lemmas.Bool.{cases_eq, cases_lt}
+use Rattle.words.proofs.Updates.{put_other}
 use Rattle.program.specs.Trees.{Program}
 use Rattle.meaning.specs.Labels.{End, Label, Alone, Stores, Forks, FindsFull, Claims, FindsClaimed, Joins, Enters}
 use Rattle.meaning.specs.Labels.{Resumes, Exits, Waits, Notifies, Broadcasts, Abandons, Ends, Action}
@@ -16,9 +16,6 @@ use Rattle.meaning.proofs.Offered.{IsQuiet, IsPlain, plain}
 
 pub some_none : {A : Type 0} (x : A) → Some x ≡ None → ⊥
 some_none x e = absurd (cc)
-
-pub put_other : (f : ℕ → Option Process) (i j : ℕ) (o : Option Process) → (j ≡ i → ⊥) → put f i o j ≡ f j
-put_other f i j o ne = rw (ne_eqb j i ne) refl
 
 -- processes have the numbers up to that of those made
 abbrev pub IsNumbered : SourceState → Type 0
@@ -75,7 +72,7 @@ other_process : (p : Program) (s : SourceState) (a : Action) (s' : SourceState) 
     → (q ≤ s.table.made) ⊎ (s'.table.made < q) → s'.process q ≡ s.process q
 other_process p s a s' q x ne place =
     ap (λ (f : ℕ → Option Process). f q) x.processes
-    ∙ put_other (processes_after x.effect s.process) a.process q (Some x.after) ne
+    ∙ put_other (processes_after x.effect s.process) a.process (Some x.after) q ne
     ∙ rest (made_by (offer p s.variable x.before) x.label x.effect x.after (plain p s.variable x.before) x.acts)
   where
     rest : MakesOnlyForking x.label x.effect → processes_after x.effect s.process q ≡ s.process q
@@ -89,7 +86,7 @@ other_process p s a s' q x ne place =
           | inl le ↦ omega (arith, e, number, le)
           | inr gt ↦ omega (arith, e, number, made, gt)
         ] in
-        ap (λ (g : Effect). processes_after g s.process q) f.3 ∙ put_other s.process f.0 q (Some f.1) apart
+        ap (λ (g : Effect). processes_after g s.process q) f.3 ∙ put_other s.process f.0 (Some f.1) q apart
 
 pub numbered_step : (p : Program) (s : SourceState) (a : Action) (s' : SourceState) → IsStep p s a s' → IsNumbered s
     → IsNumbered s'
@@ -105,7 +102,7 @@ numbered_step p s a s' (inr (inr x)) is q past =
     let made : s'.table.made ≡ s.table.made = ap (λ (t : Table). t.made) x.3.allows.1 in
     let none : s.process q ≡ None = is q (omega (arith, made, past)) in
     let ne : q ≡ a.process → ⊥ = λ e. some_none x.3.before (sym x.3.stands ∙ sym (ap s.process e) ∙ none) in
-    ap (λ (f : ℕ → Option Process). f q) x.3.processes ∙ put_other s.process a.process q _ ne ∙ none
+    ap (λ (f : ℕ → Option Process). f q) x.3.processes ∙ put_other s.process a.process _ q ne ∙ none
 
 numbered_led : (p : Program) (s s' : SourceState) (actions : List Action) → Leads p s actions s' → IsNumbered s
     → IsNumbered s'
@@ -139,7 +136,7 @@ over_stays p s a s' q end is (inr (inl x)) over = ap (λ (f : ℕ → Option Pro
 over_stays p s a s' q end is (inr (inr x)) over = elim (cases_eq q a.process) [
   | inl e ↦ absurd (let b : Some x.3.before ≡ Some (Over end) = sym x.3.stands ∙ sym (ap s.process e) ∙ over in
       let same : x.3.before ≡ Over end = cc in subst IsKillable same x.3.killable)
-  | inr ne ↦ ap (λ (f : ℕ → Option Process). f q) x.3.processes ∙ put_other s.process a.process q _ ne ∙ over
+  | inr ne ↦ ap (λ (f : ℕ → Option Process). f q) x.3.processes ∙ put_other s.process a.process _ q ne ∙ over
 ]
 
 pub over_in_runs : (p : Program) (actions : List Action) (a : Action) (s s' : SourceState) (q : ℕ) (end : End)

@@ -1,9 +1,10 @@
 -- Each step keeps the processes to the rules of monitors, and the table to what they hold.
-use Rattle.std.proofs.Common.{◌≡◌, ◌⊎◌, ℕ, Bool, true, false, List, [], Option, Some, None, refl, sym, ap, ◌∙◌, inl}
+use Rattle.std.proofs.Common.{◌≡◌, ◌⊎◌, ℕ, Bool, true, false, List, [], Option, Some, None, sym, ap, ◌∙◌, inl}
 use Rattle.std.proofs.Common.{inr, subst}
 use Rattle.std.specs.Prelude.{⊤}
-use Rattle.std.proofs.lemmas.Bool.{cases_eq, eq-eqb, ne_eqb}
+use Rattle.std.proofs.lemmas.Bool.{cases_eq}
 use Rattle.words.specs.Updates.{put}
+use Rattle.words.proofs.Updates.{put_at, put_other}
 use Rattle.program.specs.declared.kinds.Member.{Member}
 use Rattle.program.specs.Trees.{Program}
 use Rattle.meaning.specs.Labels.{Label, Alone, Stores, Forks, FindsFull, Claims, FindsClaimed, Joins, Enters, Resumes}
@@ -37,12 +38,6 @@ pub record Stands (p : Program) (t : Table) (q : ℕ) (b : Option Process) : Typ
 pub enterable_held : (w : Bool) (q : ℕ) → enterable w ≡ HeldBy q → ⊥
 enterable_held true q e = absurd (cc)
 enterable_held false q e = absurd (cc)
-
-put_same : (hold : ℕ → Hold) (i j : ℕ) (h : Hold) → j ≡ i → put hold i h j ≡ h
-put_same hold i j h e = rw (eq-eqb j i e) refl
-
-put_else : (hold : ℕ → Hold) (i j : ℕ) (h : Hold) → (j ≡ i → ⊥) → put hold i h j ≡ hold j
-put_else hold i j h ne = rw (ne_eqb j i ne) refl
 
 -- what an action of a process changes of the table
 abbrev pub Changes : ℕ → Label → Table → Table → Type 0
@@ -109,8 +104,8 @@ module _ (q : ℕ) (hold : ℕ → Hold) (hs ks : List ℕ) (held : (m : ℕ) �
   pub new_held : (c : Change) → Moves c hs ks → (m : ℕ) → IsIn ks m → hold_after q c hold m ≡ HeldBy q
   new_held Same moves m is = held m (subst (λ (ns : List ℕ). IsIn ns m) moves is)
   new_held (Taken n) moves m is = elim (cases_eq m n) [
-    | inl e ↦ put_same hold n m (HeldBy q) e
-    | inr ne ↦ put_else hold n m (HeldBy q) ne ∙ held m (was ne ((moves m).0 is))
+    | inl e ↦ put_at hold n (HeldBy q) m e
+    | inr ne ↦ put_other hold n (HeldBy q) m ne ∙ held m (was ne ((moves m).0 is))
   ]
     where
       was : (m ≡ n → ⊥) → (m ≡ n) ⊎ IsIn hs m → IsIn hs m
@@ -118,18 +113,18 @@ module _ (q : ℕ) (hold : ℕ → Hold) (hs ks : List ℕ) (held : (m : ℕ) �
       was ne (inr i) = i
   new_held (Given n w) moves m is =
       let kept : (m ≡ n → ⊥) × IsIn hs m = (moves.1 m).0 is in
-      put_else hold n m (enterable w) kept.0 ∙ held m kept.1
+      put_other hold n (enterable w) m kept.0 ∙ held m kept.1
 
   pub new_holder : (c : Change) → Moves c hs ks → ((m : ℕ) → hold m ≡ HeldBy q → IsIn hs m) → (m : ℕ)
       → hold_after q c hold m ≡ HeldBy q → IsIn ks m
   new_holder Same moves holder m is = subst (λ (ns : List ℕ). IsIn ns m) (sym moves) (holder m is)
   new_holder (Taken n) moves holder m is = elim (cases_eq m n) [
     | inl e ↦ (moves m).1 (inl e)
-    | inr ne ↦ (moves m).1 (inr (holder m (sym (put_else hold n m (HeldBy q) ne) ∙ is)))
+    | inr ne ↦ (moves m).1 (inr (holder m (sym (put_other hold n (HeldBy q) m ne) ∙ is)))
   ]
   new_holder (Given n w) moves holder m is = elim (cases_eq m n) [
-    | inl e ↦ absurd (enterable_held w q (sym (put_same hold n m (enterable w) e) ∙ is))
-    | inr ne ↦ (moves.1 m).1 (ne, holder m (sym (put_else hold n m (enterable w) ne) ∙ is))
+    | inl e ↦ absurd (enterable_held w q (sym (put_at hold n (enterable w) m e) ∙ is))
+    | inr ne ↦ (moves.1 m).1 (ne, holder m (sym (put_other hold n (enterable w) m ne) ∙ is))
   ]
 
   -- of another process
@@ -138,23 +133,23 @@ module _ (q : ℕ) (hold : ℕ → Hold) (hs ks : List ℕ) (held : (m : ℕ) �
   others_hold Same opens moves r ne m is = is
   others_hold (Taken n) opens moves r ne m is = elim (cases_eq m n) [
     | inl e ↦ absurd (enterable_held opens.0 r (sym opens.1 ∙ ap hold (sym e) ∙ is))
-    | inr apart ↦ put_else hold n m (HeldBy q) apart ∙ is
+    | inr apart ↦ put_other hold n (HeldBy q) m apart ∙ is
   ]
   others_hold (Given n w) opens moves r ne m is = elim (cases_eq m n) [
     | inl e ↦ absurd (let two : HeldBy q ≡ HeldBy r = sym (held n moves.0) ∙ ap hold (sym e) ∙ is in
         let one : q ≡ r = cc in ne (sym one))
-    | inr apart ↦ put_else hold n m (enterable w) apart ∙ is
+    | inr apart ↦ put_other hold n (enterable w) m apart ∙ is
   ]
 
   pub others_held : (c : Change) → (r : ℕ) → (r ≡ q → ⊥) → (m : ℕ) → hold_after q c hold m ≡ HeldBy r → hold m
       ≡ HeldBy r
   others_held Same r ne m is = is
   others_held (Taken n) r ne m is = elim (cases_eq m n) [
-    | inl e ↦ absurd (let two : HeldBy q ≡ HeldBy r = sym (put_same hold n m (HeldBy q) e) ∙ is in
+    | inl e ↦ absurd (let two : HeldBy q ≡ HeldBy r = sym (put_at hold n (HeldBy q) m e) ∙ is in
         let one : q ≡ r = cc in ne (sym one))
-    | inr apart ↦ sym (put_else hold n m (HeldBy q) apart) ∙ is
+    | inr apart ↦ sym (put_other hold n (HeldBy q) m apart) ∙ is
   ]
   others_held (Given n w) r ne m is = elim (cases_eq m n) [
-    | inl e ↦ absurd (enterable_held w r (sym (put_same hold n m (enterable w) e) ∙ is))
-    | inr apart ↦ sym (put_else hold n m (enterable w) apart) ∙ is
+    | inl e ↦ absurd (enterable_held w r (sym (put_at hold n (enterable w) m e) ∙ is))
+    | inr apart ↦ sym (put_other hold n (enterable w) m apart) ∙ is
   ]

@@ -8,22 +8,12 @@ use Rattle.syntax.specs.Tree.{ExpressionTree, AnyOf, AllOf, Relates, Total, Prod
 use Rattle.grammar.specs.Machine.{Symbol, Tree, Trees, AWord, AMark, Closed, Item, expression, callee, expression_in}
 use Rattle.grammar.specs.Machine.{behind_expression, callee_in, behind_callee, nestings}
 use Rattle.grammar.specs.Reading.{Passes, Fails, Leads}
-use Rattle.grammar.proofs.Joins.{here, push, reject, close, done, then1, fail1, then5, fail5, then6, fail6, then7}
+use Rattle.grammar.proofs.Joins.{here, close, done, then1, fail1, then5, fail5, then6, fail6, then7}
 use Rattle.grammar.proofs.Joins.{fail7}
 use Rattle.token_cursor.specs.Taking.{Takes, Rejects}
+use Rattle.token_cursor.proofs.Small.{takes, rejects}
 use Rattle.expression_parser.specs.Levels.{expression_trees, enclosed_trees, callee_trees}
 use Rattle.parser.specs.Steps.{condition_trees}
-
-none : (d : ℕ) → d ≤ 64 → 0 + d ≤ 64
-none d h = omega arith
-
-pub takes : {d : ℕ} {s : Symbol} {x : Tree s} {a b : List Item} → Takes s x a b → d ≤ 64
-    → Passes d (s ∷ []) (x, tt) a b
-takes {d = d} t le = rw (t.rest) (done (push t.reply (none d le)))
-
-pub rejects : {d : ℕ} {s : Symbol} {σ : List Symbol} {a : List Item} {e : Refusal} → Rejects s a e
-    → Fails d (s ∷ σ) a e
-rejects r = rw (r.refusal) (reject r.reply)
 
 pub then_takes : {d : ℕ} {σ ρ : List Symbol} {s : Symbol} {g : Trees (s ∷ ρ) → Trees σ} {x : Tree s}
     {a b c : List Item} → Takes s x b c → Leads d σ (s ∷ ρ) g a b → nestings ρ + d ≤ 64

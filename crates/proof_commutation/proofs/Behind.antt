@@ -13,7 +13,7 @@ use Rattle.meaning.specs.States.{SourceState, variables_after, printed_after, pr
 use Rattle.meaning.specs.Runs.{IsAction, IsStep}
 use Rattle.meaning.proofs.Offered.{IsPlain, IsQuiet, plain}
 use Rattle.proof_commutation.specs.Deferring.{MayDefer, LeadsDeferredAt, IsBehind}
-use Rattle.proof_commutation.proofs.Puts.{at_put2}
+use Rattle.words.proofs.Updates.{at_put2}
 use Rattle.proof_commutation.proofs.Waiting.{at_more, at_same, at_self, at_none, First, at_first, over_ahead}
 use Rattle.proof_commutation.proofs.Waiting.{over_behind}
 use Rattle.proof_commutation.proofs.Keeping.{grows, Stays, at_still}

@@ -18,7 +18,7 @@ use Rattle.meaning.proofs.Ends.{numbered}
 use Rattle.meaning.proofs.Led.{leads_more}
 use Rattle.meaning.proofs.Holders.{held, holder, changes}
 use Rattle.proof_commutation.specs.Deferring.{LeadsDeferredAt, IsBehind}
-use Rattle.proof_commutation.proofs.Puts.{at_put2, put_other}
+use Rattle.words.proofs.Updates.{at_put2, put_other}
 use Rattle.proof_commutation.proofs.Waiting.{at_same}
 use Rattle.proof_commutation.proofs.Keeping.{Stays, same_grows, at_still}
 use Rattle.proof_commutation.proofs.Behind.{act, made_next, goes_on}

@@ -9,7 +9,7 @@ use Rattle.meaning.specs.Labels.{Resumes, Exits, Waits, Notifies, Broadcasts, Ab
 use Rattle.meaning.specs.Table.{Table, HeldBy, Allows}
 use Rattle.meaning.specs.Processes.{Process}
 use Rattle.proof_commutation.specs.Deferring.{is_internal, SameHeld, MayDefer, LeadsDeferred, LeadsDeferredAt}
-use Rattle.proof_commutation.proofs.Puts.{at_put}
+use Rattle.words.proofs.Updates.{at_put}
 
 -- the process table stays full, and what is claimed stays claimed
 pub record Grows (T T' : Table) : Type 0 where

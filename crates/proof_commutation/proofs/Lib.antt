@@ -1,4 +1,3 @@
-pub mod Puts
 pub mod Waiting
 pub mod Keeping
 pub mod Behind

@@ -15,7 +15,7 @@ use Rattle.meaning.proofs.Led.{leads_more}
 use Rattle.proof_commutation.specs.Deferring.{LeadsDeferredAt, IsBehind}
 use Rattle.proof_commutation.specs.Placed.{Marked, action_of, actions_of, actions_up_to, placed_behind, Defers}
 use Rattle.proof_commutation.specs.Placed.{LeadsMarked}
-use Rattle.proof_commutation.proofs.Puts.{at_put, put_same, put_other, put_again, put_itself}
+use Rattle.words.proofs.Updates.{at_put, put_same, put_other, put_again, put_itself}
 use Rattle.proof_commutation.proofs.Waiting.{at_equal, at_none}
 use Rattle.proof_commutation.proofs.Behind.{act, waits, takes}
 use Rattle.proof_commutation.proofs.Following.{follows, no_zero}

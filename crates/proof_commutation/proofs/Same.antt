@@ -5,7 +5,7 @@ use Rattle.std.proofs.lemmas.Bool.{cases_eq, eq-eqb, ne_eqb, cond-true, cond-fal
 use Rattle.words.specs.Updates.{put}
 use Rattle.meaning.specs.Labels.{Action, Kind}
 use Rattle.proof_commutation.specs.Placed.{Marked, action_of, actions_of, actions_up_to, placed_behind, kinds_of}
-use Rattle.proof_commutation.proofs.Puts.{put_same, put_other}
+use Rattle.words.proofs.Updates.{put_same, put_other}
 
 kinds_here : (t : ℕ) (a : Action) (actions : List Action) → a.process ≡ t
     → kinds_of t (a ∷ actions) ≡ a.kind ∷ kinds_of t actions

@@ -25,7 +25,7 @@ use Rattle.meaning.specs.Offers.{assigns, return_value, statement_offer, rest_of
 use Rattle.meaning.proofs.Offered.{IsPlain, plain}
 use Rattle.meaning.proofs.Led.{leads_more}
 use Rattle.meaning.proofs.Ends.{over_in_runs}
-use Rattle.proof_commutation.proofs.Puts.{at_put, put_same}
+use Rattle.words.proofs.Updates.{at_put, put_same}
 use Rattle.proof_exploration.proofs.Tables.{end_of, over_after, split}
 
 -- a process that ends is over then, and a notify or broadcast is offered with any list

@@ -4,7 +4,7 @@ use Rattle.std.proofs.Common.{sym, ◌∙◌, arith, inl, inr}
 use Rattle.std.proofs.lemmas.Bool.{cases_eq}
 use Rattle.program.specs.declared.kinds.Member.{Member}
 use Rattle.meaning.specs.Table.{without_waiters}
-use Rattle.proof_commutation.proofs.Puts.{at_put}
+use Rattle.words.proofs.Updates.{at_put}
 use Rattle.proof_exploration.specs.Exploring.{SameMembers}
 use Rattle.proof_exploration.proofs.Tables.{without_out}
 

@@ -14,7 +14,7 @@ use Rattle.meaning.specs.Table.{without_waiters}
 use Rattle.meaning.proofs.Discipline.{Change, Same, Taken, Given, change_of, hold_after}
 use Rattle.meaning.proofs.Keeping.{enterable_held}
 use Rattle.meaning.proofs.Waits.{still_waits}
-use Rattle.proof_commutation.proofs.Puts.{at_put, at_put2, put_same, put_other}
+use Rattle.words.proofs.Updates.{at_put, at_put2, put_same, put_other}
 use Rattle.proof_exploration.specs.Exploring.{IsCalm}
 
 -- what an action changes of who waits

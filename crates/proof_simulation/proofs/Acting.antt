@@ -31,7 +31,7 @@ use Rattle.protocol.specs.Steps.{Can, go_list}
 use Rattle.protocol.proofs.Roles.{own, holds as has}
 use Rattle.protocol.proofs.Good.{Good, one_owner}
 use Rattle.protocol.proofs.Kept.{permitted}
-use Rattle.protocol.proofs.Sleeps.{at_put, put_same, put_other}
+use Rattle.words.proofs.Updates.{at_put, put_same, put_other}
 use Rattle.proof_thread.specs.Variables.{IsVariable, variable_address, ValueFits, VariablesFit}
 use Rattle.proof_thread.specs.Walks.{View, Reads, Walks, WalksWithin, stays, goes, loads}
 use Rattle.proof_thread.specs.Following.{Build, Stands}

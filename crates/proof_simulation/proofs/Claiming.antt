@@ -29,7 +29,7 @@ use Rattle.protocol.specs.Cells.{ClaimOf, write}
 use Rattle.protocol.specs.Exits.{Shares}
 use Rattle.protocol.proofs.Good.{Good}
 use Rattle.protocol.proofs.Kept.{permitted}
-use Rattle.protocol.proofs.Sleeps.{at_put, put_other}
+use Rattle.words.proofs.Updates.{at_put, put_other}
 use Rattle.proof_thread.specs.Variables.{variable_address, VariablesFit}
 use Rattle.proof_thread.specs.Completing.{IsOwn, Awaits, join_steps}
 use Rattle.proof_thread.specs.Following.{Build, StepsWithin}

@@ -17,7 +17,7 @@ use Rattle.lowering.specs.Pieces.{code_of, marks_of}
 use Rattle.meaning.specs.Labels.{Kind, Stray, Kill, Action, kind_of}
 use Rattle.meaning.specs.States.{SourceState}
 use Rattle.proof_thread.specs.Deferrals.{mark_of, deferred_by_step}
-use Rattle.protocol.proofs.Sleeps.{put_same, put_other}
+use Rattle.words.proofs.Updates.{put_same, put_other}
 use Rattle.refinement.specs.Pace.{is_action_of}
 use Rattle.proof_simulation.specs.Progress.{answer_whole, visible_step}
 use Rattle.proof_pieces.specs.Traces.{TraceStep, Loud, Silent, Trace}

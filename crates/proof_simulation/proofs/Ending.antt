@@ -42,7 +42,7 @@ use Rattle.protocol.specs.Memory.{entry_address}
 use Rattle.protocol.proofs.Chains.{Chain}
 use Rattle.protocol.proofs.Good.{Good}
 use Rattle.protocol.proofs.Kept.{permitted}
-use Rattle.protocol.proofs.Sleeps.{at_put, put_same, put_other}
+use Rattle.words.proofs.Updates.{at_put, put_same, put_other}
 use Rattle.proof_thread.specs.Variables.{IsVariable, variable_address, VariablesFit}
 use Rattle.proof_thread.specs.Completing.{IsOwn, left_value, IsResult, return_request}
 use Rattle.proof_thread.specs.Following.{Build}

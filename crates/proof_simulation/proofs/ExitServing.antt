@@ -39,7 +39,7 @@ use Rattle.protocol.proofs.Pend.{PendAt}
 use Rattle.protocol.proofs.Exits.{exits_follow}
 use Rattle.protocol.proofs.Phases.{at_entry, phases_follow}
 use Rattle.protocol.proofs.Roles.{Knows}
-use Rattle.protocol.proofs.Sleeps.{put_other}
+use Rattle.words.proofs.Updates.{put_other}
 use Rattle.proof_thread.specs.Variables.{IsVariable, variable_address}
 use Rattle.proof_templates.specs.Layout.{place, valid}
 use Rattle.proof_templates.specs.Asking.{machine_answer}

@@ -16,7 +16,7 @@ use Rattle.proof_commutation.specs.Placed.{actions_of, actions_up_to}
 use Rattle.proof_commutation.proofs.Waiting.{at_equal, at_none}
 use Rattle.proof_commutation.proofs.Behind as D
 use Rattle.protocol.specs.Points.{Point}
-use Rattle.protocol.proofs.Sleeps.{at_put, put_same, put_other}
+use Rattle.words.proofs.Updates.{at_put, put_same, put_other}
 use Rattle.refinement.specs.Built.{build_of}
 use Rattle.proof_simulation.specs.Standing.{StandsAt}
 use Rattle.proof_simulation.specs.Standing as S

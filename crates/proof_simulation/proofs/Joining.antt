@@ -31,7 +31,7 @@ use Rattle.protocol.specs.Served.{MayAnswer, source_event}
 use Rattle.protocol.proofs.Good.{Good}
 use Rattle.protocol.proofs.Rest.{matches}
 use Rattle.protocol.proofs.Joins.{IdAt}
-use Rattle.protocol.proofs.Sleeps.{put_same}
+use Rattle.words.proofs.Updates.{put_same}
 use Rattle.proof_thread.specs.Following.{Build, Stands}
 use Rattle.proof_thread.specs.Completing.{Awaits, GoesAborted, join_steps, view_of}
 use Rattle.proof_thread.specs.Completing as F

@@ -35,7 +35,7 @@ use Rattle.protocol.proofs.Good.{Good}
 use Rattle.protocol.proofs.Lock.{tie_held, tie_owner}
 use Rattle.protocol.proofs.Pend.{PendAt}
 use Rattle.protocol.proofs.Roles.{ListedEntry, Knows, holds as holds', own, entry_listed}
-use Rattle.protocol.proofs.Sleeps.{at_put, put_same, put_other}
+use Rattle.words.proofs.Updates.{at_put, put_same, put_other}
 use Rattle.proof_thread.specs.Following.{Build}
 use Rattle.proof_thread.specs.Variables.{is_condition}
 use Rattle.proof_templates.specs.Layout.{place, valid}

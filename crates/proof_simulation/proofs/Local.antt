@@ -14,7 +14,7 @@ use Rattle.meaning.specs.Processes.{Process}
 use Rattle.meaning.specs.States.{SourceState}
 use Rattle.protocol.specs.Points.{Point, Thread as Place, thread_at}
 use Rattle.protocol.specs.World.{mem}
-use Rattle.protocol.proofs.Sleeps.{at_put}
+use Rattle.words.proofs.Updates.{at_put}
 use Rattle.proof_thread.specs.Walks.{Walks, WalksWithin, stays, goes, loads, empty_view}
 use Rattle.refinement.specs.Built.{build_of}
 use Rattle.proof_simulation.specs.Ordering.{StepsWhole, nothing}

@@ -28,7 +28,7 @@ use Rattle.protocol.specs.Carries.{table_after}
 use Rattle.protocol.specs.Cells.{IdOf, write}
 use Rattle.protocol.proofs.Starts.{every_start_is_a_move}
 use Rattle.protocol.proofs.Kept.{permitted}
-use Rattle.protocol.proofs.Sleeps.{at_put, put_same, put_other}
+use Rattle.words.proofs.Updates.{at_put, put_same, put_other}
 use Rattle.proof_thread.specs.Variables.{VariablesFit, variable_address}
 use Rattle.proof_thread.specs.Following.{Stands}
 use Rattle.proof_thread.proofs.Growing.{fitting_grows}

@@ -19,7 +19,7 @@ use Rattle.meaning.specs.Runs.{Leads}
 use Rattle.protocol.specs.Points.{Point, Owned, Thread as Place, thread_at, entry_at}
 use Rattle.protocol.specs.World.{World, mem}
 use Rattle.protocol.specs.Exits.{Shares}
-use Rattle.protocol.proofs.Sleeps.{put_same, put_other, at_put}
+use Rattle.words.proofs.Updates.{put_same, put_other, at_put}
 pub use Rattle.proof_simulation.specs.Deferred.{AreOwn}
 use Rattle.proof_thread.specs.Variables.{IsVariable, variable_address, VariablesFit}
 use Rattle.refinement.specs.Built.{build_of}

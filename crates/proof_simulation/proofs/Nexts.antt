@@ -21,7 +21,7 @@ use Rattle.proof_commutation.specs.Deferring.{is_internal, IsBehind, LeadsDeferr
 use Rattle.proof_commutation.specs.Placed.{actions_of}
 use Rattle.proof_commutation.proofs.Waiting.{First, at_first}
 use Rattle.proof_commutation.proofs.Behind as D
-use Rattle.protocol.proofs.Sleeps.{put_same}
+use Rattle.words.proofs.Updates.{put_same}
 use Rattle.proof_simulation.specs.Next.{NextAction, internal_next, visible_next, is_abandoned, entered_monitor}
 use Rattle.proof_simulation.specs.Next.{joins_next}
 use Rattle.proof_simulation.specs.Next.{table_after, after_next, offer_of_process, next_visible, take_deferred}

@@ -28,7 +28,7 @@ use Rattle.protocol.specs.World.{opening_world, mem, opening_thread as opening_p
 use Rattle.protocol.specs.Cells.{Cell, LockOf, LinkOf, HeadOf, PendingOf, IdOf, ClaimOf, ResultOf, OutcomeOf}
 use Rattle.protocol.specs.Cells.{SequenceOf, cell}
 use Rattle.protocol.specs.Memory.{stored_value}
-use Rattle.protocol.proofs.Sleeps.{at_put}
+use Rattle.words.proofs.Updates.{at_put}
 use Rattle.proof_thread.specs.Typed.{HaveValues}
 use Rattle.proof_thread.specs.Variables.{HasIndex, IsVariable, variable_address, ValueFits, VariablesFit}
 use Rattle.proof_thread.specs.Walks.{stays}

@@ -22,7 +22,7 @@ use Rattle.protocol.specs.Carries.{Event}
 use Rattle.protocol.specs.Requests.{request}
 use Rattle.protocol.specs.Answers.{Serves, next}
 use Rattle.protocol.specs.Served.{MayAnswer, source_event}
-use Rattle.protocol.proofs.Sleeps.{put_same}
+use Rattle.words.proofs.Updates.{put_same}
 use Rattle.proof_simulation.specs.Ranks.{rank}
 
 -- a point of a template of monitors and conditions

@@ -35,7 +35,8 @@ use Rattle.protocol.proofs.Exits.{distinct, names-mem, none_woken, spot_at}
 use Rattle.protocol.proofs.Good.{Good}
 use Rattle.protocol.proofs.Rest.{matches}
 use Rattle.protocol.proofs.Waits.{FreshAt}
-use Rattle.protocol.proofs.Sleeps.{put_other, cases_member, sequence_same, sequence_other}
+use Rattle.words.proofs.Updates.{put_other}
+use Rattle.protocol.proofs.Sleeps.{cases_member, sequence_same, sequence_other}
 use Rattle.protocol.proofs.Stores.{stores_follow}
 use Rattle.proof_thread.specs.Variables.{variable_address}
 use Rattle.proof_templates.specs.Layout.{place, valid}

@@ -22,7 +22,7 @@ use Rattle.protocol.specs.World.{World, mem, tail}
 use Rattle.protocol.specs.Moves.{Move, Begin, Rebegin, Leave, Wait, Notify, Broadcast}
 use Rattle.protocol.specs.Steps.{Can, after, go}
 use Rattle.protocol.specs.Carries.{table_after}
-use Rattle.protocol.proofs.Sleeps.{at_put, put_same, put_other}
+use Rattle.words.proofs.Updates.{at_put, put_same, put_other}
 use Rattle.proof_thread.specs.Following.{Build, StepsWithin}
 use Rattle.refinement.specs.Built.{build_of, marked_image}
 use Rattle.proof_templates.specs.Layout.{place, valid}

@@ -30,7 +30,7 @@ use Rattle.protocol.specs.Served.{IsMove, MayAnswer, source_event, is_pending, p
 use Rattle.protocol.proofs.Good.{Good}
 use Rattle.protocol.proofs.Kept.{permitted}
 use Rattle.protocol.proofs.Covers.{every_step_is_a_move}
-use Rattle.protocol.proofs.Sleeps.{at_put}
+use Rattle.words.proofs.Updates.{at_put}
 use Rattle.proof_thread.specs.Completing.{IsOwn}
 use Rattle.proof_thread.specs.Variables.{VariablesFit, variable_address}
 use Rattle.refinement.specs.Built.{build_of}

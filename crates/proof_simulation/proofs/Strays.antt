@@ -27,7 +27,7 @@ use Rattle.protocol.proofs.Good.{Good}
 use Rattle.protocol.proofs.Roles.{may_sleep, point_sleeps}
 use Rattle.protocol.proofs.Joins.{joins, point_joins}
 use Rattle.protocol.proofs.Processes.{is_made, point_made}
-use Rattle.protocol.proofs.Sleeps.{at_put, put_same, put_other}
+use Rattle.words.proofs.Updates.{at_put, put_same, put_other}
 use Rattle.proof_templates.specs.Layout.{place, valid}
 use Rattle.proof_templates.proofs.Layouts.{apart, condition_there}
 use Rattle.program.specs.declared.kinds.MemberType.TheVariants.{Condition}

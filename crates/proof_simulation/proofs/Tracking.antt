@@ -46,7 +46,7 @@ use Rattle.proof_commutation.proofs.Waiting.{First, at_first, at_same}
 use Rattle.proof_commutation.proofs.Behind as D
 use Rattle.protocol.specs.Carries.{IsByHolder}
 use Rattle.protocol.specs.Points.{Point}
-use Rattle.protocol.proofs.Sleeps.{put_other, at_put, put_same}
+use Rattle.words.proofs.Updates.{put_other, at_put, put_same}
 use Rattle.refinement.specs.Built.{build_of}
 use Rattle.proof_thread.specs.Variables.{IsVariable, variable_address}
 use Rattle.program.specs.declared.kinds.Member.{Member}

@@ -15,7 +15,7 @@ use Rattle.meaning.specs.Labels.{Kind, Action}
 use Rattle.meaning.specs.Labels as L
 use Rattle.meaning.specs.States.{SourceState, opening}
 use Rattle.meaning.specs.Runs.{Leads}
-use Rattle.protocol.proofs.Sleeps.{put_same}
+use Rattle.words.proofs.Updates.{put_same}
 use Rattle.proof_thread.specs.Completing.{IsOwn}
 use Rattle.refinement.specs.Pace.{KeepsPace, stretch_length}
 use Rattle.refinement.specs.Refines.{is_stray_kind, is_kill_kind, processes_of, Sleeps, Explained, Refines}
@@ -63,7 +63,7 @@ use Rattle.std.proofs.lemmas.Bool.{false≢true}
 use Rattle.program.specs.declared.kinds.Member.{Member}
 use Rattle.refinement.specs.Pace.{is_action_of}
 use Rattle.meaning.specs.Labels.{Kind}
-use Rattle.protocol.proofs.Sleeps.{put_other}
+use Rattle.words.proofs.Updates.{put_other}
 use Rattle.words.specs.Updates.{put}
 use Rattle.std.proofs.Common.{ap}
 

@@ -18,7 +18,7 @@ use Rattle.protocol.proofs.Good.{Good}
 use Rattle.protocol.proofs.Rest.{good_run, most_kept}
 use Rattle.robustexit.specs.RobustExit.{Shared}
 use Rattle.proof_simulation.specs.Corresponding.{Reached}
-use Rattle.protocol.proofs.Sleeps.{at_put, put_same, put_other}
+use Rattle.words.proofs.Updates.{at_put, put_same, put_other}
 use Rattle.protocol.proofs.Stores.{stores_follow}
 
 leads_on : (ss : List (ℕ × Move)) (w w' : World) (t : ℕ) (m : Move) → Leads w ss w' → Can w' t m

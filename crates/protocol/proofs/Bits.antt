@@ -8,7 +8,8 @@ use Rattle.protocol.specs.Word.{owner, waiters}
 use Rattle.protocol.specs.Rules.{ExitRule, WakesAlways, WakesUnowned, Passes, ReleaseRule, ClearsWord, KeepsWaiters, TidiesWaiters, Clears, Keeps, Tidies}
 use Rattle.protocol.specs.Points.{Spot, OnLock, Thread, Point, LeaveSwaps, LeaveLoads, LeaveKeeps, LeaveClears}
 use Rattle.protocol.specs.World.{requeued_sleep}
-use Rattle.protocol.proofs.Sleeps.{at_put, at_put2, requeue_lock}
+use Rattle.words.proofs.Updates.{at_put, at_put2}
+use Rattle.protocol.proofs.Sleeps.{requeue_lock}
 
 -- ---- the points of a release
 abbrev pub StyleAt : ReleaseRule → Point → Type 0

@@ -19,7 +19,7 @@ use Rattle.protocol.specs.Runs.{Leads, PermitsAll, events, last_table, CanStep, 
 use Rattle.protocol.specs.Losses.{world_after, LosesWake, cleared_run, tidied_run}
 use Rattle.protocol.proofs.Words.{owner-small, waiters-small, owner-with_waiters, waiters-with_waiters, owner-waiters}
 use Rattle.protocol.proofs.Words.{died-waiters}
-use Rattle.protocol.proofs.Sleeps.{put_other, at_put}
+use Rattle.words.proofs.Updates.{put_other, at_put}
 use Rattle.protocol.proofs.Rest.{with_permitted}
 
 -- a move can be made, and the source allows what it carries

@@ -11,7 +11,7 @@ use Rattle.std.specs.Prelude.{option_map}
 use Rattle.words.specs.Updates.{put}
 use Rattle.meaning.specs.Processes.{Process}
 use Rattle.meaning.specs.States.{SourceState}
-use Rattle.proof_commutation.proofs.Puts.{at_put}
+use Rattle.words.proofs.Updates.{at_put}
 use Rattle.source_offers.specs.declared.process.Process.{Process as ProcessOf}
 use Rattle.source_offers.specs.Stages.{process_of}
 use Rattle.source_states.specs.States.{processes_in}

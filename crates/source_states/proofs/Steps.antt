@@ -1,7 +1,7 @@
 -- Actions of a process's own, by the offer that they take up.
 use Rattle.std.proofs.Common.{◌≡◌, ◌==◌, ℕ, Bool, true, false, cond, Option, Some, refl, ap, sym, ◌∙◌, subst}
-use Rattle.std.proofs.lemmas.Bool.{eqb-false}
 use Rattle.words.specs.Updates.{put}
+use Rattle.words.proofs.Updates.{put_same}
 use Rattle.program.specs.Trees.{Program}
 use Rattle.meaning.specs.Labels.{Action, Kind, Label}
 use Rattle.meaning.specs.Offers.{Does, Effect, Nothing, Puts, Writes, Makes, Offer, TakesUp, offer}
@@ -115,13 +115,6 @@ elsewhere n k o s w f false u is never = λ t x. never t (record {
   done = subst (λ g. IsDone n x.label x.effect x.after (record s { process = g }) t) (sym is)
       (done_with n x.label x.effect x.after w s t x.done);
 })
-
-put_same : {X : Type 0} (f : ℕ → X) (n : ℕ) (v : X) → put f n v n ≡ v
-put_same f n v = at (n == n) refl
-  where
-    at : (b : Bool) → (n == n) ≡ b → put f n v n ≡ v
-    at true e = ap (λ b. cond b v (f n)) e
-    at false e = absurd (eqb-false n n e refl)
 
 -- a process is put where it stands after an action, and does it there
 pub done_there : (n : ℕ) (k : Kind) (label : Label) (effect : Effect) (q : Process) (s t u : SourceState) (b : Bool)

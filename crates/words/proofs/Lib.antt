@@ -1,2 +1,3 @@
 pub mod LockWords
 pub mod Versions
+pub mod Updates

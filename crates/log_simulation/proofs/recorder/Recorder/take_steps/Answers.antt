@@ -3,7 +3,7 @@ use Rattle.std.proofs.Common.{rules, ◌≡◌, ◌∙◌, ap, arith, refl, subs
 use Rattle.words.specs.Updates.{put}
 use Rattle.meaning.specs.Labels.{Kind}
 use Rattle.log_simulation.specs.Entries.{progress_locally, deferred_locally}
-use Rattle.protocol.proofs.Sleeps.{put_same}
+use Rattle.words.proofs.Updates.{put_same}
 use Rattle.log_simulation.specs.declared.recorder.Recorder.{Recorder}
 use Rattle.log_simulation.specs.Recording.{Counts}
 use Rattle.log_simulation.specs.Deferred.{CountsDeferred}

@@ -8,10 +8,11 @@ use Rattle.locals.specs.Looks.{look}
 use Rattle.locals.specs.Requests.{after_answer}
 use Rattle.machine.specs.declared.call_step.CallStep.TheVariants.{Next, Blocked, Done}
 use Rattle.machine.specs.States.{thread_of}
-use Rattle.machine.specs.ConcretePieces.{MakesCall, DoesPiece}
+use Rattle.machine.specs.ConcretePieces.{MakesCall, DoesPiece, QueuesSo}
 use Rattle.machine.specs.Views.{View, concrete}
 use Rattle.machine.proofs.CallPieces.{next_so, blocked_so, done_so, well_so, can_be_answered}
 use Rattle.machine.proofs.Landing.{has_place}
+use Rattle.machine.proofs.Orders.{next_order, blocked_order, done_order}
 use Rattle.machine.proofs.Whole.{stands_at}
 use Rattle.machine.proofs.machine.Machine.take_piece.Goals as goal
 
@@ -204,3 +205,48 @@ returns-in-Done-clause-piece c =
     (done_so v v' c.args.t c.args.call c.args.phase served makes lies
     (record { words = p.words; output = p.output; count = p.count })
     (ap (slice_set v.threads (c.args.t - 1)) went) c.in-Done.ensures.piece)
+
+pub returns-in-Next-clause-order : goal.returns-in-Next-clause-order
+returns-in-Next-clause-order c =
+    let v : View = record {
+      program = c.self.inside.image;
+      words = c.self.inside.common.words;
+      sleepers = c.self.inside.common.sleepers;
+      threads = c.self.inside.threads.items;
+      output = c.self.inside.common.output;
+      room = c.self.inside.common.capacity - length c.self.inside.common.output;
+    } in
+    let after = c.call_piece.new.self in
+    let v' : View = record v { words = after.words; sleepers = after.sleepers; output = after.output } in
+    subst (λ (q : View). QueuesSo q.sleepers c.args.t c.args.call c.args.phase (Next c.in-Next.next) v'.sleepers)
+    c.self.view_is (next_order v v' c.args.t c.args.call c.args.phase c.in-Next.next c.in-Next.ensures.piece)
+
+pub returns-in-Blocked-clause-order : goal.returns-in-Blocked-clause-order
+returns-in-Blocked-clause-order c =
+    let v : View = record {
+      program = c.self.inside.image;
+      words = c.self.inside.common.words;
+      sleepers = c.self.inside.common.sleepers;
+      threads = c.self.inside.threads.items;
+      output = c.self.inside.common.output;
+      room = c.self.inside.common.capacity - length c.self.inside.common.output;
+    } in
+    let after = c.call_piece.new.self in
+    let v' : View = record v { words = after.words; sleepers = after.sleepers; output = after.output } in
+    subst (λ (q : View). QueuesSo q.sleepers c.args.t c.args.call c.args.phase (Blocked) v'.sleepers)
+    c.self.view_is (blocked_order v v' c.args.t c.args.call c.args.phase c.in-Blocked.ensures.piece)
+
+pub returns-in-Done-clause-order : goal.returns-in-Done-clause-order
+returns-in-Done-clause-order c =
+    let v : View = record {
+      program = c.self.inside.image;
+      words = c.self.inside.common.words;
+      sleepers = c.self.inside.common.sleepers;
+      threads = c.self.inside.threads.items;
+      output = c.self.inside.common.output;
+      room = c.self.inside.common.capacity - length c.self.inside.common.output;
+    } in
+    let after = c.call_piece.new.self in
+    let v' : View = record v { words = after.words; sleepers = after.sleepers; output = after.output } in
+    subst (λ (q : View). QueuesSo q.sleepers c.args.t c.args.call c.args.phase (Done c.in-Done.served.event) v'.sleepers)
+    c.self.view_is (done_order v v' c.args.t c.args.call c.args.phase c.in-Done.served c.in-Done.ensures.piece)

@@ -16,6 +16,9 @@ at_put2 f g i v w j P here there =
 pub put_same : {A : Type 0} (f : ℕ → A) (i : ℕ) (v : A) → put f i v i ≡ v
 put_same f i v = at_put f i v i (λ x. x ≡ v) (λ h. refl) (λ h. absurd (h refl))
 
+pub put_at : {A : Type 0} (f : ℕ → A) (i : ℕ) (v : A) (j : ℕ) → j ≡ i → put f i v j ≡ v
+put_at f i v j is = ap (put f i v) is ∙ put_same f i v
+
 pub put_other : {A : Type 0} (f : ℕ → A) (i : ℕ) (v : A) (j : ℕ) → j ≢ i → put f i v j ≡ f j
 put_other f i v j ne = at_put f i v j (λ x. x ≡ f j) (λ h. absurd (ne h)) (λ h. refl)
 

@@ -1,0 +1,90 @@
+-- The lists of sleepers behind a piece of a call.
+use Rattle.std.proofs.Common.{◌≡◌, ℕ, ◌+◌, Option, Some, None, length, refl, sym, ap, subst}
+use Rattle.machine.specs.declared.event.Event.{Event}
+use Rattle.buckets.specs.Sleepers.{Sleepers, queue, bucket_count}
+use Rattle.futexcalls.specs.Answers.{word_of}
+use Rattle.futexcalls.specs.declared.pieces.FutexCall.{FutexCall}
+use Rattle.futexcalls.specs.declared.pieces.FutexCall.TheVariants.{Wait, Wake, Requeue}
+use Rattle.futexcalls.specs.declared.pieces.FutexPhase.{FutexPhase}
+use Rattle.futexcalls.specs.declared.pieces.FutexPhase.TheVariants.{First, Second, Compare, Act}
+use Rattle.futexcalls.specs.declared.progress.FutexAnswer.TheVariants.{Again, Acted}
+use Rattle.futexcalls.specs.declared.progress.FutexProgress.{FutexProgress}
+use Rattle.futexcalls.specs.declared.progress.FutexProgress.TheVariants.{Next, Blocked, Done}
+use Rattle.futexcalls.specs.Pieces.{takes_at, after_lock}
+use Rattle.futexcalls.specs.PieceResults.{PieceSo, TakesSo, ComparesSo, ActSo, answer_of}
+use Rattle.machine.specs.ConcretePieces.{QueuesSo, call_name, woken_in, moved_in}
+use Rattle.machine.specs.ConcreteServing.{event_of}
+use Rattle.machine.specs.declared.call_step.CallStep.TheVariants as step
+use Rattle.machine.specs.declared.call_step.CallProgress.TheVariants as common
+use Rattle.machine.specs.declared.served.Served.{Served}
+use Rattle.machine.specs.Views.{View}
+use Rattle.machine.proofs.CallPieces.{Told, next_told, blocked_told, done_told}
+
+-- the same of what comes of the piece
+abbrev OrderBy : Sleepers → ℕ → FutexCall → FutexPhase → FutexProgress → Sleepers → Type 0
+OrderBy s t call phase (Next next) s' = queue s' ≡ queue s
+OrderBy s t call phase Blocked s' = queue s' ≡ queue s
+OrderBy s t call phase (Done answer) s' =
+    QueuesSo s t call phase
+    (step.Done (event_of (call_name call) (answer_of call answer) (woken_in answer) (moved_in answer))) s'
+
+takes_order : (s s' : Sleepers) (t : ℕ) (call : FutexCall) (phase next : FutexPhase) (o : Option ℕ) (progress : FutexProgress)
+    → TakesSo t o next s progress s' → OrderBy s t call phase progress s'
+takes_order s s' t call phase next None progress h = absurd h
+takes_order s s' t call phase next (Some b) (Next n) h = h.2.queues
+takes_order s s' t call phase next (Some b) Blocked h = ap queue h.2
+takes_order s s' t call phase next (Some b) (Done answer) h = absurd h
+
+compares_order : (s s' : Sleepers) (t : ℕ) (word : ℕ → ℕ) (call : FutexCall) (a expected : ℕ) (progress : FutexProgress)
+    → ComparesSo word call a expected s progress s' → OrderBy s t call Compare progress s'
+compares_order s s' t word call a expected (Next n) h = ap queue h.2
+compares_order s s' t word call a expected (Done Again) h = (h.1.queues, refl)
+compares_order s s' t word call a expected (Done (Acted r)) h = absurd h
+compares_order s s' t word call a expected Blocked h = absurd h
+
+acts_order : (s s' : Sleepers) (t : ℕ) (call : FutexCall) (progress : FutexProgress) → ActSo t call s progress s'
+    → OrderBy s t call Act progress s'
+acts_order s s' t call (Next n) h = absurd h
+acts_order s s' t call Blocked h = absurd h
+acts_order s s' t call (Done Again) h = absurd h
+acts_order s s' t call (Done (Acted r)) h = (
+  h.queues,
+  λ i. event_of (call_name call) (length (h.woken_is i) + length (h.moved_is i)) (h.woken_is i) (h.moved_is i),
+)
+
+piece_order : (s s' : Sleepers) (t : ℕ) (word : ℕ → ℕ) (call : FutexCall) (phase : FutexPhase) (progress : FutexProgress)
+    → PieceSo word t call phase s progress s' → OrderBy s t call phase progress s'
+piece_order s s' t word call First progress h =
+    takes_order s s' t call First (after_lock (bucket_count s) First call) (takes_at (bucket_count s) First call)
+    progress h
+piece_order s s' t word call Second progress h =
+    takes_order s s' t call Second (after_lock (bucket_count s) Second call) (takes_at (bucket_count s) Second call)
+    progress h
+piece_order s s' t word (Wait a expected) Compare progress h =
+    compares_order s s' t word (Wait a expected) a.0 expected progress h
+piece_order s s' t word (Wake a wakes) Compare progress h = absurd h
+piece_order s s' t word (Requeue a b wakes moves expected) Compare progress h =
+    compares_order s s' t word (Requeue a b wakes moves expected) a.0 expected progress h
+piece_order s s' t word call Act progress h = acts_order s s' t call progress h
+
+pub next_order : (v v' : View) (t : ℕ) (call : FutexCall) (phase next : FutexPhase)
+    → Told v t call phase (common.Next next) v' → QueuesSo v.sleepers t call phase (step.Next next) v'.sleepers
+next_order v v' t call phase next h =
+    piece_order v.sleepers v'.sleepers t (word_of v.words) call phase (Next next)
+    (subst (λ (q : FutexProgress). PieceSo (word_of v.words) t call phase v.sleepers q v'.sleepers)
+    (next_told call h.0 next h.2) h.1)
+
+pub blocked_order : (v v' : View) (t : ℕ) (call : FutexCall) (phase : FutexPhase)
+    → Told v t call phase common.Blocked v' → QueuesSo v.sleepers t call phase step.Blocked v'.sleepers
+blocked_order v v' t call phase h =
+    piece_order v.sleepers v'.sleepers t (word_of v.words) call phase Blocked
+    (subst (λ (q : FutexProgress). PieceSo (word_of v.words) t call phase v.sleepers q v'.sleepers)
+    (blocked_told call h.0 h.2) h.1)
+
+pub done_order : (v v' : View) (t : ℕ) (call : FutexCall) (phase : FutexPhase) (served : Served)
+    → Told v t call phase (common.Done served) v' → QueuesSo v.sleepers t call phase (step.Done served.event) v'.sleepers
+done_order v v' t call phase served h =
+    let d = done_told call h.0 served h.2 in
+    subst (λ (e : Event). QueuesSo v.sleepers t call phase (step.Done e) v'.sleepers) (sym d.3)
+    (piece_order v.sleepers v'.sleepers t (word_of v.words) call phase (Done d.0)
+    (subst (λ (q : FutexProgress). PieceSo (word_of v.words) t call phase v.sleepers q v'.sleepers) d.1 h.1))
