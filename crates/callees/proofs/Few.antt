@@ -30,7 +30,7 @@ first_pieces ts i =
     let g = length-append (pieces_from 0 (take i ts)) (pieces_from (0 + length (take i ts)) (drop i ts)) in
     omega arith
 
-members_within : (ts : List MonitorTree) (i : ℕ) (t : MonitorTree) → slice_get ts i ≡ Some t
+pub members_within : (ts : List MonitorTree) (i : ℕ) (t : MonitorTree) → slice_get ts i ≡ Some t
     → length t.members ≤ length (flat_map (λ m. m.members) ts)
 members_within [] i t e = let w : None ≡ Some t = e in cc
 members_within (x ∷ ts) zero t e =

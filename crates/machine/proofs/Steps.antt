@@ -71,7 +71,7 @@ no_local AskReturn h = cc
 no_local (AskReturnValue v) h = cc
 no_local (AskFault cause) h = cc
 
-no_exit : (r : Request) (phase : ExitPhase) → request_step r ≡ next.Exit phase → ⊥
+pub no_exit : (r : Request) (phase : ExitPhase) → request_step r ≡ next.Exit phase → ⊥
 no_exit (AskFork entry arguments has_room) phase h = cc
 no_exit (AskLoad a) phase h = cc
 no_exit (AskStore a v) phase h = cc

@@ -96,7 +96,7 @@ taken_up p hs (NotifiesAll c a) l e b is t new =
     (plainly p hs (L.Broadcasts c t.0) O.Nothing a refl tt is.0 is.1)
 
 -- who waits can only resume
-resumes_only : (p : Program) (v : Variables) (b : Process) (c : Member) (l : Label) (e : Effect) (a : Process)
+pub resumes_only : (p : Program) (v : Variables) (b : Process) (c : Member) (l : Label) (e : Effect) (a : Process)
     → WaitsAt c b → TakesUp (offer p v b) l e a → (m : ℕ) × (w : Bool) × (l ≡ Resumes m w)
 resumes_only p v (Suspended d f cs) c l e a is t = (d.monitor, t.0, t.1)
 resumes_only p v (Entering m f cs) c l e a is t = absurd is

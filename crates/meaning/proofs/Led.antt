@@ -25,3 +25,9 @@ leads_once p s left right [] x y = sym x ∙ y
 leads_once p s left right (a ∷ actions) x y =
     let mid : x.0 ≡ y.0 = step_once p a s x.0 y.0 x.1 y.1 in
     leads_once p y.0 left right actions (subst (λ m. Leads p m actions left) mid x.2) y.2
+
+-- actions that go on where others end
+pub leads_on : (p : Program) (a mid b : SourceState) (xs ys : List Action) → Leads p a xs mid → Leads p mid ys b
+    → Leads p a (xs ++ ys) b
+leads_on p a mid b [] ys x y = subst (λ s. Leads p s ys b) (sym x) y
+leads_on p a mid b (z ∷ xs) ys x y = (x.0, x.1, leads_on p x.0 mid b xs ys x.2 y)

@@ -11,7 +11,7 @@ use Rattle.meaning.specs.States.{SourceState, opening}
 use Rattle.meaning.specs.Runs.{IsAction, IsStep, Leads}
 use Rattle.meaning.proofs.Unique.{step_once}
 use Rattle.meaning.proofs.Ends.{numbered}
-use Rattle.meaning.proofs.Led.{leads_more}
+use Rattle.meaning.proofs.Led.{leads_more, leads_on}
 use Rattle.proof_commutation.specs.Deferring.{LeadsDeferredAt, IsBehind}
 use Rattle.proof_commutation.specs.Placed.{Marked, action_of, actions_of, actions_up_to, placed_behind, Defers}
 use Rattle.proof_commutation.specs.Placed.{LeadsMarked}
@@ -19,11 +19,6 @@ use Rattle.words.proofs.Updates.{at_put, put_same, put_other, put_again, put_its
 use Rattle.proof_commutation.proofs.Waiting.{at_equal, at_none}
 use Rattle.proof_commutation.proofs.Behind.{act, waits, takes}
 use Rattle.proof_commutation.proofs.Following.{follows, no_zero}
-
-leads_on : (p : Program) (a mid b : SourceState) (xs ys : List Action) → Leads p a xs mid → Leads p mid ys b
-    → Leads p a (xs ++ ys) b
-leads_on p a mid b [] ys x y = subst (λ s. Leads p s ys b) (sym x) y
-leads_on p a mid b (z ∷ xs) ys x y = (x.0, x.1, leads_on p x.0 mid b xs ys x.2 y)
 
 behind_same : (p : Program) (w w' : ℕ → List Kind) (a c : SourceState) → ((u : ℕ) → w u ≡ w' u) → IsBehind p w a c
     → IsBehind p w' a c
@@ -36,11 +31,11 @@ behind_same p w w' a c same b = record {
 }
 
 -- some actions lead from a state to one in which these wait still
-abbrev Caught : Program → SourceState → List Action → (ℕ → List Kind) → SourceState → Type 0
+abbrev pub Caught : Program → SourceState → List Action → (ℕ → List Kind) → SourceState → Type 0
 Caught p a actions w c = (a' : SourceState) × Leads p a actions a' × IsBehind p w a' c
 
 -- all that waits of a process is done
-catch_up : (p : Program) (ks : List Kind) (w : ℕ → List Kind) (a c : SourceState) (t : ℕ) → IsBehind p w a c
+pub catch_up : (p : Program) (ks : List Kind) (w : ℕ → List Kind) (a c : SourceState) (t : ℕ) → IsBehind p w a c
     → w t ≡ ks → Caught p a (actions_of t ks) (put w t []) c
 catch_up p [] w a c t b is = (a, refl, behind_same p w (put w t []) a c (λ u. sym (put_itself w t [] u is)) b)
 catch_up p (k ∷ ks) w a c t b is =
@@ -54,22 +49,22 @@ catch_up p (k ∷ ks) w a c t b is =
     )
 
 -- nothing waits of processes 1 to n
-abbrev emptied : ℕ → (ℕ → List Kind) → ℕ → List Kind
+abbrev pub emptied : ℕ → (ℕ → List Kind) → ℕ → List Kind
 emptied zero w = w
 emptied (suc n) w = put (emptied n w) (suc n) []
 
-emptied_above : (n : ℕ) (w : ℕ → List Kind) (u : ℕ) → n < u → emptied n w u ≡ w u
+pub emptied_above : (n : ℕ) (w : ℕ → List Kind) (u : ℕ) → n < u → emptied n w u ≡ w u
 emptied_above zero w u past = refl
 emptied_above (suc n) w u past =
     put_other (emptied n w) (suc n) [] u (λ e. omega (arith, e, past)) ∙ emptied_above n w u (omega (arith, past))
 
-emptied_below : (n : ℕ) (w : ℕ → List Kind) (u : ℕ) → 0 < u → u ≤ n → emptied n w u ≡ []
+pub emptied_below : (n : ℕ) (w : ℕ → List Kind) (u : ℕ) → 0 < u → u ≤ n → emptied n w u ≡ []
 emptied_below zero w u low high = absurd (omega (arith, low, high))
 emptied_below (suc n) w u low high =
     at_put (emptied n w) (suc n) [] u (λ ks. ks ≡ []) (λ e. refl)
     (λ o. emptied_below n w u low (omega (arith, o, high)))
 
-catch_up_all : (p : Program) (n : ℕ) (w : ℕ → List Kind) (a c : SourceState) → IsBehind p w a c
+pub catch_up_all : (p : Program) (n : ℕ) (w : ℕ → List Kind) (a c : SourceState) → IsBehind p w a c
     → Caught p a (actions_up_to n w) (emptied n w) c
 catch_up_all p zero w a c b = (a, refl, b)
 catch_up_all p (suc n) w a c b =
@@ -80,7 +75,7 @@ catch_up_all p (suc n) w a c b =
     (last.0, leads_on p a before.0 last.0 (actions_up_to n w) (actions_of (suc n) (w (suc n))) before.1 last.1, last.2)
 
 -- where nothing waits the states are one
-same_behind : (p : Program) (w : ℕ → List Kind) (a c : SourceState) → IsBehind p w a c → ((u : ℕ) → w u ≡ [])
+pub same_behind : (p : Program) (w : ℕ → List Kind) (a c : SourceState) → IsBehind p w a c → ((u : ℕ) → w u ≡ [])
     → a ≡ c
 same_behind p w a c b empty = λ i. record {
   table = b.table i;

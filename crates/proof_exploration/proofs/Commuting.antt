@@ -10,7 +10,7 @@ use Rattle.meaning.specs.Values.{Variables, with_variable}
 use Rattle.meaning.specs.Labels.{Action, End, Kind, Label, Alone, Stores, Forks, FindsFull, Claims, FindsClaimed, Joins}
 use Rattle.meaning.specs.Labels.{Enters, Resumes, Exits, Waits, Notifies, Broadcasts, Abandons, Ends}
 use Rattle.meaning.specs.Table.{Table, HeldBy}
-use Rattle.meaning.specs.Processes.{Process, Entering, Before, Suspended, Joining, Returning, Failing, Dying, Leaving}
+use Rattle.meaning.specs.Processes.{Process}
 use Rattle.meaning.specs.Processes.{Over, holds}
 use Rattle.meaning.specs.Offers.{Effect, Nothing, Puts, Writes, Makes}
 use Rattle.meaning.specs.Offers.{offer, TakesUp}
@@ -19,9 +19,9 @@ use Rattle.meaning.specs.Runs.{IsAction, Leads}
 use Rattle.meaning.proofs.Offered.{plain}
 use Rattle.meaning.proofs.Ends.{numbered, MakesOnlyForking, made_by, quiet_processes}
 use Rattle.meaning.proofs.Members.{IsIn}
-use Rattle.meaning.proofs.Discipline.{Moves, change_of, LabelFits, EffectFits, ActFits, WaitsAt}
+use Rattle.meaning.proofs.Discipline.{Moves, change_of, LabelFits, EffectFits, ActFits}
 use Rattle.meaning.proofs.Keeping.{Stands}
-use Rattle.meaning.proofs.Holding.{acted, acting, all_stand}
+use Rattle.meaning.proofs.Holding.{resumes_only, acted, acting, all_stand}
 use Rattle.meaning.proofs.Holders.{changes}
 use Rattle.proof_commutation.proofs.Behind.{act, made_next}
 use Rattle.proof_commutation.proofs.Following.{step_keeps}
@@ -30,19 +30,6 @@ use Rattle.proof_exploration.proofs.Tables.{table_after, Guard, Fit, split, allo
 use Rattle.proof_exploration.proofs.Tables.{calm_stays, stays_calm}
 use Rattle.proof_exploration.proofs.Locality.{offer_same}
 use Rattle.proof_exploration.proofs.Ending.{knows_over}
-
--- who waits can only resume
-resumes_only : (p : Program) (v : Variables) (b : Process) (c : Member) (l : Label) (e : Effect) (a : Process)
-    → WaitsAt c b → TakesUp (offer p v b) l e a → (m : ℕ) × (w : Bool) × (l ≡ Resumes m w)
-resumes_only p v (Suspended d f cs) c l e a is t = (d.monitor, t.0, t.1)
-resumes_only p v (Entering m f cs) c l e a is t = absurd is
-resumes_only p v (Before entered f cs) c l e a is t = absurd is
-resumes_only p v (Joining child into part f cs) c l e a is t = absurd is
-resumes_only p v (Returning z cs) c l e a is t = absurd is
-resumes_only p v (Failing fault entered f cs) c l e a is t = absurd is
-resumes_only p v (Dying cause ms) c l e a is t = absurd is
-resumes_only p v (Leaving z) c l e a is t = absurd is
-resumes_only p v (Over end) c l e a is t = absurd is
 
 fit_of : (q : ℕ) (hs ks : List ℕ) (l : Label) (b : Process) (T : Table)
     → ((m : ℕ) → IsIn hs m → T.hold m ≡ HeldBy q)

@@ -15,6 +15,7 @@ use Rattle.program.specs.WellFormed.{WellFormed}
 use Rattle.lowering.specs.Pieces.{code_of, marks_of}
 use Rattle.meaning.specs.Labels.{Kind, Kill, kind_of, Action}
 use Rattle.meaning.specs.Runs.{IsRun, Leads, IsStep as IsSourceStep}
+use Rattle.meaning.proofs.Led.{leads_on}
 use Rattle.meaning.specs.States.{SourceState, opening}
 use Rattle.proof_commutation.specs.Placed.{actions_of, actions_up_to}
 use Rattle.proof_thread.specs.Deferrals.{mark_of, deferred_by_step}
@@ -49,7 +50,7 @@ use Rattle.proof_simulation.proofs.Sourcing.{action}
 use Rattle.proof_simulation.proofs.Tracking.{tracks_stray, tracks_kill, tracks_later, opens_deferred, tracks_whole}
 use Rattle.proof_simulation.proofs.Tracking.{catches_up_deferred}
 use Rattle.proof_simulation.proofs.Tracking.{takes_visible_deferred, takes_visible_own}
-use Rattle.proof_simulation.proofs.Whole.{AllOwn, leads_on, come_along, come_pace, own_kinds, own_none}
+use Rattle.proof_simulation.proofs.Whole.{AllOwn, come_along, come_pace, own_kinds, own_none}
 use Rattle.proof_simulation.proofs.Whole.{none_from_outside}
 use Rattle.proof_simulation.proofs.Whole.{processes_append, threads_append, strays_of, one_stray, stray_told}
 use Rattle.proof_simulation.proofs.Whole.{kills_append, kills_of, one_kill}

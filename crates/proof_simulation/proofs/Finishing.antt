@@ -1,8 +1,7 @@
 -- All actions that wait may be taken, process by process.
-use Rattle.std.proofs.Common.{◌≡◌, ℕ, zero, suc, ◌<◌, ◌≤◌, List, [], ◌∷◌, Option, Some, None, refl}
-use Rattle.std.proofs.Common.{◌∙◌, subst, arith, inl, inr}
+use Rattle.std.proofs.Common.{◌≡◌, ℕ, zero, suc, List, [], ◌∷◌, Option, Some, None, refl}
+use Rattle.std.proofs.Common.{subst, arith, inl, inr}
 use Rattle.std.proofs.lemmas.Bool.{cases_eq, cases_lt}
-use Rattle.words.specs.Updates.{put}
 use Rattle.locals.specs.Threads.{Thread}
 use Rattle.machine.specs.States.{State}
 use Rattle.program.specs.Trees.{Program}
@@ -11,21 +10,19 @@ use Rattle.meaning.specs.Labels.{Action, Kind}
 use Rattle.meaning.specs.Processes.{Process}
 use Rattle.meaning.specs.Runs.{Leads}
 use Rattle.meaning.specs.States.{SourceState}
-use Rattle.proof_commutation.specs.Deferring.{IsBehind, LeadsDeferredAt}
+use Rattle.proof_commutation.specs.Deferring.{LeadsDeferredAt}
 use Rattle.proof_commutation.specs.Placed.{actions_of, actions_up_to}
-use Rattle.proof_commutation.proofs.Waiting.{at_equal, at_none}
+use Rattle.proof_commutation.proofs.Reordering.{Caught, emptied, emptied_above, emptied_below, catch_up_all}
+use Rattle.proof_commutation.proofs.Reordering.{same_behind}
+use Rattle.proof_commutation.proofs.Waiting.{at_none}
 use Rattle.proof_commutation.proofs.Behind as D
 use Rattle.protocol.specs.Points.{Point}
-use Rattle.words.proofs.Updates.{at_put, put_same, put_other}
 use Rattle.refinement.specs.Built.{build_of}
 use Rattle.proof_simulation.specs.Standing.{StandsAt}
 use Rattle.proof_simulation.specs.Standing as S
 use Rattle.proof_simulation.specs.Corresponding.{Corresponds}
 use Rattle.proof_simulation.specs.Tracking.{Tracks}
-use Rattle.proof_simulation.proofs.Local.{put_again}
 use Rattle.proof_simulation.proofs.Observing.{number_of}
-use Rattle.proof_simulation.proofs.Whole.{leads_on}
-use Rattle.proof_simulation.proofs.Worlds.{put_put}
 use Rattle.std.proofs.Common.{length, ◌+◌}
 use Rattle.refinement.specs.Pace.{is_action_of}
 use Rattle.proof_simulation.specs.Deferred.{AreOwn}
@@ -33,46 +30,6 @@ use Rattle.proof_simulation.proofs.Whole.{AllOwn}
 use Rattle.proof_simulation.proofs.Paces.{count_by-append}
 use Rattle.proof_simulation.proofs.Counting.{count, count_map, of_one, length_taken}
 use Rattle.std.proofs.Common.{ap, ◌++◌}
-
--- the actions of one process
-abbrev Caught : Program → SourceState → List Action → (ℕ → List Kind) → SourceState → Type 0
-Caught p a actions w c = (a' : SourceState) × Leads p a actions a' × IsBehind p w a' c
-
-catch_up : (p : Program) (ks : List Kind) (w : ℕ → List Kind) (a c : SourceState) (t : ℕ) → IsBehind p w a c
-    → w t ≡ ks → Caught p a (actions_of t ks) (put w t []) c
-catch_up p [] w a c t b e = (a, refl, subst (λ (f : ℕ → List Kind). IsBehind p f a c) (put_again w t [] e) b)
-catch_up p (k ∷ ks) w a c t b e =
-    let one = D.takes p w a c t k ks b e in
-    let more = catch_up p ks (put w t ks) one.0 c t one.2 (put_same w t ks) in
-    (more.0, (one.0, one.1, more.1), subst (λ (f : ℕ → List Kind). IsBehind p f more.0 c) (put_put w t ks []) more.2)
-
--- of processes 1 to n none waits
-abbrev emptied : ℕ → (ℕ → List Kind) → ℕ → List Kind
-emptied zero w = w
-emptied (suc n) w = put (emptied n w) (suc n) []
-
-emptied_above : (n : ℕ) (w : ℕ → List Kind) (u : ℕ) → n < u → emptied n w u ≡ w u
-emptied_above zero w u past = refl
-emptied_above (suc n) w u past =
-    put_other (emptied n w) (suc n) [] u (λ e. omega (arith, e, past)) ∙ emptied_above n w u (omega (arith, past))
-
-emptied_below : (n : ℕ) (w : ℕ → List Kind) (u : ℕ) → 0 < u → u ≤ n → emptied n w u ≡ []
-emptied_below zero w u low high = absurd (omega (arith, low, high))
-emptied_below (suc n) w u low high =
-    at_put (emptied n w) (suc n) [] u (λ (ks : List Kind). ks ≡ []) (λ e. refl)
-    (λ o. emptied_below n w u low (omega (arith, o, high)))
-
-catch_up_all : (p : Program) (n : ℕ) (w : ℕ → List Kind) (a c : SourceState) → IsBehind p w a c
-    → Caught p a (actions_up_to n w) (emptied n w) c
-catch_up_all p zero w a c b = (a, refl, b)
-catch_up_all p (suc n) w a c b =
-    let before : Caught p a (actions_up_to n w) (emptied n w) c = catch_up_all p n w a c b in
-    let last : Caught p before.0 (actions_of (suc n) (w (suc n))) (emptied (suc n) w) c =
-    catch_up p (w (suc n)) (emptied n w) before.0 c (suc n) before.2 (emptied_above n w (suc n) (omega arith)) in (
-      last.0,
-      leads_on p a before.0 last.0 (actions_up_to n w) (actions_of (suc n) (w (suc n))) before.1 last.1,
-      last.2,
-    )
 
 -- as many as wait
 up_counted : (n : ℕ) (w : ℕ → List Kind) (t : ℕ) → ((u : ℕ) → AreOwn (w u))
@@ -99,21 +56,6 @@ own_up : (n : ℕ) (w : ℕ → List Kind) → ((t : ℕ) → AreOwn (w t)) → 
 own_up zero w h = tt
 own_up (suc n) w h = own_both (actions_up_to n w) (actions_of (suc n) (w (suc n))) (own_up n w h)
     (own_of (suc n) (w (suc n)) (h (suc n)))
-
--- where nothing waits the states are one
-same_behind : (p : Program) (w : ℕ → List Kind) (a c : SourceState) → IsBehind p w a c → ((u : ℕ) → w u ≡ [])
-    → a ≡ c
-same_behind p w a c b empty = λ i. record {
-  table = b.table i;
-  variable = b.variables i;
-  process = λ u. at u i;
-  printed = b.printed i;
-}
-  where
-    at : (u : ℕ) → a.process u ≡ c.process u
-    at u = at_equal p u c.variable c.table (a.process u) (c.process u)
-        (subst (λ (ks : List Kind). LeadsDeferredAt p u c.variable c.table ks (a.process u) (c.process u)) (empty u)
-        (b.processes u))
 
 module _ (p : Program) (w : WellFormed p) (steps : ℕ) (s : State) (a : SourceState) (r : Tracks p w steps s a) where
   abbrev c : SourceState

@@ -15,6 +15,7 @@ use Rattle.meaning.specs.Labels.{Kind, Action}
 use Rattle.meaning.specs.Labels as L
 use Rattle.meaning.specs.States.{SourceState, opening}
 use Rattle.meaning.specs.Runs.{Leads}
+use Rattle.meaning.proofs.Led.{leads_on}
 use Rattle.words.proofs.Updates.{put_same}
 use Rattle.proof_thread.specs.Completing.{IsOwn}
 use Rattle.refinement.specs.Pace.{KeepsPace, stretch_length}
@@ -74,11 +75,6 @@ AllOwn (a ∷ as') = IsOwn a.kind × AllOwn as'
 pub all_own : (t : ℕ) (ks : List Kind) (as' : List Action) → AreOwn ks → AllOwn as' → AllOwn (map (act t) ks ++ as')
 all_own t [] as' h g = g
 all_own t (k ∷ ks) as' h g = (h.0, all_own t ks as' h.1 g)
-
-pub leads_on : (p : Program) (s mid s' : SourceState) (as' bs : List Action) → Leads p s as' mid → Leads p mid bs s'
-    → Leads p s (as' ++ bs) s'
-leads_on p s mid s' [] bs h g = subst (λ (x : SourceState). Leads p x bs s') (sym h) g
-leads_on p s mid s' (a ∷ as') bs h g = (h.0, h.1, leads_on p h.0 mid s' as' bs h.2 g)
 
 -- a process's own action is neither a stray nor a kill
 pub own_kinds : (k : Kind) → IsOwn k → (is_stray_kind k ≡ false) × (is_kill_kind k ≡ false)

@@ -1,7 +1,7 @@
 -- Calls are of pieces of the unit.
-use Rattle.std.proofs.Common.{◌≡◌, ℕ, zero, suc, ◌<◌, ◌≤◌, ◌+◌, List, [], ◌∷◌, ◌++◌, length, map, Option, Some}
+use Rattle.std.proofs.Common.{◌≡◌, ℕ, ◌<◌, ◌≤◌, ◌+◌, List, [], ◌∷◌, length, map, Option, Some}
 use Rattle.std.proofs.Common.{None}
-use Rattle.std.proofs.Common.{refl, subst, arith, length-append}
+use Rattle.std.proofs.Common.{refl, arith}
 use Rattle.std.proofs.Common.{slice_get}
 use Rattle.std.specs.Prelude.{option_map, option_to_list, option_and_then}
 use Rattle.std.specs.List.{All, flat_map}
@@ -21,7 +21,7 @@ use Rattle.types.specs.Pieces.{Piece, pieces}
 use Rattle.types.specs.Pieces.{first_piece, first_external}
 use Rattle.types.specs.Scope.{Scope, unless_declared, procedure_number, inner_procedure, external_procedure}
 use Rattle.types.specs.Scope.{own_procedure, first_found, callee_number, callee}
-use Rattle.callees.proofs.Few.{before_within, all_pieces}
+use Rattle.callees.proofs.Few.{members_within, before_within, all_pieces}
 use Rattle.callees.proofs.Found.{text_within, undeclared}
 
 summed : (k : ℕ) (o : Option ℕ) (n : ℕ) → option_map (λ i. k + i) o ≡ Some n → (i : ℕ) × (o ≡ Some i) × (k + i ≡ n)
@@ -127,18 +127,6 @@ from_within u n (q ∷ qs) h =
 -- the calls of a unit are among its pieces
 pub calls_within : (u : UnitTree) → Within (all_calls u) (length (pieces u))
 calls_within u = from_within u 0 (pieces u) (omega arith)
-
-members_within : (ts : List MonitorTree) (i : ℕ) (t : MonitorTree) → slice_get ts i ≡ Some t
-    → length t.members ≤ length (flat_map (λ m. m.members) ts)
-members_within [] i t e = let w : None ≡ Some t = e in cc
-members_within (x ∷ ts) zero t e =
-    let same : x ≡ t = cc in
-    let g = length-append x.members (flat_map (λ m. m.members) ts) in
-    subst (λ y. length y.members ≤ length (x.members ++ flat_map (λ m. m.members) ts)) same (omega arith)
-members_within (x ∷ ts) (suc i) t e =
-    let h = members_within ts i t e in
-    let g = length-append x.members (flat_map (λ m. m.members) ts) in
-    omega arith
 
 -- the members and procedures of a monitor are among all
 pub monitor_within : (u : UnitTree) (i : ℕ) (t : MonitorTree) → slice_get u.monitors i ≡ Some t
