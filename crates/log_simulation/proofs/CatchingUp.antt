@@ -95,7 +95,7 @@ begins_paying p t count f = record {
 
 module _ (p : Program) (t : ℕ) (g : Progress) (ahead : SourceState) (count taken : ℕ) (now : Follower)
     (paying : IsPaying p t g ahead count taken now) where
-  -- one more waits, and is paid
+  -- one more is deferred, and is paid
   pub catches_up_one : taken < count → said_by now.checked.now ≡ p → (b : Bool) (new : Follower)
       → TakesInternal now t b new
       → (b ≡ true) × IsPaying p t g ahead count (taken + 1) new

@@ -117,7 +117,7 @@ module _ (p : Program) (k k' : ConcreteState) (t : ℕ) (event : Event) (done ra
     visible Breaks s' h g = absurd g
     visible Rests s' h g = absurd g
 
-    -- which action waits behind a request is told by the value of its event
+    -- which action is deferred behind a request is told by the value of its event
     deferral_request : (request : Request) (go : ℕ → Thread) (answer : ℕ) (mid : State)
         → Serves t request s woken answer mid → Gives (Asks request go)
         → deferred_by_request mark request answer ≡ deferred_by_request mark request event.value

@@ -379,9 +379,9 @@ module _ (p : Program) where
       (tracks_stray p w (length h.steps) (state_of k) g.source r.tracks t event.value d.1.sleeps) in
       record {
         ahead = r.tracks.ahead;
-        behind = subst (λ (f : ℕ → List Kind). IsBehind p f g.source r.tracks.ahead) r.waits r.tracks.behind;
+        behind = subst (λ (f : ℕ → List Kind). IsBehind p f g.source r.tracks.ahead) r.deferred r.tracks.behind;
         step = subst (λ (f : ℕ → List Kind). IsSourceStep p (take_deferred p t (f t) g.source) (act t (Stray c))
-            (after_stray t (Some c) (take_deferred p t (f t) g.source))) r.waits found.1;
+            (after_stray t (Some c) (take_deferred p t (f t) g.source))) r.deferred found.1;
       }
 
   -- and of one whose thread is killed
@@ -403,10 +403,10 @@ module _ (p : Program) where
       let told = subst (λ b. TracksKill p w (length h.steps) (state_of k) t g.source r.tracks.deferred b
       r.tracks.ties.world) (r.raises t) n in
       let found = subst (λ (f : ℕ → List Kind). TracksKill p w (length h.steps) (state_of k) t g.source f
-      (g.raised t) r.tracks.ties.world) r.waits told in
+      (g.raised t) r.tracks.ties.world) r.deferred told in
       subst (λ (x : State). IsKillDue p x t (killed_last p (state_of k).word t) g) (sym st.after) (record {
         ahead = r.tracks.ahead;
-        behind = subst (λ (f : ℕ → List Kind). IsBehind p f g.source r.tracks.ahead) r.waits r.tracks.behind;
+        behind = subst (λ (f : ℕ → List Kind). IsBehind p f g.source r.tracks.ahead) r.deferred r.tracks.behind;
         step = found.1;
       })
     where

@@ -124,12 +124,12 @@ pub locally : (p : Program) (n more t : ℕ) (origin : Thread) (g : Progress) (r
     → Records n g r → last.steps ≡ n + more → n + more < 2 ^ 32 → last.follower ≡ r.follower → last.raised ≡ r.raised
     → CountsDeferred last.deferred.items (put g.deferred t (deferred_locally p t more origin (g.deferred t)))
     → Records (n + more) (progress_locally p t more origin g) last
-locally p n more t origin g r last h steps few follower raised waits = record {
+locally p n more t origin g r last h steps few follower raised deferred = record {
   few = few;
   counted = steps;
   matches = subst (λ (f : Follower). Matches f (progress_locally p t more origin g)) (sym follower)
       (record { actions = h.matches.actions; source = h.matches.source });
-  waits = waits;
+  deferred = waits;
   raised = still_raised r last g.raised raised h.raised;
   bounded = bounded_put g.deferred t n more _ h.bounded
       (let long = few_deferred p t more origin (g.deferred t) in let less = h.bounded t in omega (arith, long, less));
@@ -157,7 +157,7 @@ module _ (p : Program) (n t v : ℕ) (here : Thread) (word : ℕ → ℕ) (k : C
         matches = subst (λ (f : Follower). Matches f (progress_step p false action raising (machine_state k) t g))
             (sym follower)
             (record { actions = h.matches.actions; source = h.matches.source });
-        waits = waits;
+        deferred = waits;
         raised = raised;
         bounded = bounded_put g.deferred t n 1 _ h.bounded
             (let long = then_few action (g.deferred t) in let less = h.bounded t in omega (arith, long, less));
@@ -174,7 +174,7 @@ module _ (p : Program) (n t v : ℕ) (here : Thread) (word : ℕ → ℕ) (k : C
         few = few;
         counted = steps;
         matches = record { actions = matches.actions; source = matches.source };
-        waits = waits;
+        deferred = waits;
         raised = raised;
         bounded = bounded_put g.deferred t n 1 [] bounded (omega arith);
       })
@@ -190,7 +190,7 @@ module _ (p : Program) (n t a : ℕ) (g : Progress) where
         few = few;
         counted = steps;
         matches = subst (λ (f : Follower). Matches f g) (sym follower) h.matches;
-        waits = subst (λ (w : List Deferred). CountsDeferred w g.deferred) (sym (ap (λ v. v.items) deferred)) h.waits;
+        deferred = subst (λ (w : List Deferred). CountsDeferred w g.deferred) (sym (ap (λ v. v.items) deferred)) h.deferred;
         raised = still_raised r last g.raised raised h.raised;
         bounded = λ u. let less = h.bounded u in omega (arith, less);
       })
@@ -205,7 +205,7 @@ module _ (p : Program) (n t a : ℕ) (g : Progress) where
         few = few;
         counted = steps;
         matches = matches;
-        waits = waits;
+        deferred = waits;
         raised = still_raised r last g.raised raised h.raised;
         bounded = bounded_put g.deferred t n 1 [] h.bounded (omega arith);
       })
@@ -239,7 +239,7 @@ killed_so p n t s m g last bounded steps few matches waits raised = record {
   few = few;
   counted = steps;
   matches = matches;
-  waits = waits;
+  deferred = waits;
   raised = raised;
   bounded = bounded_put g.deferred t n 1 [] bounded (omega arith);
 }
@@ -251,7 +251,7 @@ nothing_so n g r last h steps few follower deferred raised = record {
   few = few;
   counted = steps;
   matches = subst (λ (f : Follower). Matches f g) (sym follower) h.matches;
-  waits = subst (λ (w : List Deferred). CountsDeferred w g.deferred) (sym (ap (λ v. v.items) deferred)) h.waits;
+  deferred = subst (λ (w : List Deferred). CountsDeferred w g.deferred) (sym (ap (λ v. v.items) deferred)) h.deferred;
   raised = still_raised r last g.raised raised h.raised;
   bounded = λ u. let less = h.bounded u in omega (arith, less);
 }
@@ -331,10 +331,10 @@ module _ (p : Program) where
       let i = subst (λ (x : Progress). IsReached p w (length c.steps) (machine_state k) x) c.comes
       (reached p w c.steps (machine_state k) c.run short) in
       let g = along.source in
-      let behind = subst (λ (x : ℕ → List Kind). IsBehind p x g.source i.tracks.ahead) i.waits i.tracks.behind in
+      let behind = subst (λ (x : ℕ → List Kind). IsBehind p x g.source i.tracks.ahead) i.deferred i.tracks.behind in
       let e = explained_so p w c.steps (machine_state k) c.run short in
       let same : actions ≡ explanation p c.steps (machine_state k) c.run =
-      is ∙ (rest g i.tracks.ahead h.matches h.waits behind).actions ∙ rest_actions (length k.threads) g
+      is ∙ (rest g i.tracks.ahead h.matches h.deferred behind).actions ∙ rest_actions (length k.threads) g
       ∙ ap (λ (x : Progress). x.actions ++ actions_up_to (length k.threads) x.deferred) (sym c.comes) in
       record {
         steps = c.steps;
@@ -360,7 +360,7 @@ local_more p image t n o h f marks own same goes =
     ∙ sym (ap (λ (x : Option Thread). deferred_at (marks_of p) x ks) there)
     ∙ ap (λ j. deferred_locally p t j o (f t)) one)
 
--- what waits behind a step, as the code tells it
+-- what is deferred behind a step, as the code tells it
 pub deferral_told : (p : Program) (t v : ℕ) (here : Thread) (marks : List Mark) (mark : Option Mark)
     (step : NextStep) (l : Deferral) → marks ≡ marks_of p → mark ≡ mark_of marks here
     → step ≡ next_step_of (look (code_of p) t here) → l ≡ deferral_of (deferred_by_next_step mark step v)

@@ -27,7 +27,7 @@ pub when_false : (A B : Type 0) (b : Bool) → MatchBool b A B → b ≡ false �
 when_false A B true h e = absurd cc
 when_false A B false h e = h
 
--- one action more waits at most
+-- one action more is deferred at most
 pub then_few : (o : Option Kind) (ks : List Kind) → length (deferred_then o ks) ≤ length ks + 1
 then_few None ks = omega arith
 then_few (Some k) ks = by_test (is_failing k && has_failed ks)
@@ -48,7 +48,7 @@ few_deferred p t (suc n) x ks =
     let more = at_few (marks_of p) (local_after (code_of p) t n x) (deferred_locally p t n x ks) in
     omega (arith, before, more)
 
--- what waits behind a step is told by what the thread comes to
+-- what is deferred behind a step is told by what the thread comes to
 deferral_request : (mark : Option Mark) (request : Request) (v : ℕ)
     → deferred_by_next_step mark (request_step request) v ≡ deferred_by_request mark request v
 deferral_request mark (AskFork entry arguments has_room) v = refl
@@ -90,7 +90,7 @@ nothing_more x ks (Some k) says is = by_test (is_failing k) is
     by_test true e = absurd cc
     by_test false e = absurd cc
 
--- a fault waits once
+-- a fault is deferred once
 pub fault_again : (x : Deferred) (ks : List Kind) (o : Option Kind) → Says x ks → x.has_failed ≡ true
     → deferral.Fault ≡ deferral_of o → Says x (deferred_then o ks)
 fault_again x ks None says failed is = absurd cc
@@ -166,7 +166,7 @@ deferred_past ws f t ks waits none u x h =
     nowhere : slice_get ws t ≡ Some x → ⊥
     nowhere there = let both : Some x ≡ None = sym there ∙ none in absurd cc
 
--- nothing waits of any process
+-- nothing is deferred of any process
 pub none_deferred : (ws : List Deferred) (x : Deferred) → CountsDeferred ws (λ t. []) → Says x []
     → CountsDeferred (ws ++ x ∷ []) (λ t. [])
 none_deferred [] x waits says zero y h = let e : x ≡ y = cc in subst (λ (i : Deferred). Says i []) e says

@@ -34,7 +34,7 @@ pub record Records (steps : ℕ) (g : Progress) (r : Recorder) : Type 0 where
   pub few : steps < 2 ^ 32
   pub counted : r.steps ≡ steps
   pub matches : Matches r.follower g
-  pub waits : CountsDeferred r.deferred.items g.deferred
+  pub deferred : CountsDeferred r.deferred.items g.deferred
   pub raised : Raises r.raised.items g.raised
   pub bounded : (t : ℕ) → length (g.deferred t) ≤ steps
 

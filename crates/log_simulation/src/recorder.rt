@@ -129,7 +129,7 @@ impl<'a> Recorder<'a> {
     fn delay(&mut self, t: u32, deferral: Deferral)
         ensures kept { self.new ≡ record self.old { deferred = self.new.deferred } }
         ensures places { length self.new.deferred.items ≡ length self.old.deferred.items }
-        ensures waits { (f : ℕ → List Kind) (o : Option Kind)
+        ensures defers { (f : ℕ → List Kind) (o : Option Kind)
             → CountsDeferred self.old.deferred.items f → deferral ≡ deferral_of o
             → length (f t) + 1 < 2 ^ 32
             → CountsDeferred self.new.deferred.items (put f t (deferred_then o (f t))) }
@@ -146,7 +146,7 @@ impl<'a> Recorder<'a> {
     fn take_deferred(&mut self, t: u32) -> u32
         ensures kept { self.new ≡ record self.old { deferred = self.new.deferred } }
         ensures places { length self.new.deferred.items ≡ length self.old.deferred.items }
-        ensures waits { (f : ℕ → List Kind) → CountsDeferred self.old.deferred.items f
+        ensures defers { (f : ℕ → List Kind) → CountsDeferred self.old.deferred.items f
             → t < length self.old.deferred.items
             → (result ≡ length (f t)) × CountsDeferred self.new.deferred.items (put f t []) }
     {
@@ -191,7 +191,7 @@ impl<'a> Recorder<'a> {
             (local_step image.now t here.old ≡ None) }
         ensures kept { self.new ≡ record self.old { deferred = self.new.deferred } }
         ensures places { length self.new.deferred.items ≡ length self.old.deferred.items }
-        ensures waits { (f : ℕ → List Kind) → CountsDeferred self.old.deferred.items f
+        ensures defers { (f : ℕ → List Kind) → CountsDeferred self.old.deferred.items f
             → length (f t) + 1 < 2 ^ 32
             → CountsDeferred self.new.deferred.items
             (put f t (deferred_then (deferred_by_mark (mark_of self.old.marks.items here.old))

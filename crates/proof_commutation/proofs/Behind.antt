@@ -1,4 +1,4 @@
--- A state in which actions still wait, and the actions of either state.
+-- A state in which actions are still deferred, and the actions of either state.
 use Rattle.std.proofs.Common.{◌≡◌, ◌≢◌, ℕ, ◌+◌, List, [], ◌∷◌, ◌++◌, ◌↔◌, Option, Some, None, refl, sym, ap, ◌∙◌, subst}
 use Rattle.std.proofs.Common.{inl, inr}
 use Rattle.words.specs.Updates.{put}
@@ -14,8 +14,8 @@ use Rattle.meaning.specs.Runs.{IsAction, IsStep}
 use Rattle.meaning.proofs.Offered.{IsPlain, IsQuiet, plain}
 use Rattle.proof_commutation.specs.Deferring.{MayDefer, LeadsDeferredAt, IsBehind}
 use Rattle.words.proofs.Updates.{at_put2}
-use Rattle.proof_commutation.proofs.Waiting.{at_more, at_same, at_self, at_none, First, at_first, over_ahead}
-use Rattle.proof_commutation.proofs.Waiting.{over_behind}
+use Rattle.proof_commutation.proofs.Deferred.{at_more, at_same, at_self, at_none, First, at_first, over_ahead}
+use Rattle.proof_commutation.proofs.Deferred.{over_behind}
 use Rattle.proof_commutation.proofs.Keeping.{grows, Stays, at_still}
 
 abbrev pub act : ℕ → Kind → Action
@@ -30,13 +30,13 @@ module _ (p : Program) where
     processes = λ t. at_self p t c.variable c.table (c.process t);
   }
 
-  -- one action more of process t waits
-  pub waits : (deferred : ℕ → List Kind) (a c c' : SourceState) (t : ℕ) (q r : Process) (label : Label)
+  -- one action more of process t is deferred
+  pub defers : (deferred : ℕ → List Kind) (a c c' : SourceState) (t : ℕ) (q r : Process) (label : Label)
       → IsBehind p deferred a c → c.process t ≡ Some q → MayDefer p t c.variable c.table q label r
       → c'.table ≡ c.table → c'.variable ≡ c.variable → c'.printed ≡ c.printed
       → c'.process ≡ put c.process t (Some r)
       → IsBehind p (put deferred t (deferred t ++ kind_of label ∷ [])) a c'
-  waits deferred a c c' t q r label b there may table variable printed process = record {
+  defers deferred a c c' t q r label b there may table variable printed process = record {
     table = b.table ∙ sym table;
     variables = b.variables ∙ sym variable;
     printed = b.printed ∙ sym printed;
@@ -60,7 +60,7 @@ module _ (p : Program) where
           (sym e) mine)
           (λ o. b.processes u)
 
-  -- the first that waits of a process is possible behind
+  -- the first that is deferred of a process is possible behind
   pub takes : (deferred : ℕ → List Kind) (a c : SourceState) (t : ℕ) (k : Kind) (ks : List Kind)
       → IsBehind p deferred a c → deferred t ≡ k ∷ ks
       → (a' : SourceState) × IsStep p a (act t k) a' × IsBehind p (put deferred t ks) a' c
@@ -196,7 +196,7 @@ module _ (p : Program) (deferred : ℕ → List Kind) (a c c' : SourceState) (t 
       (at_still p u c.variable c'.variable c.table c'.table (stays u o) (deferred u) (a.process u) (c.process u)
       (b.processes u)))
 
-  -- what a process does of which nothing waits is possible behind, and nothing else changes
+  -- what a process does of which nothing is deferred is possible behind, and nothing else changes
   pub goes_on : (a' : SourceState) × IsStep p a (act t k) a' × IsBehind p deferred a' c'
   goes_on = (
     a',

@@ -1,4 +1,4 @@
--- Each step of a run is possible in the state behind, where nothing waits of its process.
+-- Each step of a run is possible in the state behind, where nothing is deferred of its process.
 use Rattle.std.proofs.Common.{◌≡◌, ◌≢◌, ℕ, ◌+◌, List, [], ◌∷◌, ◌++◌, Option, Some, None, refl, sym}
 use Rattle.std.proofs.Common.{ap, ◌∙◌, subst, arith, inl, inr, ◌⊎◌, Contains}
 use Rattle.std.proofs.lemmas.Bool.{cases_eq}
@@ -19,7 +19,7 @@ use Rattle.meaning.proofs.Led.{leads_more}
 use Rattle.meaning.proofs.Holders.{held, holder, changes}
 use Rattle.proof_commutation.specs.Deferring.{LeadsDeferredAt, IsBehind}
 use Rattle.words.proofs.Updates.{at_put2, put_other}
-use Rattle.proof_commutation.proofs.Waiting.{at_same}
+use Rattle.proof_commutation.proofs.Deferred.{at_same}
 use Rattle.proof_commutation.proofs.Keeping.{Stays, same_grows, at_still}
 use Rattle.proof_commutation.proofs.Behind.{act, made_next, goes_on}
 
@@ -169,7 +169,7 @@ module _ (p : Program) (wf : WellFormed p) (actions : List Action) (c : SourceSt
       a' : SourceState
       a' = record c' { process = put a.process t dying }
 
-  -- a step of which process nothing waits is possible behind
+  -- a step of whose process nothing is deferred is possible behind
   pub follows : IsStep p c (act t k) c' → Next
   follows (inl x) =
       goes_on p deferred a c c' t k b empty x

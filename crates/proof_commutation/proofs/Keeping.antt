@@ -1,4 +1,4 @@
--- What waits of a process may wait behind the actions of others too.
+-- What is deferred of a process may be deferred behind the actions of others too.
 use Rattle.std.proofs.Common.{◌≡◌, ℕ, ◌+◌, ◌≤◌, true, List, [], ◌∷◌, Option, Some, None, refl, sym, ap}
 use Rattle.std.proofs.Common.{◌∙◌, subst, arith}
 use Rattle.std.proofs.lemmas.Bool.{false≢true}
@@ -72,13 +72,13 @@ module _ (p : Program) (u : ℕ) (v v' : Variables) (T T' : Table) (s : Stays u 
     goes_on = may.goes_on;
   }
 
-  waits_still : (ks : List Kind) (q r : Process) → LeadsDeferred p u v T ks q r → LeadsDeferred p u v' T' ks q r
-  waits_still [] q r w = w
-  waits_still (k ∷ ks) q r w = (w.0, w.1, w.2, may_still q w.1 w.0 w.3, waits_still ks w.1 r w.4)
+  deferred_still : (ks : List Kind) (q r : Process) → LeadsDeferred p u v T ks q r → LeadsDeferred p u v' T' ks q r
+  deferred_still [] q r w = w
+  deferred_still (k ∷ ks) q r w = (w.0, w.1, w.2, may_still q w.1 w.0 w.3, deferred_still ks w.1 r w.4)
 
   pub at_still : (ks : List Kind) (x y : Option Process) → LeadsDeferredAt p u v T ks x y
       → LeadsDeferredAt p u v' T' ks x y
   at_still ks None None w = w
   at_still ks None (Some r) w = absurd w
   at_still ks (Some q) None w = absurd w
-  at_still ks (Some q) (Some r) w = waits_still ks q r w
+  at_still ks (Some q) (Some r) w = deferred_still ks q r w

@@ -1,4 +1,4 @@
-pub mod Waiting
+pub mod Deferred
 pub mod Keeping
 pub mod Behind
 pub mod Following

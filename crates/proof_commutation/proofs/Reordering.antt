@@ -1,4 +1,4 @@
--- The actions of a run, where those that may wait do.
+-- The actions of a run, where those that may be deferred are.
 use Rattle.std.proofs.Common.{◌≡◌, ◌≢◌, ℕ, zero, suc, ◌≤◌, ◌<◌, Bool, true, false, List, [], ◌∷◌, ◌++◌, Some}
 use Rattle.std.proofs.Common.{None, refl, sym, ap, ◌∙◌, subst, arith, inl, inr, if◌then◌else◌}
 use Rattle.std.proofs.lemmas.Bool.{cases_eq, cases_lt}
@@ -16,8 +16,8 @@ use Rattle.proof_commutation.specs.Deferring.{LeadsDeferredAt, IsBehind}
 use Rattle.proof_commutation.specs.Placed.{Marked, action_of, actions_of, actions_up_to, placed_behind, Defers}
 use Rattle.proof_commutation.specs.Placed.{LeadsMarked}
 use Rattle.words.proofs.Updates.{at_put, put_same, put_other, put_again, put_itself}
-use Rattle.proof_commutation.proofs.Waiting.{at_equal, at_none}
-use Rattle.proof_commutation.proofs.Behind.{act, waits, takes}
+use Rattle.proof_commutation.proofs.Deferred.{at_equal, at_none}
+use Rattle.proof_commutation.proofs.Behind.{act, defers, takes}
 use Rattle.proof_commutation.proofs.Following.{follows, no_zero}
 
 behind_same : (p : Program) (w w' : ℕ → List Kind) (a c : SourceState) → ((u : ℕ) → w u ≡ w' u) → IsBehind p w a c
@@ -30,11 +30,11 @@ behind_same p w w' a c same b = record {
       (b.processes u);
 }
 
--- some actions lead from a state to one in which these wait still
+-- some actions lead from a state to one in which these are deferred still
 abbrev pub Caught : Program → SourceState → List Action → (ℕ → List Kind) → SourceState → Type 0
 Caught p a actions w c = (a' : SourceState) × Leads p a actions a' × IsBehind p w a' c
 
--- all that waits of a process is done
+-- all that is deferred of a process is done
 pub catch_up : (p : Program) (ks : List Kind) (w : ℕ → List Kind) (a c : SourceState) (t : ℕ) → IsBehind p w a c
     → w t ≡ ks → Caught p a (actions_of t ks) (put w t []) c
 catch_up p [] w a c t b is = (a, refl, behind_same p w (put w t []) a c (λ u. sym (put_itself w t [] u is)) b)
@@ -48,7 +48,7 @@ catch_up p (k ∷ ks) w a c t b is =
       behind_same p (put (put w t ks) t []) (put w t []) rest.0 c (put_again w t ks []) rest.2,
     )
 
--- nothing waits of processes 1 to n
+-- nothing is deferred of processes 1 to n
 abbrev pub emptied : ℕ → (ℕ → List Kind) → ℕ → List Kind
 emptied zero w = w
 emptied (suc n) w = put (emptied n w) (suc n) []
@@ -74,7 +74,7 @@ catch_up_all p (suc n) w a c b =
     (emptied_above n w (suc n) (omega arith)) in
     (last.0, leads_on p a before.0 last.0 (actions_up_to n w) (actions_of (suc n) (w (suc n))) before.1 last.1, last.2)
 
--- where nothing waits the states are one
+-- where nothing is deferred the states are one
 pub same_behind : (p : Program) (w : ℕ → List Kind) (a c : SourceState) → IsBehind p w a c → ((u : ℕ) → w u ≡ [])
     → a ≡ c
 same_behind p w a c b empty = λ i. record {
@@ -89,7 +89,7 @@ same_behind p w a c b empty = λ i. record {
         (subst (λ ks. LeadsDeferredAt p u c.variable c.table ks (a.process u) (c.process u)) (empty u) (b.processes u))
 
 module _ (p : Program) (wf : WellFormed p) where
-  -- what waits at the end leads to the state in which nothing waits
+  -- what is deferred at the end leads to the state in which nothing is
   ends : (actions : List Action) (w : ℕ → List Kind) (a s : SourceState) → Leads p (opening p) actions s
       → IsBehind p w a s → Leads p a (actions_up_to s.table.made w) s
   ends actions w a s led b = subst (λ x. Leads p a (actions_up_to s.table.made w) x)
@@ -115,13 +115,13 @@ module _ (p : Program) (wf : WellFormed p) where
         | inr o ↦ made u o
       ]
 
-  -- an action that may wait does
+  -- an action that may be deferred is
   defers : (w : ℕ → List Kind) (a c mid : SourceState) (x : Marked) → IsBehind p w a c
       → IsStep p c (action_of x) mid → Defers p c x
       → IsBehind p (put w x.process (w x.process ++ x.kind ∷ [])) a mid
   defers w a c mid x b step d =
       subst (λ k. IsBehind p (put w x.process (w x.process ++ k ∷ [])) a mid) (sym d.named)
-      (waits p w a c mid x.process d.before d.after d.label b d.stands d.may (ap (λ s. s.table) same)
+      (defers p w a c mid x.process d.before d.after d.label b d.stands d.may (ap (λ s. s.table) same)
       (ap (λ s. s.variable) same) (ap (λ s. s.printed) same) (ap (λ s. s.process) same))
     where
       after : SourceState
@@ -145,7 +145,7 @@ module _ (p : Program) (wf : WellFormed p) where
       same : mid ≡ after
       same = step_once p (action_of x) c mid after step (inl alone)
 
-  -- an action that doesn't wait comes behind what waits of its process
+  -- an action that isn't deferred comes behind what is deferred of its process
   comes : (actions : List Action) (w : ℕ → List Kind) (a c mid s : SourceState) (x : Marked) (ys : List Action)
       → Leads p (opening p) actions c → IsBehind p w a c → IsStep p c (action_of x) mid
       → ((a' : SourceState) → IsBehind p (put w x.process []) a' mid → Leads p a' ys s)
@@ -161,8 +161,8 @@ module _ (p : Program) (wf : WellFormed p) where
 
   either : (mark : Bool) (xs ys : List Action) (a s : SourceState) → (mark ≡ true → Leads p a xs s) → Leads p a ys s
       → Leads p a (if mark then xs else ys) s
-  either true xs ys a s waits now = waits refl
-  either false xs ys a s waits now = now
+  either true xs ys a s later now = later refl
+  either false xs ys a s later now = now
 
   pub placed_leads : (xs : List Marked) (actions : List Action) (w : ℕ → List Kind) (a c s : SourceState)
       → Leads p (opening p) actions c → IsBehind p w a c → LeadsMarked p c xs s
@@ -173,7 +173,7 @@ module _ (p : Program) (wf : WellFormed p) where
   placed_leads (x ∷ xs) actions w a c s led b marked =
       let more : Leads p (opening p) (actions ++ action_of x ∷ []) marked.0 =
       leads_more p (opening p) c marked.0 actions (action_of x) led marked.1 in
-      either x.waits (placed_behind s.table.made (put w x.process (w x.process ++ x.kind ∷ [])) xs)
+      either x.deferred (placed_behind s.table.made (put w x.process (w x.process ++ x.kind ∷ [])) xs)
       (actions_of x.process (w x.process) ++ action_of x ∷ placed_behind s.table.made (put w x.process []) xs) a s
       (λ is. placed_leads xs (actions ++ action_of x ∷ []) (put w x.process (w x.process ++ x.kind ∷ [])) a marked.0 s
       more (defers w a c marked.0 x b marked.1 (marked.2 is)) marked.3)

@@ -61,9 +61,9 @@ module _ (n t : ℕ) (low : 0 < t) (high : t ≤ n) where
   abbrev rest : List Marked → List Kind
   rest xs = kinds_of t (map action_of xs)
 
-  waited : (w : ℕ → List Kind) (x : Marked) (xs : List Marked)
+  kinds_so_far : (w : ℕ → List Kind) (x : Marked) (xs : List Marked)
       → put w x.process (w x.process ++ x.kind ∷ []) t ++ rest xs ≡ w t ++ rest (x ∷ xs)
-  waited w x xs = elim (cases_eq x.process t) [
+  kinds_so_far w x xs = elim (cases_eq x.process t) [
     | inl e ↦ ap (λ l. l ++ rest xs)
         (subst (λ u. put w x.process (w x.process ++ x.kind ∷ []) u ≡ w u ++ x.kind ∷ []) e
         (put_same w x.process (w x.process ++ x.kind ∷ [])))
@@ -73,7 +73,7 @@ module _ (n t : ℕ) (low : 0 < t) (high : t ≤ n) where
         ∙ ap (λ l. w t ++ l) (sym (kinds_else t (action_of x) (map action_of xs) o))
   ]
 
-  -- where x comes now, behind what waits of its process, and later actions as these
+  -- where x comes now, behind what is deferred of its process, and later actions as these
   came : (w : ℕ → List Kind) (x : Marked) (xs : List Marked) (ys : List Action)
       → kinds_of t ys ≡ put w x.process [] t ++ rest xs
       → kinds_of t (actions_of x.process (w x.process) ++ action_of x ∷ ys) ≡ w t ++ rest (x ∷ xs)
@@ -96,8 +96,8 @@ module _ (n t : ℕ) (low : 0 < t) (high : t ≤ n) where
   pub same_kinds : (w : ℕ → List Kind) (xs : List Marked) → kinds_of t (placed_behind n w xs) ≡ w t ++ rest xs
   same_kinds w [] = kinds_below n t w low high ∙ sym (append-nil (w t))
   same_kinds w (x ∷ xs) =
-      either x.waits (placed_behind n (put w x.process (w x.process ++ x.kind ∷ [])) xs)
+      either x.deferred (placed_behind n (put w x.process (w x.process ++ x.kind ∷ [])) xs)
       (actions_of x.process (w x.process) ++ action_of x ∷ placed_behind n (put w x.process []) xs)
       (w t ++ rest (x ∷ xs))
-      (same_kinds (put w x.process (w x.process ++ x.kind ∷ [])) xs ∙ waited w x xs)
+      (same_kinds (put w x.process (w x.process ++ x.kind ∷ [])) xs ∙ kinds_so_far w x xs)
       (came w x xs (placed_behind n (put w x.process []) xs) (same_kinds (put w x.process []) xs))

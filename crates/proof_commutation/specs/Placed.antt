@@ -12,7 +12,7 @@ use Rattle.proof_commutation.specs.Deferring.{MayDefer}
 pub record Marked : Type 0 where
   pub process : ℕ
   pub kind : Kind
-  pub waits : Bool
+  pub deferred : Bool
 
 -- the action alone
 abbrev pub action_of : Marked → Action
@@ -32,7 +32,7 @@ actions_up_to (suc n) deferred = actions_up_to n deferred ++ actions_of (suc n) 
 abbrev pub placed_behind : (n : ℕ) → (deferred : ℕ → List Kind) → List Marked → List Action
 placed_behind n deferred [] = actions_up_to n deferred
 placed_behind n deferred (x ∷ xs) =
-    if x.waits then placed_behind n (put deferred x.process (deferred x.process ++ x.kind ∷ [])) xs
+    if x.deferred then placed_behind n (put deferred x.process (deferred x.process ++ x.kind ∷ [])) xs
     else actions_of x.process (deferred x.process) ++ action_of x ∷ placed_behind n (put deferred x.process []) xs
 
 -- the run reordered, where there are n processes and nothing is deferred at first
@@ -57,4 +57,4 @@ pub record Defers (p : Program) (s : SourceState) (x : Marked) : Type 0 where
 abbrev pub LeadsMarked : Program → SourceState → List Marked → SourceState → Type 0
 LeadsMarked p s [] s' = s ≡ s'
 LeadsMarked p s (x ∷ xs) s' =
-    (mid : SourceState) × IsStep p s (action_of x) mid × (x.waits ≡ true → Defers p s x) × LeadsMarked p mid xs s'
+    (mid : SourceState) × IsStep p s (action_of x) mid × (x.deferred ≡ true → Defers p s x) × LeadsMarked p mid xs s'

@@ -14,7 +14,7 @@ ghost use Rattle.proof_commutation.specs.Deferring.{IsBehind, MayDefer};
 /// where it is in the one ahead; and the same processes are over in both.
 pub fn deferral_laws()
     ensures begins { (p : Program) (c : SourceState) → IsBehind p (λ t. []) c c }
-    ensures waits { (p : Program) (deferred : ℕ → List Kind)
+    ensures defers { (p : Program) (deferred : ℕ → List Kind)
         (a c c' : SourceState) (t : ℕ) (q r : Process)
         (label : Label)
         → IsBehind p deferred a c → c.process t ≡ Some q → MayDefer p t c.variable c.table q label r

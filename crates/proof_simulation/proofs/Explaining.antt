@@ -148,8 +148,8 @@ module _ (p : Program) (w : WellFormed p) where
     owes e =
         let o = on.1 e in
         let same = subst (λ (f : ℕ → List Kind). (i : HasDeferred p w (suc taken) s' t g.source (f t))
-        × (i.deferred ≡ r.tracks.deferred) × RaisedSo r.tracks.ties.world i.ties.world t has) r.waits o in
-        (same.0, same.1 ∙ r.waits, same.2)
+        × (i.deferred ≡ r.tracks.deferred) × RaisedSo r.tracks.ties.world i.ties.world t has) r.deferred o in
+        (same.0, same.1 ∙ r.deferred, same.2)
 
     whole_due : visible_step p s.word t looks answer ≡ true → IsDue p s' t g
     whole_due e =
@@ -175,7 +175,7 @@ module _ (p : Program) (w : WellFormed p) where
           record {
             run = r.run;
             tracks = n.0;
-            waits = n.1 ∙ ap (λ (f : ℕ → List Kind). put f t (deferred_then deferral (f t))) r.waits;
+            deferred = n.1 ∙ ap (λ (f : ℕ → List Kind). put f t (deferred_then deferral (f t))) r.deferred;
             raises = raised_so n.0.ties.world n.2 false e;
           },
           λ test none. refl,
@@ -183,7 +183,7 @@ module _ (p : Program) (w : WellFormed p) where
         )
     by_visible true e =
         let ks = g.deferred t in
-        let own : AreOwn ks = subst (λ (f : ℕ → List Kind). AreOwn (f t)) r.waits (r.tracks.own t) in
+        let own : AreOwn ks = subst (λ (f : ℕ → List Kind). AreOwn (f t)) r.deferred (r.tracks.own t) in
         let o = owes e in
         let paying = pay_all (suc taken) s' t ks g.source o.0 in
         let a = take_deferred p t ks g.source in
@@ -206,7 +206,7 @@ module _ (p : Program) (w : WellFormed p) where
             run = leads_on p (opening p) a there (g.actions ++ actions_of t ks)
                 (actions_of t (next_kinds (next_visible p s' t a))) caught_up_run led;
             tracks = next.0;
-            waits = next.1 ∙ paying.1.1 ∙ ap (λ (f : ℕ → List Kind). put f t []) o.1;
+            deferred = next.1 ∙ paying.1.1 ∙ ap (λ (f : ℕ → List Kind). put f t []) o.1;
             raises = λ u. next.2 u ∙ paying.1.2 u ∙ raised_so o.0.ties.world o.2 true e u;
           },
           λ test none. processes_append test (g.actions ++ actions_of t ks) (actions_of t (next_kinds
@@ -261,7 +261,7 @@ module _ (p : Program) (w : WellFormed p) where
         ≡ processes_of is_kill_kind g.actions ++ kills_of l d
     pub adds : Adds g (progress_whole p s s' l d st g)
         (λ u. of_one l.thread u (done_count p s s' l d st (g.deferred l.thread)))
-    pub waits : (progress_whole p s s' l d st g).deferred
+    pub deferred : (progress_whole p s s' l d st g).deferred
         ≡ put g.deferred l.thread (done_behind p s s' l d st (g.deferred l.thread))
 
   -- a wake from outside
@@ -283,7 +283,7 @@ module _ (p : Program) (w : WellFormed p) where
     by_tracks : (o : Option Member) → is_condition_word p a ≡ is_some o
         → TracksStray p w taken s l.thread g.source g.deferred r.tracks.ties.world o → Strays o
     by_tracks None e n = (
-      record { run = r.run; tracks = n.0; waits = n.1; raises = λ u. n.2 u ∙ r.raises u },
+      record { run = r.run; tracks = n.0; deferred = n.1; raises = λ u. n.2 u ∙ r.raises u },
       sym (append-nil (processes_of is_stray_kind g.actions))
           ∙ ap (λ (i : List ℕ). processes_of is_stray_kind g.actions ++ i)
           (sym (ap (λ b. if b then l.thread ∷ [] else []) e)),
@@ -295,7 +295,7 @@ module _ (p : Program) (w : WellFormed p) where
     by_tracks (Some c) e n =
         let t = l.thread in
         let ks = g.deferred t in
-        let own : AreOwn ks = subst (λ (f : ℕ → List Kind). AreOwn (f t)) r.waits (r.tracks.own t) in
+        let own : AreOwn ks = subst (λ (f : ℕ → List Kind). AreOwn (f t)) r.deferred (r.tracks.own t) in
         let a' = take_deferred p t ks g.source in
         let caught_up_run : IsRun p (g.actions ++ actions_of t ks) a' =
         leads_on p (opening p) g.source a' g.actions (actions_of t ks) r.run n.0 in
@@ -310,7 +310,7 @@ module _ (p : Program) (w : WellFormed p) where
             run = leads_on p (opening p) a' (after_stray t (Some c) a') (g.actions ++ actions_of t ks)
                 (actions_of t (stray_kinds (Some c))) caught_up_run (after_stray t (Some c) a', n.1, refl);
             tracks = n.2;
-            waits = n.3;
+            deferred = n.3;
             raises = λ u. n.4 u ∙ r.raises u;
           },
           all is_stray_kind (λ i h. (own_kinds i h).0)
@@ -333,14 +333,14 @@ module _ (p : Program) (w : WellFormed p) where
         let o = stray_condition p a (g.source.table.waits l.thread) in
         let n = tracks_stray p w taken s g.source r.tracks l.thread a st.sleeps in
         let m = subst (λ (f : ℕ → List Kind). TracksStray p w taken s l.thread g.source f
-        r.tracks.ties.world o) r.waits n in
+        r.tracks.ties.world o) r.deferred n in
         let ahead = r.tracks.ahead in
         let word = (strayed p w taken s ahead r.tracks.ties l.thread a st.sleeps).word in
         let here : is_condition_word p a ≡ is_some o = word
         ∙ ap (λ (T : Table). is_some (stray_condition p a (T.waits l.thread))) (sym r.tracks.behind.table) in
         let x = by_tracks o here m in
         subst (λ (y : State). (i : IsStrayStep a s l y) → Reaches taken s g l y (Strayed a) i) (sym st.after)
-        (λ i. record { is = x.0; strays = x.1; kills = x.2 ∙ sym (append-nil _); adds = x.3; waits = x.4 }) st
+        (λ i. record { is = x.0; strays = x.1; kills = x.2 ∙ sym (append-nil _); adds = x.3; deferred = x.4 }) st
 
   -- a kill of a thread that isn't dying
   module _ (taken : ℕ) (s : State) (g : Progress) (r : IsReached p w taken s g) (l : Step) (s' : State)
@@ -359,7 +359,7 @@ module _ (p : Program) (w : WellFormed p) where
         (not_so (is_dying st.thread) st.begins_so) in
         subst (λ b. TracksKill p w taken s l.thread g.source g.deferred b r.tracks.ties.world) (r.raises l.thread)
         (subst (λ (f : ℕ → List Kind). TracksKill p w taken s l.thread g.source f
-        (raised_at r.tracks.ties.world l.thread) r.tracks.ties.world) r.waits n)
+        (raised_at r.tracks.ties.world l.thread) r.tracks.ties.world) r.deferred n)
 
     abbrev there : SourceState
     there = take_deferred p l.thread (g.deferred l.thread) g.source
@@ -381,7 +381,7 @@ module _ (p : Program) (w : WellFormed p) where
           (leads_on p (opening p) g.source there g.actions (actions_of l.thread (g.deferred l.thread)) r.run
           kill_tracked.0) (g'.source, kill_tracked.1, refl);
       tracks = kill_tracked.2;
-      waits = kill_tracked.3;
+      deferred = kill_tracked.3;
       raises = λ u. kill_tracked.4 u
           ∙ ap (λ (f : ℕ → Bool). put f l.thread false u) (λ i v. r.raises v i);
     }
@@ -392,7 +392,7 @@ module _ (p : Program) (w : WellFormed p) where
         ≡ processes_of test g.actions ++ processes_of test (act l.thread (Kill resumed last) ∷ [])
     kill_all test none =
         let ks = g.deferred l.thread in
-        let own : AreOwn ks = subst (λ (f : ℕ → List Kind). AreOwn (f l.thread)) r.waits (r.tracks.own l.thread) in
+        let own : AreOwn ks = subst (λ (f : ℕ → List Kind). AreOwn (f l.thread)) r.deferred (r.tracks.own l.thread) in
         processes_append test (g.actions ++ actions_of l.thread ks) (act l.thread (Kill resumed last) ∷ [])
         ∙ ap (λ (i : List ℕ). i ++ processes_of test (act l.thread (Kill resumed last) ∷ []))
         (processes_append test g.actions (actions_of l.thread ks)
@@ -402,7 +402,7 @@ module _ (p : Program) (w : WellFormed p) where
     kill_adds u =
         let t = l.thread in
         let ks = g.deferred t in
-        let own : AreOwn ks = subst (λ (f : ℕ → List Kind). AreOwn (f t)) r.waits (r.tracks.own t) in
+        let own : AreOwn ks = subst (λ (f : ℕ → List Kind). AreOwn (f t)) r.deferred (r.tracks.own t) in
         let whole = count_by-append (is_action_of u) (g.actions ++ actions_of t ks) (act t (Kill resumed last) ∷ []) in
         let both = count_by-append (is_action_of u) g.actions (actions_of t ks) in
         let first = count_map t u ks own in
@@ -419,7 +419,7 @@ module _ (p : Program) (w : WellFormed p) where
           strays = kill_all is_stray_kind (λ i h. (own_kinds i h).0);
           kills = kill_all is_kill_kind (λ i h. (own_kinds i h).1);
           adds = kill_adds;
-          waits = refl;
+          deferred = refl;
         }) st
 
   -- one of a thread that is dying already
@@ -429,11 +429,11 @@ module _ (p : Program) (w : WellFormed p) where
       let n = tracks_later p w taken s g.source r.tracks in
       subst (λ (y : State). (i : IsKillStep false s l y) → Reaches taken s g l y (Killed false) i) (sym st.after)
       (λ i. record {
-        is = record { run = r.run; tracks = n.0; waits = n.1 ∙ r.waits; raises = λ u. n.2 u ∙ r.raises u };
+        is = record { run = r.run; tracks = n.0; deferred = n.1 ∙ r.deferred; raises = λ u. n.2 u ∙ r.raises u };
         strays = sym (append-nil _);
         kills = sym (append-nil _);
         adds = λ u. let none = of_none l.thread u in omega (arith, none);
-        waits = put_again g.deferred l.thread (g.deferred l.thread) refl;
+        deferred = put_again g.deferred l.thread (g.deferred l.thread) refl;
       }) st
 
   reaches : (taken : ℕ) (s : State) (g : Progress) → IsReached p w taken s g → (l : Step) (s' : State) (d : Doing)
@@ -447,7 +447,7 @@ module _ (p : Program) (w : WellFormed p) where
         strays = x.1 is_stray_kind (λ i h. (own_kinds i h).0) ∙ sym (append-nil _);
         kills = x.1 is_kill_kind (λ i h. (own_kinds i h).1) ∙ sym (append-nil _);
         adds = x.2;
-        waits = deferred_behind (visible_step p s.word l.thread looks answer)
+        deferred = deferred_behind (visible_step p s.word l.thread looks answer)
             (deferred_by_step (mark_of (marks_of p) st.thread) looks answer) (raises_number looks) s' l.thread g;
       }
   reaches taken s g r l s' (Strayed a) st short = strays_so taken s g r l s' a st
@@ -464,7 +464,7 @@ module _ (p : Program) (w : WellFormed p) where
         ≡ processes_of is_kill_kind g.actions ++ kills_of l l.doing
     adds : Adds g (progress_traced p s s' l taken next step g)
         (λ u. of_one l.thread u (traced_count p s s' l taken next step (g.deferred l.thread)))
-    waits : (progress_traced p s s' l taken next step g).deferred
+    deferred : (progress_traced p s s' l taken next step g).deferred
         ≡ put g.deferred l.thread (traced_behind p s s' l taken next step (g.deferred l.thread))
 
   traced_reaches : (many : ℕ) (s : State) (g : Progress) → IsReached p w many s g → (taken : ℕ → ℕ) (l : Step)
@@ -472,18 +472,18 @@ module _ (p : Program) (w : WellFormed p) where
       → TracedReaches many s g taken l s' next step
   traced_reaches many s g r taken l s' next (Loud st time) short =
       let x = reaches many s g r l s' l.doing st short in
-      record { is = x.is; strays = x.strays; kills = x.kills; adds = x.adds; waits = x.waits }
+      record { is = x.is; strays = x.strays; kills = x.kills; adds = x.adds; deferred = x.deferred }
   traced_reaches many s g r taken l s' next (Silent own same piece) short =
       let n = tracks_later p w many s g.source r.tracks in
       subst (λ (x : State). (i : x ≡ s) → TracedReaches many s g taken l x next (Silent own i piece)) (sym same)
       (λ i. record {
-        is = record { run = r.run; tracks = n.0; waits = n.1 ∙ r.waits; raises = λ u. n.2 u ∙ r.raises u };
+        is = record { run = r.run; tracks = n.0; deferred = n.1 ∙ r.deferred; raises = λ u. n.2 u ∙ r.raises u };
         strays = sym (ap (λ (d : Doing). processes_of is_stray_kind g.actions ++ strays_of p l d) own
             ∙ append-nil (processes_of is_stray_kind g.actions));
         kills = sym (ap (λ (d : Doing). processes_of is_kill_kind g.actions ++ kills_of l d) own
             ∙ append-nil (processes_of is_kill_kind g.actions));
         adds = λ u. let none = of_none l.thread u in omega (arith, none);
-        waits = put_again g.deferred l.thread (g.deferred l.thread) refl;
+        deferred = put_again g.deferred l.thread (g.deferred l.thread) refl;
       }) same
 
   pub reaches_by : (steps : List Step) (many : ℕ) (s : State) (taken : ℕ → ℕ) (s' : State) (g : Progress)
@@ -520,13 +520,13 @@ module _ (p : Program) (w : WellFormed p) where
             let one = first.adds t in
             let rest = subst (λ (f : ℕ → List Kind). count t last.actions + length (last.deferred t)
             ≡ count t there.actions + length (there.deferred t) + counts p f ls run.0 run.1 s' run.3 t)
-            first.waits (more.3 t) in
+            first.deferred (more.3 t) in
             omega (arith, one, rest),
       )
 
   pub opens_reached : IsReached p w 0 (opening_state (code_of p)) (opening_progress p)
   opens_reached =
-      let o = opens_deferred p w in record { run = refl; tracks = o.0; waits = o.1; raises = λ u. o.2 u }
+      let o = opens_deferred p w in record { run = refl; tracks = o.0; deferred = o.1; raises = λ u. o.2 u }
 
   module _ (steps : List Step) (s : State) (run : Trace (code_of p) (opening_state (code_of p)) none_taken steps s)
       (short : length steps < 2 ^ 32) where
@@ -554,7 +554,7 @@ module _ (p : Program) (w : WellFormed p) where
         let source = done.0 in
         let k : Corresponds p w n s source = done.2 in
         let up : actions_up_to s.made r.deferred ≡ actions_up_to s.made g.deferred =
-        ap (λ (f : ℕ → List Kind). actions_up_to s.made f) whole.0.waits in
+        ap (λ (f : ℕ → List Kind). actions_up_to s.made f) whole.0.deferred in
         let rest : Leads p g.source (actions_up_to s.made g.deferred) source =
         subst (λ (l : List Action). Leads p g.source l source) up done.1 in
         let c = come_along p w steps s run short in
@@ -580,7 +580,7 @@ module _ (p : Program) (w : WellFormed p) where
                 let second = whole.3 t in
                 let both = count_by-append (is_action_of t) g.actions (actions_up_to s.made g.deferred) in
                 let last = subst (λ (f : ℕ → List Kind). count t (actions_up_to s.made f) ≡ length (f t))
-                whole.0.waits (finishes_counted p w n s g.source r t) in
+                whole.0.deferred (finishes_counted p w n s g.source r t) in
                 omega (arith, less, first, second, both, last);
             strays = processes_append is_stray_kind g.actions last
                 ∙ ap (λ (i : List ℕ). processes_of is_stray_kind g.actions ++ i)

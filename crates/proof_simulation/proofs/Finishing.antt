@@ -1,4 +1,4 @@
--- All actions that wait may be taken, process by process.
+-- All actions that are deferred may be taken, process by process.
 use Rattle.std.proofs.Common.{◌≡◌, ℕ, zero, suc, List, [], ◌∷◌, Option, Some, None, refl}
 use Rattle.std.proofs.Common.{subst, arith, inl, inr}
 use Rattle.std.proofs.lemmas.Bool.{cases_eq, cases_lt}
@@ -14,7 +14,7 @@ use Rattle.proof_commutation.specs.Deferring.{LeadsDeferredAt}
 use Rattle.proof_commutation.specs.Placed.{actions_of, actions_up_to}
 use Rattle.proof_commutation.proofs.Reordering.{Caught, emptied, emptied_above, emptied_below, catch_up_all}
 use Rattle.proof_commutation.proofs.Reordering.{same_behind}
-use Rattle.proof_commutation.proofs.Waiting.{at_none}
+use Rattle.proof_commutation.proofs.Deferred.{at_none}
 use Rattle.proof_commutation.proofs.Behind as D
 use Rattle.protocol.specs.Points.{Point}
 use Rattle.refinement.specs.Built.{build_of}
@@ -31,7 +31,7 @@ use Rattle.proof_simulation.proofs.Paces.{count_by-append}
 use Rattle.proof_simulation.proofs.Counting.{count, count_map, of_one, length_taken}
 use Rattle.std.proofs.Common.{ap, ◌++◌}
 
--- as many as wait
+-- as many as are deferred
 up_counted : (n : ℕ) (w : ℕ → List Kind) (t : ℕ) → ((u : ℕ) → AreOwn (w u))
     → count t (actions_up_to n w) + length (emptied n w t) ≡ length (w t)
 up_counted zero w t own = omega arith

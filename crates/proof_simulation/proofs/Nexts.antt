@@ -19,7 +19,7 @@ use Rattle.meaning.proofs.Offered.{IsPlain, plain}
 use Rattle.meaning.proofs.Unique.{step_once}
 use Rattle.proof_commutation.specs.Deferring.{is_internal, IsBehind, LeadsDeferredAt}
 use Rattle.proof_commutation.specs.Placed.{actions_of}
-use Rattle.proof_commutation.proofs.Waiting.{First, at_first}
+use Rattle.proof_commutation.proofs.Deferred.{First, at_first}
 use Rattle.proof_commutation.proofs.Behind as D
 use Rattle.words.proofs.Updates.{put_same}
 use Rattle.proof_simulation.specs.Next.{NextAction, internal_next, visible_next, is_abandoned, entered_monitor}

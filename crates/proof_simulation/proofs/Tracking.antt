@@ -18,7 +18,7 @@ use Rattle.meaning.specs.Processes.{Dying}
 use Rattle.meaning.specs.Runs.{Leads}
 use Rattle.meaning.specs.Table.{without_waiters}
 use Rattle.proof_commutation.specs.Placed.{actions_of}
-use Rattle.proof_commutation.proofs.Waiting.{at_equal}
+use Rattle.proof_commutation.proofs.Deferred.{at_equal}
 use Rattle.protocol.specs.World.{World}
 use Rattle.proof_simulation.specs.Killing as Killing
 use Rattle.proof_simulation.specs.Kills.{killed_last, killed_resumed, held_by, after_kill}
@@ -42,7 +42,7 @@ use Rattle.meaning.specs.Runs.{IsAction, IsStep as IsSourceStep}
 use Rattle.meaning.specs.States.{SourceState, opening}
 use Rattle.meaning.proofs.Unique.{step_once}
 use Rattle.proof_commutation.specs.Deferring.{is_internal, IsBehind, LeadsDeferredAt}
-use Rattle.proof_commutation.proofs.Waiting.{First, at_first, at_same}
+use Rattle.proof_commutation.proofs.Deferred.{First, at_first, at_same}
 use Rattle.proof_commutation.proofs.Behind as D
 use Rattle.protocol.specs.Carries.{IsByHolder}
 use Rattle.protocol.specs.Points.{Point}

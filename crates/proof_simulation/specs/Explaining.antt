@@ -31,7 +31,7 @@ explanation_of_trace p steps s run =
 pub record IsReached (p : Program) (w : WellFormed p) (steps : ℕ) (s : State) (g : Progress) : Type 0 where
   pub run : IsRun p g.actions g.source
   pub tracks : Tracks p w steps s g.source
-  pub waits : tracks.deferred ≡ g.deferred
+  pub deferred : tracks.deferred ≡ g.deferred
   pub raises : (u : ℕ) → raised_at tracks.ties.world u ≡ g.raised u
 
 -- a visible step of process t led to this state of the machine: what is deferred of the process may be taken, and then

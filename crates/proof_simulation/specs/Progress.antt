@@ -80,7 +80,7 @@ progress_step p false deferral raises s t g = record g {
 }
 
 -- behind a wake from outside, by the condition that process t waited on, if its thread slept on that one's word: what
--- waits of the process is taken, and then it waits on the condition no longer
+-- is deferred of the process is taken, and then it waits on the condition no longer
 abbrev pub progress_stray : Program → Option Member → (t : ℕ) → Progress → Progress
 progress_stray p None t g = g
 progress_stray p (Some c) t g =

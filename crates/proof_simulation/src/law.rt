@@ -84,11 +84,11 @@ pub fn source_follows()
 /// condition and don't sleep on its word; and it abandons the monitor that was pending last, if the thread owns it. At
 /// any time all that is deferred may be taken, by rising number of process, and then the source is where the machine
 /// is.
-pub fn source_waits()
+pub fn source_defers()
     ensures opens { (p : Program) (w : WellFormed p)
         → (o : Tracks p w 0 (opening_state (code_of p)) (opening p)) × (o.deferred ≡ (λ t. []))
         × ((u : ℕ) → raised_at o.ties.world u ≡ false) }
-    ensures waits { (p : Program) (w : WellFormed p) (steps : ℕ) (s : State) (a : SourceState)
+    ensures defers { (p : Program) (w : WellFormed p) (steps : ℕ) (s : State) (a : SourceState)
         (r : Tracks p w steps s a)
         (l : Step) (s' : State) (st : IsOwnStep (code_of p) s l s') (done raises : Bool)
         (deferral : Option Kind)

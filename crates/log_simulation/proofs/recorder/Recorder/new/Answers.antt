@@ -22,7 +22,7 @@ returns c =
         few = omega arith;
         counted = refl;
         matches = e.opens;
-        waits = c.in_ok-nothing.ensures.1;
+        deferred = c.in_ok-nothing.ensures.1;
         raised = c.in_ok-none_raised.ensures.1;
         bounded = λ t. omega arith;
       };

@@ -41,11 +41,11 @@ returns c = λ p n g of less tells due.
     let l = c.lower-raised.ensures.raises g.raised raised (omega (arith, less, bits, as_many)) in
     let waits = subst (λ (w : List Deferred). CountsDeferred w g.deferred)
     (sym (ap (λ r. r.deferred.items) c.lower-raised.ensures.kept ∙ ap (λ r. r.deferred.items) c.count.ensures.kept))
-    h.waits in
+    h.deferred in
     let places = of.places in
     let more = ap (λ r. length r.deferred.items) c.lower-raised.ensures.kept
     ∙ ap (λ r. length r.deferred.items) c.count.ensures.kept in
-    let w = c.take_deferred-count.ensures.waits g.deferred waits (omega (arith, less, places, more)) in
+    let w = c.take_deferred-count.ensures.defers g.deferred waits (omega (arith, less, places, more)) in
     let program = ap (λ (x : Follower). said_by x.checked.now) follower ∙ of.program in
     let r = follows_kill_due p taken.follower c.follow_kill.new.self s t c.take_deferred-count.result
     c.lower-raised.result m b g program (ap (λ (x : Follower). x.layout) follower ∙ of.layout)

@@ -19,7 +19,7 @@ returns-then-not-branch c = λ p g ahead of less matches waits behind.
     let follower = ap (λ r. r.follower) c.take_deferred-count.ensures.kept in
     let places = i.0.places in
     let inside = c.loop-before-test.true in
-    let w = c.take_deferred-count.ensures.waits rest.deferred i.2 (omega (arith, less, places, inside)) in
+    let w = c.take_deferred-count.ensures.defers rest.deferred i.2 (omega (arith, less, places, inside)) in
     let r = catches_up_next p c.take_deferred-count.new.self.follower c.catch_up.new.self (l.before + 1)
     c.take_deferred-count.result c.in_ok-catch_up.field-0 rest ahead
     (ap (λ (x : Follower). said_by x.checked.now) follower ∙ i.0.program)
@@ -36,7 +36,7 @@ loop-before-preserved c = record {
       let follower = ap (λ r. r.follower) c.take_deferred-count.ensures.kept in
       let places = i.0.places in
       let inside = c.loop-before-test.true in
-      let w = c.take_deferred-count.ensures.waits rest.deferred i.2 (omega (arith, less, places, inside)) in
+      let w = c.take_deferred-count.ensures.defers rest.deferred i.2 (omega (arith, less, places, inside)) in
       let r = catches_up_next p taken.follower c.catch_up.new.self (l.before + 1)
       c.take_deferred-count.result c.in_ok-catch_up.field-0 rest ahead
       (ap (λ (x : Follower). said_by x.checked.now) follower ∙ i.0.program)

@@ -49,11 +49,11 @@ returns-in_ok-self c = λ p n word g is told of less tells due.
     let as_many = ap (λ r. length r.raised.items) c.count.ensures.kept in
     let l = c.lower.ensures.raises g.raised raised (omega (arith, less, bits, as_many)) in
     let waits = subst (λ (w : List Deferred). CountsDeferred w g.deferred)
-    (sym (ap (λ r. r.deferred.items) c.lower.ensures.kept ∙ ap (λ r. r.deferred.items) c.count.ensures.kept)) h.waits in
+    (sym (ap (λ r. r.deferred.items) c.lower.ensures.kept ∙ ap (λ r. r.deferred.items) c.count.ensures.kept)) h.deferred in
     let places = of.places in
     let more = ap (λ r. length r.deferred.items) c.lower.ensures.kept
     ∙ ap (λ r. length r.deferred.items) c.count.ensures.kept in
-    let w = c.take_deferred-count.ensures.waits g.deferred waits (omega (arith, less, places, more)) in
+    let w = c.take_deferred-count.ensures.defers g.deferred waits (omega (arith, less, places, more)) in
     let program = ap (λ (x : Follower). said_by x.checked.now) follower ∙ of.program in
     let r = follows_due p taken.follower c.follow.new.self k t c.take_deferred-count.result b g program
     (ap (λ (x : Follower). x.layout) follower ∙ of.layout)
@@ -112,11 +112,11 @@ returns-else-visible c = λ p n word g is told of less tells due.
           (λ h steps few.
           internally p n t v here word k g old last h hidden
           (ap (λ r. r.steps) c.delay.ensures.kept ∙ ap (λ r. r.steps) c.raise.ensures.kept ∙ steps) few follower
-          (c.delay.ensures.waits g.deferred
+          (c.delay.ensures.defers g.deferred
           (deferred_by_step (mark_of (marks_of p) here) (look (code_of p) t here) v)
           (subst (λ (w : List Deferred). CountsDeferred w g.deferred)
           (sym (ap (λ r. r.deferred.items) c.raise.ensures.kept ∙ ap (λ r. r.deferred.items) c.count.ensures.kept))
-          h.waits) deferral
+          h.deferred) deferral
           (let bounded = h.bounded t in omega (arith, bounded, few)))
           (subst (λ (w : List Bool). Raises w (put g.raised t (raises_number (look (code_of p) t here) || g.raised t)))
           (sym still)

@@ -1,4 +1,4 @@
--- Steps that are taken are those of the thread, and what each adds waits.
+-- Steps that are taken are those of the thread, and what each adds is deferred.
 use Rattle.std.proofs.Common.{rules, ◌≡◌, ◌∙◌, ap, arith, refl, subst, sym, ℕ, List, length}
 use Rattle.words.specs.Updates.{put}
 use Rattle.meaning.specs.Labels.{Kind}
@@ -29,18 +29,18 @@ loop-preserved c =
       marks = ap (λ r. r.marks) kept ∙ i.marks;
       raised = ap (λ r. r.raised) kept ∙ i.raised;
       places = c.take_step.ensures.places ∙ i.places;
-      waits = λ p f own marks waits few.
+      defers = λ p f own marks waits few.
           let t = c.args.entry.now.thread in
           let o = c.args.here.now in
           let ks = deferred_locally p t c.loop.counter o (f t) in
-          let before = i.waits p f own marks waits few in
+          let before = i.defers p f own marks waits few in
           let long = few_deferred p t c.loop.counter o (f t) in
           let mine = ap (λ (l : List Kind). length l) (put_same f t ks) in
           let less = c.loop-test.true in
           subst (λ (g : ℕ → List Kind). CountsDeferred c.take_step.new.self.deferred.items g)
           (local_more p c.args.image.now t c.loop.counter o c.loop.here f c.loop.self.marks.items own
           (ap (λ m. m.items) i.marks ∙ marks) i.goes)
-          (c.take_step.ensures.waits (put f t ks) before (omega (arith, long, mine, few, less)));
+          (c.take_step.ensures.defers (put f t ks) before (omega (arith, long, mine, few, less)));
     }
 
 pub returns-clause-told : goal.returns-clause-told
@@ -60,5 +60,5 @@ returns-clause-told c = λ _ p n g own of tells.
           (λ h steps few. locally p n c.args.entry.now.local t o g r last h steps few i.follower i.raised
           (subst (λ j. CountsDeferred last.deferred.items
           (put g.deferred t (deferred_locally p t j o (g.deferred t)))) all
-          (i.waits p g.deferred own of.marks h.waits (let less = h.bounded t in omega (arith, few, less))))),
+          (i.defers p g.deferred own of.marks h.deferred (let less = h.bounded t in omega (arith, few, less))))),
     )

@@ -17,7 +17,7 @@ invariant-loop l = record {
   marks : l.self.marks ≡ l.fn.self.marks;
   raised : l.self.raised ≡ l.fn.self.raised;
   places : length l.self.deferred.items ≡ length l.fn.self.deferred.items;
-  waits : (p : Program) (f : ℕ → List Kind) → l.image ≡ code_of p → l.fn.self.marks.items ≡ marks_of p
+  defers : (p : Program) (f : ℕ → List Kind) → l.image ≡ code_of p → l.fn.self.marks.items ≡ marks_of p
       → CountsDeferred l.fn.self.deferred.items f → length (f l.entry.thread) + l.entry.local < 2 ^ 32
       → CountsDeferred l.self.deferred.items
       (put f l.entry.thread (deferred_locally p l.entry.thread l.counter l.fn.here (f l.entry.thread)));

@@ -38,10 +38,10 @@ returns c = λ p n g of less tells due.
     (ap (λ (x : Follower). x.layout) first ∙ of.layout)
     (subst (λ (x : Follower). Matches x g) (sym first) h.matches) c.stray_condition.ensures in
     let waits = subst (λ (w : List Deferred). CountsDeferred w g.deferred)
-    (sym (ap (λ r. r.deferred.items) c.count.ensures.kept)) h.waits in
+    (sym (ap (λ r. r.deferred.items) c.count.ensures.kept)) h.deferred in
     let places = of.places in
     let more = ap (λ r. length r.deferred.items) c.count.ensures.kept in
-    let w = c.take_deferred-count.ensures.waits g.deferred waits (omega (arith, less, places, more)) in
+    let w = c.take_deferred-count.ensures.defers g.deferred waits (omega (arith, less, places, more)) in
     let program = ap (λ (x : Follower). said_by x.checked.now) second ∙ of.program in
     let r = follows_stray_due p taken.follower c.follow_stray.new.self t c.take_deferred-count.result member b g program
     (subst (λ (x : Follower). Matches x g) (sym second) h.matches) (due few member (sym found)) w.0

@@ -1,4 +1,4 @@
--- Actions of one process that wait.
+-- Actions of one process that are deferred.
 use Rattle.std.proofs.Common.{◌≡◌, ℕ, List, [], ◌∷◌, ◌++◌, Option, Some, None, refl, sym, ap, subst}
 use Rattle.program.specs.Trees.{Program}
 use Rattle.meaning.specs.Values.{Variables}
@@ -8,19 +8,19 @@ use Rattle.meaning.specs.Processes.{Process, Over}
 use Rattle.proof_commutation.specs.Deferring.{MayDefer, LeadsDeferred, LeadsDeferredAt}
 
 module _ (p : Program) (t : ℕ) (v : Variables) (T : Table) where
-  wait_more : (ks : List Kind) (a q r : Process) (label : Label) → LeadsDeferred p t v T ks a q
+  deferred_more : (ks : List Kind) (a q r : Process) (label : Label) → LeadsDeferred p t v T ks a q
       → MayDefer p t v T q label r → LeadsDeferred p t v T (ks ++ kind_of label ∷ []) a r
-  wait_more [] a q r label w may = (label, r, refl, subst (λ x. MayDefer p t v T x label r) (sym w) may, refl)
-  wait_more (k ∷ ks) a q r label w may = (w.0, w.1, w.2, w.3, wait_more ks w.1 q r label w.4 may)
+  deferred_more [] a q r label w may = (label, r, refl, subst (λ x. MayDefer p t v T x label r) (sym w) may, refl)
+  deferred_more (k ∷ ks) a q r label w may = (w.0, w.1, w.2, w.3, deferred_more ks w.1 q r label w.4 may)
 
-  -- one action more waits
+  -- one action more is deferred
   pub at_more : (ks : List Kind) (x : Option Process) (q r : Process) (label : Label)
       → LeadsDeferredAt p t v T ks x (Some q) → MayDefer p t v T q label r
       → LeadsDeferredAt p t v T (ks ++ kind_of label ∷ []) x (Some r)
   at_more ks None q r label w may = absurd w
-  at_more ks (Some a) q r label w may = wait_more ks a q r label w may
+  at_more ks (Some a) q r label w may = deferred_more ks a q r label w may
 
-  -- where nothing waits the process stands at the same place
+  -- where nothing is deferred the process stands at the same place
   pub at_same : (x : Option Process) (q : Process) → LeadsDeferredAt p t v T [] x (Some q) → x ≡ Some q
   at_same None q w = absurd w
   at_same (Some a) q w = ap Some w
@@ -29,7 +29,7 @@ module _ (p : Program) (t : ℕ) (v : Variables) (T : Table) where
   at_self None = refl
   at_self (Some q) = refl
 
-  -- of a process that wasn't made nothing waits
+  -- of a process that wasn't made nothing is deferred
   pub at_none : (ks : List Kind) (x : Option Process) → LeadsDeferredAt p t v T ks x None → ks ≡ []
   at_none ks None w = w
   at_none ks (Some q) w = absurd w
@@ -40,7 +40,7 @@ module _ (p : Program) (t : ℕ) (v : Variables) (T : Table) where
   at_equal (Some q) None w = absurd w
   at_equal (Some q) (Some r) w = ap Some w
 
-  -- the first of the actions that wait
+  -- the first of the actions that are deferred
   pub record First (k : Kind) (ks : List Kind) (x y : Option Process) : Type 0 where
     pub before : Process
     pub mid : Process
@@ -69,13 +69,13 @@ module _ (p : Program) (t : ℕ) (v : Variables) (T : Table) where
     later = w.4;
   }
 
-  wait_over : (ks : List Kind) (r : Process) (end : End) → LeadsDeferred p t v T ks (Over end) r → r ≡ Over end
-  wait_over [] r end w = sym w
-  wait_over (k ∷ ks) r end w = absurd (w.3.takes v (λ m held n i. refl))
+  deferred_over : (ks : List Kind) (r : Process) (end : End) → LeadsDeferred p t v T ks (Over end) r → r ≡ Over end
+  deferred_over [] r end w = sym w
+  deferred_over (k ∷ ks) r end w = absurd (w.3.takes v (λ m held n i. refl))
 
-  wait_ends : (ks : List Kind) (q : Process) (end : End) → LeadsDeferred p t v T ks q (Over end) → q ≡ Over end
-  wait_ends [] q end w = w
-  wait_ends (k ∷ ks) q end w = absurd (w.3.goes_on end (wait_ends ks w.1 end w.4))
+  deferred_ends : (ks : List Kind) (q : Process) (end : End) → LeadsDeferred p t v T ks q (Over end) → q ≡ Over end
+  deferred_ends [] q end w = w
+  deferred_ends (k ∷ ks) q end w = absurd (w.3.goes_on end (deferred_ends ks w.1 end w.4))
 
   -- a process is over ahead where it is behind
   pub over_ahead : (ks : List Kind) (x y : Option Process) (end : End) → LeadsDeferredAt p t v T ks x y
@@ -84,7 +84,7 @@ module _ (p : Program) (t : ℕ) (v : Variables) (T : Table) where
   over_ahead ks (Some q) None end w e = absurd w
   over_ahead ks (Some q) (Some r) end w e =
       let is : q ≡ Over end = cc in
-      ap Some (wait_over ks r end (subst (λ z. LeadsDeferred p t v T ks z r) is w))
+      ap Some (deferred_over ks r end (subst (λ z. LeadsDeferred p t v T ks z r) is w))
 
   pub over_behind : (ks : List Kind) (x y : Option Process) (end : End) → LeadsDeferredAt p t v T ks x y
       → y ≡ Some (Over end) → x ≡ Some (Over end)
@@ -92,4 +92,4 @@ module _ (p : Program) (t : ℕ) (v : Variables) (T : Table) where
   over_behind ks None (Some r) end w e = absurd w
   over_behind ks (Some q) (Some r) end w e =
       let is : r ≡ Over end = cc in
-      ap Some (wait_ends ks q end (subst (λ z. LeadsDeferred p t v T ks q z) is w))
+      ap Some (deferred_ends ks q end (subst (λ z. LeadsDeferred p t v T ks q z) is w))

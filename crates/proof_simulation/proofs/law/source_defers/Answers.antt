@@ -1,13 +1,13 @@
 use Rattle.proof_simulation.proofs.Tracking.{opens_deferred, tracks_deferred, tracks_stray, tracks_kill, catches_up_deferred}
 use Rattle.proof_simulation.proofs.Tracking.{takes_visible_deferred}
 use Rattle.proof_simulation.proofs.Finishing.{finishes}
-use Rattle.proof_simulation.proofs.law.source_waits.Goals as goal
+use Rattle.proof_simulation.proofs.law.source_defers.Goals as goal
 
 pub returns-clause-opens : goal.returns-clause-opens
 returns-clause-opens c = opens_deferred
 
-pub returns-clause-waits : goal.returns-clause-waits
-returns-clause-waits c = tracks_deferred
+pub returns-clause-defers : goal.returns-clause-defers
+returns-clause-defers c = tracks_deferred
 
 pub returns-clause-catches_up : goal.returns-clause-catches_up
 returns-clause-catches_up c = catches_up_deferred
