@@ -2,7 +2,7 @@
 use Rattle.std.proofs.Common.{◌≡◌, ◌⊎◌, ℕ, Bool, true, false, List, [], Option, Some, None, sym, ap, ◌∙◌, inl}
 use Rattle.std.proofs.Common.{inr, subst}
 use Rattle.std.specs.Prelude.{⊤}
-use Rattle.std.proofs.lemmas.Bool.{cases_eq, eq-eqb}
+use Rattle.std.proofs.lemmas.Bool.{cases_eq, eq-eqb, ne_eqb}
 use Rattle.words.specs.Updates.{put}
 use Rattle.words.proofs.Updates.{put_at, put_other}
 use Rattle.program.specs.declared.kinds.Member.{Member}
