@@ -31,12 +31,12 @@ module _ (p : Program) where
   }
 
   -- one action more of process t is deferred
-  pub defers : (deferred : ℕ → List Kind) (a c c' : SourceState) (t : ℕ) (q r : Process) (label : Label)
+  pub defers_more : (deferred : ℕ → List Kind) (a c c' : SourceState) (t : ℕ) (q r : Process) (label : Label)
       → IsBehind p deferred a c → c.process t ≡ Some q → MayDefer p t c.variable c.table q label r
       → c'.table ≡ c.table → c'.variable ≡ c.variable → c'.printed ≡ c.printed
       → c'.process ≡ put c.process t (Some r)
       → IsBehind p (put deferred t (deferred t ++ kind_of label ∷ [])) a c'
-  defers deferred a c c' t q r label b there may table variable printed process = record {
+  defers_more deferred a c c' t q r label b there may table variable printed process = record {
     table = b.table ∙ sym table;
     variables = b.variables ∙ sym variable;
     printed = b.printed ∙ sym printed;

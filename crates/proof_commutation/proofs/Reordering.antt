@@ -17,7 +17,7 @@ use Rattle.proof_commutation.specs.Placed.{Marked, action_of, actions_of, action
 use Rattle.proof_commutation.specs.Placed.{LeadsMarked}
 use Rattle.words.proofs.Updates.{at_put, put_same, put_other, put_again, put_itself}
 use Rattle.proof_commutation.proofs.Deferred.{at_equal, at_none}
-use Rattle.proof_commutation.proofs.Behind.{act, defers, takes}
+use Rattle.proof_commutation.proofs.Behind.{act, defers_more, takes}
 use Rattle.proof_commutation.proofs.Following.{follows, no_zero}
 
 behind_same : (p : Program) (w w' : ℕ → List Kind) (a c : SourceState) → ((u : ℕ) → w u ≡ w' u) → IsBehind p w a c
@@ -121,7 +121,7 @@ module _ (p : Program) (wf : WellFormed p) where
       → IsBehind p (put w x.process (w x.process ++ x.kind ∷ [])) a mid
   defers w a c mid x b step d =
       subst (λ k. IsBehind p (put w x.process (w x.process ++ k ∷ [])) a mid) (sym d.named)
-      (defers p w a c mid x.process d.before d.after d.label b d.stands d.may (ap (λ s. s.table) same)
+      (defers_more p w a c mid x.process d.before d.after d.label b d.stands d.may (ap (λ s. s.table) same)
       (ap (λ s. s.variable) same) (ap (λ s. s.printed) same) (ap (λ s. s.process) same))
     where
       after : SourceState
