@@ -15,7 +15,6 @@ use Rattle.proof_commutation.specs.Placed.{actions_of, actions_up_to}
 use Rattle.proof_commutation.proofs.Reordering.{Caught, emptied, emptied_above, emptied_below, catch_up_all}
 use Rattle.proof_commutation.proofs.Reordering.{same_behind}
 use Rattle.proof_commutation.proofs.Deferred.{at_none}
-use Rattle.proof_commutation.proofs.Behind as D
 use Rattle.protocol.specs.Points.{Point}
 use Rattle.refinement.specs.Built.{build_of}
 use Rattle.proof_simulation.specs.Standing.{StandsAt}

@@ -272,7 +272,7 @@ module _ (p : Program) (w : WellFormed p) where
                 deferred = put r.deferred t (ks ++ k ∷ []);
                 ahead = n.after;
                 ties = n.ties;
-                behind = D.waits p r.deferred a c n.after t q after label r.behind stands may
+                behind = D.defers_more p r.deferred a c n.after t q after label r.behind stands may
                     (ap (λ (x : SourceState). x.table) same) (ap (λ (x : SourceState). x.variable) same)
                     (ap (λ (x : SourceState). x.printed) same) (ap (λ (x : SourceState). x.process) same);
                 few = λ u. at_put r.deferred t (ks ++ k ∷ []) u (λ is. length is ≤ suc steps)
