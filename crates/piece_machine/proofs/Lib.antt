@@ -6,5 +6,6 @@ pub mod Wanted
 pub mod Acted
 pub mod Determined
 pub mod Refused
+pub mod Given
 pub mod Beyond
 pub mod Locally

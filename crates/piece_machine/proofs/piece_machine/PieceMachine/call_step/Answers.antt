@@ -1,5 +1,5 @@
 -- A piece of the call that the thread makes.
-use Rattle.std.proofs.Common.{◌≡◌, inl, inr, [], slice_set, Some, None, true, refl, sym, ap, ◌∙◌}
+use Rattle.std.proofs.Common.{◌≡◌, inl, inr, [], slice_set, Some, None, Err, true, refl, sym, ap, ◌∙◌}
 use Rattle.std.proofs.Common.{subst, length-set}
 use Rattle.buckets.specs.Places.{names}
 use Rattle.buckets.specs.Sleepers.{bucket_count}
@@ -9,13 +9,15 @@ use Rattle.futexcalls.specs.Pieces.{held_at, takes_at, IsPhase}
 use Rattle.locals.specs.Looks.{Asks}
 use Rattle.machine.specs.ConcretePieces.{pieces_of, MakesCall}
 use Rattle.machine.specs.PieceStates.{request_of}
-use Rattle.machine.specs.PieceSteps.{CanTakePiece}
+use Rattle.machine.specs.declared.event.StepFault.TheVariants.{CannotMove}
 use Rattle.machine.specs.States.{state_of}
 use Rattle.machine.specs.Views.{View, concrete}
 use Rattle.piece_machine.specs.declared.piece_event.PieceEvent.TheVariants.{Event}
-use Rattle.piece_machine.specs.PieceViews.{PieceView, pieces, phase_in, IsKept, Steps, Tells}
-use Rattle.piece_machine.proofs.OwnCalls.{called_is, stands_in, holds, in_the_way, call_blocks}
-use Rattle.piece_machine.proofs.Owns.{phase_at, call_step, kept_on}
+use Rattle.piece_machine.specs.PieceConcrete.{Outcome, pieces_at, piece_of}
+use Rattle.piece_machine.specs.PieceViews.{PieceView, pieces, parts, phase_in, IsKept, Steps, Tells}
+use Rattle.piece_machine.proofs.Given.{held_up}
+use Rattle.piece_machine.proofs.OwnCalls.{called_is, stands_in, holds, call_blocks}
+use Rattle.piece_machine.proofs.Owns.{phase_at, call_step, kept_fit, kept_on}
 use Rattle.piece_machine.proofs.piece_machine.PieceMachine.call_step.Goals.{in-Some, in-None}
 use Rattle.piece_machine.proofs.piece_machine.PieceMachine.call_step.Goals as goal
 
@@ -98,11 +100,14 @@ returns-in-Blocked-clause-err c =
     let ph = c.self.inside.phases.items in
     let m = subst (λ (q : PieceView). MakesCall q.view c.args.t c.args.call) (sym c.self.view_is) c.requires.makes in
     let at = phase_at v ph c.args.t m.thread c.index-phase.result.now c.self.invariant m.stands c.index-phase.ensures in
+    let awake : (state_of (concrete v)).asleep c.args.t ≡ None =
+    subst (λ (q : PieceView). (pieces q).base.asleep c.args.t ≡ None) (sym c.self.view_is) c.requires.awake in
     let b = c.in-Blocked.ensures.piece (phase_in ph) m.thread at m.stands in
-    let s = pieces_of v (phase_in ph) in (
-      subst (λ (q : PieceView). CanTakePiece q.view.program (pieces q) c.args.t → ⊥) c.self.view_is
-          (in_the_way v.program s c.args.t m.thread (Asks (request_of c.args.call) m.go) m.stands m.asks
-          (call_blocks s c.args.t c.args.call m.go b.0)),
+    let k = parts (record { view = v; phases = ph }) in (
+      subst (λ (q : PieceView). piece_of q.view.program (parts q) c.args.t ≡ (let o : Outcome = Err CannotMove in o))
+          c.self.view_is
+          (held_up v.program k c.args.t m.thread (Asks (request_of c.args.call) m.go) (kept_fit v ph c.self.invariant)
+          (m.stands, awake) m.asks (call_blocks (pieces_at k) c.args.t c.args.call m.go b.0)),
       (λ i. record { view = b.1 i; phases = ph }) ∙ c.self.view_is,
     )
 

@@ -1,13 +1,13 @@
 -- A step that is none of a call is one of the machine, and changes no holder.
-use Rattle.std.proofs.Common.{refl, sym, ◌∙◌, subst}
+use Rattle.std.proofs.Common.{◌≡◌, Err, refl, sym, ap, ◌∙◌, subst}
 use Rattle.machine.specs.Views.{concrete}
 use Rattle.machine.proofs.Steps.{hand_on}
 use Rattle.piece_machine.specs.declared.piece_event.PieceEvent.TheVariants.{Event}
-use Rattle.piece_machine.specs.PieceConcrete.{PieceConcrete, pieces_at}
-use Rattle.piece_machine.specs.PieceViews.{PieceView, pieces, parts, IsApart, Refuses, Steps}
+use Rattle.piece_machine.specs.PieceConcrete.{PieceConcrete, Outcome, pieces_at, whole_at, piece_of}
+use Rattle.piece_machine.specs.PieceViews.{PieceView, pieces, parts, IsApart, Steps}
 use Rattle.piece_machine.proofs.Determined.{whole_done}
 use Rattle.piece_machine.proofs.Owns.{kept_fit, kept_on, same_parts}
-use Rattle.piece_machine.proofs.Refused.{whole_refused}
+use Rattle.piece_machine.proofs.Given.{whole_is}
 use Rattle.piece_machine.proofs.piece_machine.PieceMachine.whole_step.Goals as goal
 
 pub invariant_of-self-2 : goal.invariant_of-self-2
@@ -48,11 +48,11 @@ returns-in_err-event-clause-err c =
     let ph = c.self.inside.phases.items in
     let f = c.in_err-event.field-0.0 in
     let err = c.in_err-event.ensures.err in
-    let apart : IsApart v.program (pieces (record { view = v; phases = ph })) c.args.t =
+    let k = parts (record { view = v; phases = ph }) in
+    let apart : IsApart v.program (pieces_at k) c.args.t =
     subst (λ (q : PieceView). IsApart q.view.program (pieces q) c.args.t) (sym c.self.view_is) c.requires.apart in
     hand_on c.from_residual.result f _ c.from_residual.ensures.1 (
-      subst (λ (q : PieceView). Refuses q.view.program (pieces q) c.args.t f) c.self.view_is
-          (whole_refused v.program (parts (record { view = v; phases = ph })) c.args.t f
-          (kept_fit v ph c.self.invariant) apart err.0),
+      subst (λ (q : PieceView). piece_of q.view.program (parts q) c.args.t ≡ (let o : Outcome = Err f in o)) c.self.view_is
+          (whole_is v.program k c.args.t apart ∙ ap (whole_at k) err.0),
       (λ i. record { view = err.1 i; phases = ph }) ∙ c.self.view_is,
     )
