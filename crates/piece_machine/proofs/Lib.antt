@@ -7,5 +7,7 @@ pub mod Acted
 pub mod Determined
 pub mod Refused
 pub mod Given
+pub mod Chosen
+pub mod Taken
 pub mod Beyond
 pub mod Locally

@@ -1,11 +1,11 @@
-ghost use Rattle.std.specs.Prelude.{◌≡◌, ◌≤◌, ◌+◌, None, Some, Err, IfOk, IfErr, OnOk};
+ghost use Rattle.std.specs.Prelude.{◌≡◌, ◌≤◌, ◌+◌, None, Some, Ok, Err, IfOk, IfErr, OnOk};
 ghost use Rattle.buckets.specs.BucketCount.{IsBucketCount};
 ghost use Rattle.machine.specs.ConcretePieces.{MakesCall};
 ghost use Rattle.machine.specs.PieceStates.{opening_pieces, call_of};
 ghost use Rattle.machine.specs.RequestMeanings.{asked_of};
 ghost use Rattle.piece_machine.specs.PieceConcrete.{opening_at, piece_of};
 ghost use Rattle.piece_machine.specs.PieceDetermined.{IsFit};
-ghost use Rattle.piece_machine.specs.PieceViews.{pieces, parts, IsComeTo, Steps, IsApart, expected_of};
+ghost use Rattle.piece_machine.specs.PieceViews.{pieces, parts, IsComeTo, IsApart, expected_of};
 
 use crate::piece_event::PieceEvent;
 use futexcalls::{FutexCall, FutexPhase};
@@ -120,8 +120,8 @@ impl PieceMachine {
     /// and with `Broken` where its step may not be; then nothing has changed.
     pub fn step(&mut self, t: u32) -> Result<PieceEvent, StepFault>
         requires { 1 ≤ self.old.view.room }
-        ensures done { IfOk result
-            (λ e. Steps self.old.view.program (pieces self.old) t e (pieces self.new)) }
+        ensures done { IfOk result (λ e. piece_of self.old.view.program (parts self.old) t
+            ≡ Ok (parts self.new, e)) }
         ensures err { IfErr result
             (λ f. (piece_of self.old.view.program (parts self.old) t ≡ Err f)
             × (self.new ≡ self.old)) }
@@ -150,8 +150,8 @@ impl PieceMachine {
     fn whole_step(&mut self, t: u32) -> Result<PieceEvent, StepFault>
         requires room { 1 ≤ self.old.view.room }
         requires apart { IsApart self.old.view.program (pieces self.old) t }
-        ensures done { IfOk result
-            (λ e. Steps self.old.view.program (pieces self.old) t e (pieces self.new)) }
+        ensures done { IfOk result (λ e. piece_of self.old.view.program (parts self.old) t
+            ≡ Ok (parts self.new, e)) }
         ensures err { IfErr result
             (λ f. (piece_of self.old.view.program (parts self.old) t ≡ Err f)
             × (self.new ≡ self.old)) }
@@ -166,8 +166,8 @@ impl PieceMachine {
     fn call_step(&mut self, t: u32, call: FutexCall) -> Result<PieceEvent, StepFault>
         requires makes { MakesCall self.old.view t call }
         requires awake { (pieces self.old).base.asleep t ≡ None }
-        ensures done { IfOk result
-            (λ e. Steps self.old.view.program (pieces self.old) t e (pieces self.new)) }
+        ensures done { IfOk result (λ e. piece_of self.old.view.program (parts self.old) t
+            ≡ Ok (parts self.new, e)) }
         ensures err { IfErr result
             (λ f. (piece_of self.old.view.program (parts self.old) t ≡ Err f)
             × (self.new ≡ self.old)) }
