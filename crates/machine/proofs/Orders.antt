@@ -1,5 +1,7 @@
 -- The lists of sleepers behind a piece of a call.
-use Rattle.std.proofs.Common.{◌≡◌, ℕ, ◌+◌, Option, Some, None, length, refl, sym, ap, subst}
+use Rattle.std.proofs.Common.{◌≡◌, ◌≢◌, ℕ, ◌+◌, ◌%◌, ◌==◌, Bool, true, false, Option, Some, None, length, refl, sym, ap}
+use Rattle.std.proofs.Common.{◌∙◌, subst}
+use Rattle.std.specs.Prelude.{if◌then◌else◌}
 use Rattle.machine.specs.declared.event.Event.{Event}
 use Rattle.buckets.specs.Sleepers.{Sleepers, queue, bucket_count}
 use Rattle.futexcalls.specs.Answers.{word_of}
@@ -22,22 +24,32 @@ use Rattle.machine.proofs.CallPieces.{Told, next_told, blocked_told, done_told}
 
 -- the same of what comes of the piece
 abbrev OrderBy : Sleepers → ℕ → FutexCall → FutexPhase → FutexProgress → Sleepers → Type 0
-OrderBy s t call phase (Next next) s' = queue s' ≡ queue s
+OrderBy s t call phase (Next next) s' = (next ≢ First) × (queue s' ≡ queue s)
 OrderBy s t call phase Blocked s' = queue s' ≡ queue s
 OrderBy s t call phase (Done answer) s' =
     QueuesSo s t call phase
     (step.Done (event_of (call_name call) (answer_of call answer) (woken_in answer) (moved_in answer))) s'
 
+-- behind a bucket the call goes on
+goes_on : (n : ℕ) (call : FutexCall) → (after_lock n First call ≢ First) × (after_lock n Second call ≢ First)
+goes_on n (Wait a expected) = (λ e. cc, λ e. cc)
+goes_on n (Wake a wakes) = (λ e. cc, λ e. cc)
+goes_on n (Requeue a b wakes moves expected) = (by_test (a.0 % n == b.0 % n), λ e. cc)
+  where
+    by_test : (same : Bool) → (if same then Compare else Second) ≢ First
+    by_test true e = cc
+    by_test false e = cc
+
 takes_order : (s s' : Sleepers) (t : ℕ) (call : FutexCall) (phase next : FutexPhase) (o : Option ℕ) (progress : FutexProgress)
-    → TakesSo t o next s progress s' → OrderBy s t call phase progress s'
-takes_order s s' t call phase next None progress h = absurd h
-takes_order s s' t call phase next (Some b) (Next n) h = h.2.queues
-takes_order s s' t call phase next (Some b) Blocked h = ap queue h.2
-takes_order s s' t call phase next (Some b) (Done answer) h = absurd h
+    → next ≢ First → TakesSo t o next s progress s' → OrderBy s t call phase progress s'
+takes_order s s' t call phase next None progress later h = absurd h
+takes_order s s' t call phase next (Some b) (Next n) later h = (λ e. later (sym h.0 ∙ e), h.2.queues)
+takes_order s s' t call phase next (Some b) Blocked later h = ap queue h.2
+takes_order s s' t call phase next (Some b) (Done answer) later h = absurd h
 
 compares_order : (s s' : Sleepers) (t : ℕ) (word : ℕ → ℕ) (call : FutexCall) (a expected : ℕ) (progress : FutexProgress)
     → ComparesSo word call a expected s progress s' → OrderBy s t call Compare progress s'
-compares_order s s' t word call a expected (Next n) h = ap queue h.2
+compares_order s s' t word call a expected (Next n) h = (λ e. let no : Act ≡ First = sym h.1 ∙ e in cc, ap queue h.2)
 compares_order s s' t word call a expected (Done Again) h = (h.1.queues, refl)
 compares_order s s' t word call a expected (Done (Acted r)) h = absurd h
 compares_order s s' t word call a expected Blocked h = absurd h
@@ -56,10 +68,10 @@ piece_order : (s s' : Sleepers) (t : ℕ) (word : ℕ → ℕ) (call : FutexCall
     → PieceSo word t call phase s progress s' → OrderBy s t call phase progress s'
 piece_order s s' t word call First progress h =
     takes_order s s' t call First (after_lock (bucket_count s) First call) (takes_at (bucket_count s) First call)
-    progress h
+    progress (goes_on (bucket_count s) call).0 h
 piece_order s s' t word call Second progress h =
     takes_order s s' t call Second (after_lock (bucket_count s) Second call) (takes_at (bucket_count s) Second call)
-    progress h
+    progress (goes_on (bucket_count s) call).1 h
 piece_order s s' t word (Wait a expected) Compare progress h =
     compares_order s s' t word (Wait a expected) a.0 expected progress h
 piece_order s s' t word (Wake a wakes) Compare progress h = absurd h

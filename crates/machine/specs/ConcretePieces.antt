@@ -1,5 +1,5 @@
 -- What a machine and the phases of its threads stand for, and what its piece of a futex call does.
-use Rattle.std.specs.Prelude.{ℕ, ◌≡◌, ◌%◌, ◌+◌, List, [], Some, length}
+use Rattle.std.specs.Prelude.{ℕ, ◌≡◌, ◌≢◌, ◌%◌, ◌+◌, List, [], Some, length}
 use Rattle.words.specs.Updates.{put}
 use Rattle.buckets.specs.Sleepers.{Sleepers, queue, bucket_count, holder_of}
 use Rattle.futexcalls.specs.Answers.{word_of}
@@ -85,9 +85,10 @@ IsHeldUp words sleepers t phase =
     (a : ℕ) × (u : ℕ) × WakesOn (length words) t phase (word_of words) a
     × (holder_of sleepers (a % bucket_count sleepers) ≡ Some u)
 
--- the lists of sleepers behind a piece of a call: as before, or behind its act by their fronts, which its event tells
+-- the lists of sleepers behind a piece of a call: as before, or behind its act by their fronts, which its event tells;
+-- and a call that goes on has its first piece behind it
 abbrev pub QueuesSo : Sleepers → ℕ → FutexCall → FutexPhase → CallStep → Sleepers → Type 0
-QueuesSo s t call phase (Next next) s' = queue s' ≡ queue s
+QueuesSo s t call phase (Next next) s' = (next ≢ First) × (queue s' ≡ queue s)
 QueuesSo s t call phase Blocked s' = queue s' ≡ queue s
 QueuesSo s t call First (Done event) s' = ⊥
 QueuesSo s t call Second (Done event) s' = ⊥

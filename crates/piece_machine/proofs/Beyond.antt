@@ -1,18 +1,18 @@
 -- What comes from outside, as functions, is of the relation.
-use Rattle.std.proofs.Common.{◌≡◌, ℕ, Option, Some, None, Result, Ok, Err, refl, ap}
+use Rattle.std.proofs.Common.{◌≡◌, ℕ, Result, Ok, Err, refl, ap}
 use Rattle.std.proofs.Common.{subst}
 use Rattle.isa.specs.Programs.{Program}
 use Rattle.machine.specs.declared.event.Event.{Event as Told}
 use Rattle.machine.specs.declared.event.StepFault.{StepFault}
-use Rattle.machine.specs.declared.event.StepFault.TheVariants.{CannotMove, Broken}
+use Rattle.machine.specs.declared.event.StepFault.TheVariants.{CannotMove}
 use Rattle.machine.specs.States.{ConcreteState}
-use Rattle.machine.specs.ConcreteOutside.{stray_at, stray_of, kill_of}
+use Rattle.machine.specs.ConcreteOutside.{stray_of, kill_of}
 use Rattle.machine.specs.PieceStates.{opening_pieces}
 use Rattle.machine.proofs.Killing.{kill_refused_so}
 use Rattle.machine.proofs.Outside.{strays_so, stray_refused_so}
 use Rattle.machine.proofs.Stepping.{opens_so}
 use Rattle.proof_pieces.proofs.Runs.{held_kept}
-use Rattle.piece_machine.specs.PieceViews.{Strays, Kills, RefusesStray, stray_step}
+use Rattle.piece_machine.specs.PieceViews.{Strays, Kills, stray_step}
 use Rattle.piece_machine.specs.PieceConcrete.{PieceConcrete, OutsideOutcome, pieces_at, strayed_at, killed_at}
 use Rattle.piece_machine.specs.PieceDetermined.{IsFit, PieceStraysSo, PieceStrayRefusedSo, PieceKillsSo}
 use Rattle.piece_machine.specs.PieceDetermined.{PieceKillRefusedSo, PiecesOpenSo}
@@ -62,15 +62,6 @@ piece_stray_refused_so k t = (
   λ h. (stray_refused_so k.concrete t).0 (strayed_err k (stray_of k.concrete t) CannotMove h),
   λ h. ap (strayed_at k) ((stray_refused_so k.concrete t).1 h),
 )
-
-never_broken : (k : ConcreteState) (t : ℕ) (o : Option ℕ) → stray_at k t o ≡ Err Broken → ⊥
-never_broken k t None h = cc
-never_broken k t (Some a) h = cc
-
-pub stray_refused : (k : PieceConcrete) (t : ℕ) (f : StepFault) → stray_of k.concrete t ≡ Err f
-    → RefusesStray (pieces_at k) t f
-stray_refused k t CannotMove h = (stray_refused_so k.concrete t).0 h
-stray_refused k t Broken h = never_broken k.concrete t (k.concrete.common.asleep t) h
 
 -- a kill
 kills_by : (p : Program) (k k' : PieceConcrete) (t : ℕ) (e : Told) (r : Result (ConcreteState × Told) StepFault)

@@ -18,10 +18,10 @@ use Rattle.machine.specs.PieceStates.{PieceState, request_of, call_of, call_at}
 use Rattle.machine.specs.PieceSteps.{BlocksAt, BlocksCall, CanTakePiece}
 use Rattle.machine.specs.Views.{View, concrete, IsWellFormed}
 use Rattle.machine.proofs.Landing.{HasPlace, has_place}
-use Rattle.machine.proofs.Steps.{asked_back}
+use Rattle.machine.proofs.Steps.{asked_back, no_exit}
 use Rattle.machine.proofs.Whole.{stands_at}
 use Rattle.piece_machine.specs.PieceViews.{IsBlocked}
-use Rattle.piece_machine.proofs.OwnCalls.{one_thread, one_phase, no_exit, call_back, call_blocks}
+use Rattle.piece_machine.proofs.OwnCalls.{one_thread, one_phase, call_back, call_blocks}
 
 -- what follows on each side of a test
 pub both : {A B C D : Type 0} (b : Bool) → MatchBool b A B → (A → C) → (B → D) → MatchBool b C D

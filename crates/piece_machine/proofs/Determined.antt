@@ -1,5 +1,5 @@
 -- The one step of a thread is one of the relation, and is refused exactly where the relation has none.
-use Rattle.std.proofs.Common.{◌≡◌, ◌≢◌, ℕ, ◌+◌, ◌-◌, [], length, Option}
+use Rattle.std.proofs.Common.{◌≡◌, ◌≢◌, ℕ, ◌+◌, ◌-◌, List, [], length, Option}
 use Rattle.std.proofs.Common.{Some, None, Result, Ok, Err, slice_set, inl, inr, refl, sym, ap, ◌∙◌, subst, arith}
 use Rattle.std.proofs.Common.{length-set}
 use Rattle.std.specs.Prelude.{slice_index}
@@ -25,7 +25,7 @@ use Rattle.machine.specs.ConcreteServing.{load, event_of}
 use Rattle.machine.specs.ConcreteSteps.{step_of}
 use Rattle.machine.specs.ConcretePieces.{call_name}
 use Rattle.machine.specs.PieceStates.{request_of, call_of, call_at}
-use Rattle.machine.specs.PieceSteps.{IsLock, IsEqual, IsAgain, IsAct, BlocksAt, BlocksCall}
+use Rattle.machine.specs.PieceSteps.{goes_outside, IsLock, IsEqual, IsAgain, IsAct, BlocksAt, BlocksCall}
 use Rattle.machine.specs.Views.{IsWellFormed}
 use Rattle.machine.proofs.Placing.{threads_put}
 use Rattle.machine.proofs.Keeping.{Holds, holds-concrete, keeps}
@@ -113,6 +113,20 @@ over_is k t x y c stands most words output = λ i. record {
   output = output i;
 }
 
+pub over_state : (k : PieceConcrete) (t : ℕ) (x y : Thread) (c : Common) (buckets : List ℕ) → thread_of k.concrete t ≡ Some x
+    → c.most ≡ k.concrete.common.most → c.words ≡ k.concrete.common.words → c.output ≡ k.concrete.common.output
+    → pieces_at (record k {
+      concrete = record { common = c; threads = slice_set k.concrete.threads (t - 1) y };
+      phase = put k.phase t First;
+      holder = with_place k.holder buckets None;
+    })
+    ≡ goes_outside (pieces_at k) t (with_sleepers (state_of k.concrete) c.asleep) buckets y
+over_state k t x y c buckets stands most words output = λ i. record (pieces_at k) {
+  base = over_is k t x y c stands most words output i;
+  phase = put k.phase t First;
+  holder = with_place k.holder buckets None;
+}
+
 over_well : (p : Program) (k : PieceConcrete) (t : ℕ) (y : Thread) (c : Common) → IsFit p k
     → Holds p (length k.concrete.threads) c → c.most ≡ k.concrete.common.most
     → IsWellFormed p (record { common = c; threads = slice_set k.concrete.threads (t - 1) y })
@@ -154,7 +168,7 @@ take_done p k k' t e call go next (Some b) fit calls takes after h =
     lock_done p k k' t e call go b next (k.holder b) fit calls takes after refl h
 
 -- the word is compared
-compares_none : (n : ℕ) (phase : FutexPhase) (call : FutexCall) → phase ≡ Compare → takes_at n phase call ≡ None
+pub compares_none : (n : ℕ) (phase : FutexPhase) (call : FutexCall) → phase ≡ Compare → takes_at n phase call ≡ None
 compares_none n phase call at = ap (λ f. takes_at n f call) at
 
 word_done : (p : Program) (k k' : PieceConcrete) (t : ℕ) (e : PieceEvent) (call : FutexCall) (go : ℕ → Thread)
@@ -201,7 +215,6 @@ word_done p k k' t e call go a expected fit calls compares is at h =
           told.Event (event_of (call_name call) (again_of call) [] []),
         )
     again_done p k t call go a expected fit calls compares at differs =
-        let base = over_is k t calls.thread (go (again_of call)) k.concrete.common calls.stands refl refl refl in
         fits p k _ t _ fit
         (over_well p k t (go (again_of call)) k.concrete.common fit (holds-concrete p k.concrete fit.well) refl)
         (record {
@@ -210,11 +223,9 @@ word_done p k k' t e call go a expected fit calls compares is at h =
             thread = calls.thread;
             stands = calls.stands;
             awake = calls.awake;
-            piece = IsAgain call go a expected calls.asks compares at differs refl (λ i. record (pieces_at k) {
-              base = base i;
-              phase = put k.phase t First;
-              holder = with_place k.holder (buckets_of k.buckets call) None;
-            });
+            piece = IsAgain call go a expected calls.asks compares at differs refl
+                (over_state k t calls.thread (go (again_of call)) k.concrete.common (buckets_of k.buckets call)
+                calls.stands refl refl refl);
             pauses = refl;
           };
           told = refl;
@@ -229,14 +240,13 @@ compare_done p k k' t e (Requeue a b wakes moves expected) go fit calls at h =
     word_done p k k' t e (Requeue a b wakes moves expected) go a.0 expected fit calls (refl, refl) refl at h
 
 -- the call acts
-act_done : (p : Program) (k : PieceConcrete) (t : ℕ) (call : FutexCall) (go : ℕ → Thread) → IsFit p k
+pub act_done : (p : Program) (k : PieceConcrete) (t : ℕ) (call : FutexCall) (go : ℕ → Thread) → IsFit p k
     → Calls p k t call go → k.phase t ≡ Act → (q : PieceConcrete × PieceEvent) → act_at k t call go ≡ Ok q → Done p k t q
 act_done p k t call go fit calls at q h =
     let c = k.concrete.common in
     let woken = woken_by call c.queue in
     let moved = moved_by call c.queue in
     let y = go (length woken + length moved) in
-    let base = over_is k t calls.thread y (acted t call c) calls.stands refl refl refl in
     let place = has_place p k.concrete t calls.thread fit.well calls.stands in
     subst (Done p k t) (inside _ q h) (fits p k _ t _ fit
     (over_well p k t y (acted t call c) fit
@@ -249,11 +259,8 @@ act_done p k t call go fit calls at q h =
         stands = calls.stands;
         awake = calls.awake;
         piece = IsAct call go moved (places_by t call c.queue c.asleep) calls.asks at
-            (acted_so p k.concrete t call fit.well) (λ i. record (pieces_at k) {
-              base = base i;
-              phase = put k.phase t First;
-              holder = with_place k.holder (buckets_of k.buckets call) None;
-            });
+            (acted_so p k.concrete t call fit.well)
+            (over_state k t calls.thread y (acted t call c) (buckets_of k.buckets call) calls.stands refl refl refl);
         pauses = refl;
       };
       told = refl;

@@ -6,5 +6,8 @@ pub mod Wanted
 pub mod Acted
 pub mod Determined
 pub mod Refused
+pub mod Given
+pub mod Chosen
+pub mod Taken
 pub mod Beyond
 pub mod Locally

@@ -8,7 +8,7 @@ use Rattle.locals.specs.Threads.{Thread}
 use Rattle.locals.specs.Looks.{Look, Goes, Asks, Leaves, Breaks, Rests, look}
 use Rattle.locals.specs.Steps.{local_next, local_step, and_step, local_after}
 use Rattle.machine.specs.declared.event.EventName.TheVariants as name
-use Rattle.machine.specs.States.{thread_at}
+use Rattle.machine.specs.States.{thread_at, state_of}
 use Rattle.machine.specs.ConcreteServing.{plain}
 use Rattle.machine.specs.ConcreteSteps.{thread_step, on_machine, step_awake, step_thread, step_of, put_thread, can_move}
 use Rattle.machine.specs.PieceStates.{PieceState, opening_pieces}
@@ -17,15 +17,11 @@ use Rattle.machine.specs.Runs.{Step}
 use Rattle.machine.specs.Views.{View, concrete}
 use Rattle.machine.proofs.Placing.{thread_at-put}
 use Rattle.machine.proofs.Refusing.{moves_so}
-use Rattle.piece_machine.specs.PieceConcrete.{PieceConcrete, pieces_at}
+use Rattle.piece_machine.specs.PieceConcrete.{PieceConcrete, pieces_at, with_local}
 use Rattle.piece_machine.specs.PieceDetermined.{IsFit}
 use Rattle.piece_machine.specs.PieceViews.{parts, own_step, IsKept, IsComeTo, GoesTo}
 use Rattle.piece_machine.proofs.Determined.{Stands, apart, whole_done}
 use Rattle.piece_machine.proofs.Owns.{goes_more, kept_fit}
-
--- one thread changed
-abbrev pub with_local : PieceConcrete → ℕ → Thread → PieceConcrete
-with_local k t x = record k { concrete = put_thread k.concrete t x }
 
 set_twice : {A : Type 0} → (xs : List A) (i : ℕ) (x y : A) → slice_set (slice_set xs i x) i y ≡ slice_set xs i y
 set_twice [] i x y = refl
@@ -122,3 +118,11 @@ pub local_put : (v v' : View) (phases : List FutexPhase) (t : ℕ) (here : Threa
 local_put v v' phases t here kept can goes after =
     let c = (moves_so (concrete v) t).0 can in
     rw after (local_kept v phases t goes.origin here goes.count kept (goes.stands, c.awake) goes.goes)
+
+-- a thread that its local steps led on from where it is
+pub led_fit : (v : View) (phases : List FutexPhase) (t : ℕ) (here : Thread) → IsKept v phases → (goes : GoesTo v t here)
+    → (state_of (concrete v)).asleep t ≡ None
+    → IsFit v.program (with_local (parts (record { view = v; phases = phases })) t here)
+led_fit v phases t here kept goes awake =
+    (locally v.program (parts (record { view = v; phases = phases })) t goes.origin here goes.count
+    (record { fit = kept_fit v phases kept; come = kept.come }) (goes.stands, awake) goes.goes).fit

@@ -1,5 +1,6 @@
 -- A thread that makes a futex call.
-use Rattle.std.proofs.Common.{◌≡◌, ℕ, ◌⊎◌, inl, inr, true, Option, Some, None, refl, sym, ap, ◌∙◌, subst}
+use Rattle.std.proofs.Common.{◌≡◌, ℕ, ◌⊎◌, inl, inr, true, false, is_some, Option, Some, None, refl, sym, ap, ◌∙◌, subst}
+use Rattle.words.specs.declared.mem.Addr.{Addr}
 use Rattle.isa.specs.Programs.{Program}
 use Rattle.buckets.specs.Places.{names}
 use Rattle.futexcalls.specs.declared.pieces.FutexCall.{FutexCall}
@@ -14,11 +15,11 @@ use Rattle.locals.specs.declared.request.NextStep.TheVariants as next
 use Rattle.locals.specs.Looks.{Request, AskLoad, AskStore, AskSwap, AskCompareSwap, AskOr, AskAdd, AskFork, AskPrint}
 use Rattle.locals.specs.Looks.{AskWait, AskWake, AskRequeue, AskReturn, AskReturnValue, AskFault, Look, Goes, Asks}
 use Rattle.locals.specs.Looks.{Leaves, Breaks, Rests, look}
-use Rattle.locals.specs.Requests.{request_step, next_step_of}
+use Rattle.locals.specs.Requests.{next_step_of}
 use Rattle.machine.specs.RequestMeanings.{asked_of}
 use Rattle.machine.specs.ConcretePieces.{MakesCall}
-use Rattle.machine.specs.Views.{View, concrete}
-use Rattle.machine.proofs.Steps.{asked_back}
+use Rattle.machine.specs.Views.{View, concrete, address_of}
+use Rattle.machine.proofs.Steps.{asked_back, no_exit}
 use Rattle.machine.specs.States.{State, state_of, thread_of}
 use Rattle.piece_machine.specs.PieceViews.{IsApart}
 use Rattle.machine.specs.Runs.{IsBroken}
@@ -40,22 +41,6 @@ one_call a b h = cc
 
 pub one_phase : (a b : ExitPhase) → next.Exit a ≡ next.Exit b → a ≡ b
 one_phase a b h = cc
-
-pub no_exit : (r : Request) (phase : ExitPhase) → request_step r ≡ next.Exit phase → ⊥
-no_exit (AskFork entry arguments has_room) phase h = cc
-no_exit (AskLoad a) phase h = cc
-no_exit (AskStore a v) phase h = cc
-no_exit (AskSwap a v) phase h = cc
-no_exit (AskCompareSwap a expected new) phase h = cc
-no_exit (AskOr a v) phase h = cc
-no_exit (AskAdd a v) phase h = cc
-no_exit (AskPrint number) phase h = cc
-no_exit (AskWait a expected) phase h = cc
-no_exit (AskWake a n) phase h = cc
-no_exit (AskRequeue a b wake moves expected) phase h = cc
-no_exit AskReturn phase h = cc
-no_exit (AskReturnValue v) phase h = cc
-no_exit (AskFault cause) phase h = cc
 
 pub one_thread : (x y : Thread) → Some x ≡ Some y → x ≡ y
 one_thread x y h = cc
@@ -127,6 +112,11 @@ told_call AskReturn call h = absurd cc
 told_call (AskReturnValue v) call h = absurd cc
 told_call (AskFault cause) call h = absurd cc
 
+-- a thread that is told to sleep nowhere
+pub awake_of : (o : Option Addr) (x : Option ℕ) → is_some o ≡ false → address_of o ≡ x → x ≡ None
+awake_of None x h e = sym e
+awake_of (Some a) x h e = absurd cc
+
 -- a thread that was made
 pub made_of : (o : Option Thread) → (o ≡ None → ⊥) → (x : Thread) × (o ≡ Some x)
 made_of None h = absurd (h refl)
@@ -178,7 +168,7 @@ apart_asks v s t request base awake made is h =
     }
 
 -- a thread in its exit
-leaves : (s : PieceState) (t : ℕ) (l : Look) (phase : ExitPhase) → next.Exit phase ≡ next_step_of l
+pub leaves : (s : PieceState) (t : ℕ) (l : Look) (phase : ExitPhase) → next.Exit phase ≡ next_step_of l
     → (BlocksAt s t (Leaves phase) → ⊥) → (call_at l ≡ None) × (BlocksAt s t l → ⊥)
 leaves s t (Goes y) phase is free = absurd cc
 leaves s t (Asks r go) phase is free = absurd (no_exit r phase (sym is))

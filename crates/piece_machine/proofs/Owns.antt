@@ -24,7 +24,7 @@ use Rattle.piece_machine.proofs.OwnCalls.{call_back}
 use Rattle.proof_pieces.proofs.Runs.{held_kept}
 use Rattle.piece_machine.specs.PieceConcrete.{PieceConcrete, pieces_at}
 use Rattle.piece_machine.specs.PieceDetermined.{IsFit}
-use Rattle.piece_machine.specs.PieceViews.{phase_in, parts, IsKept, own_step}
+use Rattle.piece_machine.specs.PieceViews.{phase_in, parts, IsKept}
 
 inside : (x y : Thread) → Some x ≡ Some y → x ≡ y
 inside x y h = cc
@@ -129,14 +129,6 @@ kept_by v v' phases phases' step kept same well long moves = record {
   long = omega (arith, long, kept.long);
 }
 
--- so does a step of a thread's own
-pub kept_on : (v v' : View) (phases phases' : List FutexPhase) (t : ℕ) (woken : List ℕ) → IsKept v phases
-    → v'.program ≡ v.program → IsWellFormed v'.program (concrete v') → length phases' ≡ length phases
-    → IsPieceStep v.program (pieces_of v (phase_in phases)) (own_step (pieces_of v' (phase_in phases')) t woken)
-    (pieces_of v' (phase_in phases')) → IsKept v' phases'
-kept_on v v' phases phases' t woken kept same well long step =
-    kept_by v v' phases phases' (own_step (pieces_of v' (phase_in phases')) t woken) kept same well long step
-
 -- a thread that was made has a phase
 pub has_phase : (v : View) (phases : List FutexPhase) (t : ℕ) (x : Thread) → IsKept v phases
     → thread_of (concrete v) t ≡ Some x → t < length phases
@@ -148,18 +140,3 @@ pub phase_at : (v : View) (phases : List FutexPhase) (t : ℕ) (x : Thread) (pha
     → thread_of (concrete v) t ≡ Some x → phase ≡ slice_index_or phases t phase → phase_in phases t ≡ phase
 phase_at v phases t x phase kept stands is =
     get_or_default phases t First phase (has_phase v phases t x kept stands) ∙ sym is
-
--- a piece of a call, behind which the thread stands in this phase
-pub call_step : (v v' : View) (phases : List FutexPhase) (t : ℕ) (x : Thread) (woken : List ℕ) (phase : FutexPhase)
-    → IsKept v phases → thread_of (concrete v) t ≡ Some x → (state_of (concrete v)).asleep t ≡ None
-    → Piece v.program (pieces_of v (phase_in phases)) t x woken (pieces_of v' (put (phase_in phases) t phase))
-    → IsPieceStep v.program (pieces_of v (phase_in phases))
-    (own_step (pieces_of v' (phase_in (slice_set phases t phase))) t woken)
-    (pieces_of v' (phase_in (slice_set phases t phase)))
-call_step v v' phases t x woken phase kept stands awake piece = record {
-  thread = x;
-  stands = stands;
-  awake = awake;
-  piece = rw (phase_put phases t phase (has_phase v phases t x kept stands)) piece;
-  pauses = refl;
-}

@@ -23,7 +23,6 @@ use Rattle.machine.specs.PieceStates.{request_of, call_of, call_at}
 use Rattle.machine.specs.PieceSteps.{BlocksAt, BlocksCall, CanTakePiece, NextPieceIsBroken}
 use Rattle.machine.proofs.Refusing.{breaks_so, refuses_so}
 use Rattle.piece_machine.specs.declared.piece_event.PieceEvent.{PieceEvent}
-use Rattle.piece_machine.specs.PieceViews.{IsApart, Refuses}
 use Rattle.piece_machine.specs.PieceConcrete.{PieceConcrete, Outcome, pieces_at, lies_in, wanted, is_held, whole_at}
 use Rattle.piece_machine.specs.PieceConcrete.{lock_at, take_at, compare_at, piece_at, call_step, look_step}
 use Rattle.piece_machine.specs.PieceConcrete.{awake_step, thread_step}
@@ -31,7 +30,7 @@ use Rattle.piece_machine.specs.PieceDetermined.{IsFit, PieceBreaksSo, PieceRefus
 use Rattle.piece_machine.proofs.OwnCalls.{one_thread, stands_in, told_call, breaks}
 use Rattle.piece_machine.proofs.Owns.{apart_first}
 use Rattle.piece_machine.proofs.Wanted.{lies_so, lies_test, lies_not, blocks_so, blocks_test}
-use Rattle.piece_machine.proofs.Determined.{Stands, apart}
+use Rattle.piece_machine.proofs.Determined.{Stands}
 
 apart_faults : (let a : Outcome = Err CannotMove in a) ≡ (let b : Outcome = Err Broken in b) → ⊥
 apart_faults h = cc
@@ -61,7 +60,7 @@ compare_not k t (Wake a wakes) go h = cc
 compare_not k t (Requeue a b wakes moves expected) go h =
     never_err (load k.concrete.common a.0 == expected) _ _ Broken h
 
-piece_not : (k : PieceConcrete) (t : ℕ) (call : FutexCall) (go : ℕ → Thread) (phase : FutexPhase)
+pub piece_not : (k : PieceConcrete) (t : ℕ) (call : FutexCall) (go : ℕ → Thread) (phase : FutexPhase)
     → piece_at k t call go phase ≡ Err Broken → ⊥
 piece_not k t call go First h = take_not k t (after_lock k.buckets First call) (takes_at k.buckets First call) h
 piece_not k t call go Second h = take_not k t (after_lock k.buckets Second call) (takes_at k.buckets Second call) h
@@ -183,7 +182,7 @@ second_there k call there = elim there [ inl e ↦ absurd cc | inr w ↦ w ]
 compare_there : (k : PieceConcrete) (call : FutexCall) → IsThere k Compare call → IsPhase k.buckets Compare call
 compare_there k call there = elim there [ inl e ↦ absurd cc | inr w ↦ w ]
 
-piece_held : (k : PieceConcrete) (t : ℕ) (call : FutexCall) (go : ℕ → Thread) (phase : FutexPhase)
+pub piece_held : (k : PieceConcrete) (t : ℕ) (call : FutexCall) (go : ℕ → Thread) (phase : FutexPhase)
     → IsThere k phase call → piece_at k t call go phase ≡ Err CannotMove
     → (b : ℕ) × (u : ℕ) × (takes_at k.buckets phase call ≡ Some b) × (k.holder b ≡ Some u)
 piece_held k t call go First there h =
@@ -200,7 +199,7 @@ piece_held k t call go Compare there h = absurd (compare_held k t call go (compa
 piece_held k t call go Act there h = absurd cc
 
 -- the phase of a thread that makes a call
-there_of : (p : Program) (k : PieceConcrete) (t : ℕ) (x : Thread) (call : FutexCall) (go : ℕ → Thread) → IsFit p k
+pub there_of : (p : Program) (k : PieceConcrete) (t : ℕ) (x : Thread) (call : FutexCall) (go : ℕ → Thread) → IsFit p k
     → thread_of k.concrete t ≡ Some x → look p t x ≡ Asks (request_of call) go → IsThere k (k.phase t) call
 there_of p k t x call go fit stands asks =
     elim (stands_in p (pieces_at k) t x call go fit.right stands asks) [ inl f ↦ inl f | inr w ↦ inr w.0 ]
@@ -240,23 +239,22 @@ look_refuses p k t (Goes y) fit can looks h = whole_refuses p k t h can
 look_refuses p k t Breaks fit can looks h = whole_refuses p k t h can
 look_refuses p k t Rests fit can looks h = whole_refuses p k t h can
 
--- and back: where a held bucket is in the way
-held_call : (p : Program) (k : PieceConcrete) (t : ℕ) (go : ℕ → Thread) (call : FutexCall) (phase : FutexPhase) (b u : ℕ)
-    → takes_at k.buckets phase call ≡ Some b → k.holder b ≡ Some u → piece_at k t call go phase ≡ Err CannotMove
-held_call p k t go call First b u takes holds =
-    ap (take_at k t (after_lock k.buckets First call)) takes ∙ ap (lock_at k t (after_lock k.buckets First call) b) holds
-held_call p k t go call Second b u takes holds =
-    ap (take_at k t (after_lock k.buckets Second call)) takes
-    ∙ ap (lock_at k t (after_lock k.buckets Second call) b) holds
-held_call p k t go call Compare b u takes holds = absurd cc
-held_call p k t go call Act b u takes holds = absurd cc
+-- a bucket is taken
+pub lock_is : (k : PieceConcrete) (t : ℕ) (call : FutexCall) (go : ℕ → Thread) (phase : FutexPhase) (b : ℕ)
+    → takes_at k.buckets phase call ≡ Some b
+    → piece_at k t call go phase ≡ lock_at k t (after_lock k.buckets phase call) b (k.holder b)
+lock_is k t call go First b takes = ap (take_at k t (after_lock k.buckets First call)) takes
+lock_is k t call go Second b takes = ap (take_at k t (after_lock k.buckets Second call)) takes
+lock_is k t call go Compare b takes = absurd cc
+lock_is k t call go Act b takes = absurd cc
 
+-- and back: where a held bucket is in the way
 refused_call : (p : Program) (k : PieceConcrete) (t : ℕ) (go : ℕ → Thread) (o : Option FutexCall)
     → BlocksCall (pieces_at k) t o → call_step p k t go o ≡ Err CannotMove
 refused_call p k t go None b = absurd b
 refused_call p k t go (Some call) b =
     cond-true _ _ _ (lies_test (length k.concrete.common.words) call b.0)
-    ∙ held_call p k t go call (k.phase t) b.1 b.2 b.3 b.4
+    ∙ lock_is k t call go (k.phase t) b.1 b.3 ∙ ap (lock_at k t (after_lock k.buckets (k.phase t) call) b.1) b.4
 
 refused_look : (p : Program) (k : PieceConcrete) (t : ℕ) (l : Look) → BlocksAt (pieces_at k) t l
     → look_step p k t l ≡ Err CannotMove
@@ -311,13 +309,4 @@ piece_refuses_so p k t fit = (
   λ h can. look_refuses p k t (look p t can.thread) fit can refl
       (sym (ap (thread_step p k t) can.stands ∙ ap (awake_step p k t can.thread) can.awake) ∙ h),
   refused_thread p k t (thread_of k.concrete t) refl,
-)
-
--- a refusal of a step that is none of a call
-pub whole_refused : (p : Program) (k : PieceConcrete) (t : ℕ) (f : StepFault) → IsFit p k → IsApart p (pieces_at k) t
-    → step_of p k.concrete t ≡ Err f → Refuses p (pieces_at k) t f
-whole_refused p k t CannotMove fit apart h = whole_refuses p k t (ap (whole_at k) h)
-whole_refused p k t Broken fit apart h = (
-  apart_first p (pieces_at k) t apart.thread fit.right apart.stands apart.none,
-  (breaks_so p k.concrete t fit.well).0 h,
 )

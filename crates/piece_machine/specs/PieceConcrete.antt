@@ -23,7 +23,7 @@ use Rattle.machine.specs.declared.event.StepFault.TheVariants.{CannotMove, Broke
 use Rattle.machine.specs.States.{Common, ConcreteState, thread_of, state_of, opening_concrete}
 use Rattle.machine.specs.ConcreteServing.{event_of, load}
 use Rattle.machine.specs.ConcreteExits.{is_entry}
-use Rattle.machine.specs.ConcreteSteps.{step_of, can_move}
+use Rattle.machine.specs.ConcreteSteps.{step_of, can_move, put_thread, fault_of}
 use Rattle.machine.specs.ConcreteOutside.{stray_of, kill_of}
 use Rattle.machine.specs.ConcretePieces.{call_name}
 use Rattle.machine.specs.PieceStates.{PieceState, call_of, held}
@@ -209,6 +209,14 @@ thread_step p k t (Some x) = awake_step p k t x (k.concrete.common.asleep t)
 -- one step of thread t
 abbrev pub piece_of : Program → PieceConcrete → ℕ → Outcome
 piece_of p k t = thread_step p k t (thread_of k.concrete t)
+
+-- the machine with thread t changed
+abbrev pub with_local : PieceConcrete → ℕ → Thread → PieceConcrete
+with_local k t x = record k { concrete = put_thread k.concrete t x }
+
+-- what the step of thread t would be refused for after it went on to x
+abbrev pub piece_fault_at : Program → PieceConcrete → ℕ → Thread → Option StepFault
+piece_fault_at p k t x = fault_of (piece_of p (with_local k t x) t)
 
 -- a wake of thread t from outside
 abbrev pub strayed_at : PieceConcrete → Result (ConcreteState × Told) StepFault → OutsideOutcome

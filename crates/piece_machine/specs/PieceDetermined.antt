@@ -7,7 +7,7 @@ use Rattle.machine.specs.PieceStates.{IsHeldRight, opening_pieces}
 use Rattle.machine.specs.PieceSteps.{CanTakePiece, NextPieceIsBroken}
 use Rattle.machine.specs.Views.{IsWellFormed}
 use Rattle.piece_machine.specs.declared.piece_event.PieceEvent.{PieceEvent}
-use Rattle.piece_machine.specs.PieceViews.{Steps, Strays, Kills, RefusesStray, RefusesKill}
+use Rattle.piece_machine.specs.PieceViews.{Steps, Strays, Kills, RefusesStray, RefusesPieceKill}
 use Rattle.piece_machine.specs.PieceConcrete.{PieceConcrete, pieces_at, opening_at, piece_of, can_take, stray_piece}
 use Rattle.piece_machine.specs.PieceConcrete.{kill_piece}
 
@@ -54,7 +54,7 @@ PieceKillsSo =
 
 abbrev pub PieceKillRefusedSo : Type 0
 PieceKillRefusedSo = (p : Program) (k : PieceConcrete) (t : ℕ)
-    → (kill_piece p k t ≡ Err CannotMove) ↔ RefusesKill (pieces_at k) t CannotMove
+    → (kill_piece p k t ≡ Err CannotMove) ↔ RefusesPieceKill (pieces_at k) t CannotMove
 
 -- the opening state stands for the relation's
 abbrev pub PiecesOpenSo : Type 0

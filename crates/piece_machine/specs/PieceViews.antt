@@ -1,5 +1,5 @@
 -- A machine whose threads take futex calls in pieces, as contracts see it, and its steps.
-use Rattle.std.specs.Prelude.{ℕ, ◌≡◌, ◌<◌, ◌==◌, Bool, List, [], ◌∷◌, Some, None, false, length, slice_index_or}
+use Rattle.std.specs.Prelude.{ℕ, ◌≡◌, ◌<◌, ◌==◌, Bool, List, [], ◌∷◌, Option, Some, None, false, length, slice_index_or}
 use Rattle.words.specs.Limits.{most_threads}
 use Rattle.buckets.specs.Sleepers.{bucket_count, holder_of}
 use Rattle.isa.specs.Programs.{Program}
@@ -7,7 +7,7 @@ use Rattle.futexcalls.specs.declared.pieces.FutexCall.{FutexCall}
 use Rattle.futexcalls.specs.declared.pieces.FutexCall.TheVariants.{Wait, Wake, Requeue}
 use Rattle.futexcalls.specs.declared.pieces.FutexPhase.{FutexPhase}
 use Rattle.futexcalls.specs.declared.pieces.FutexPhase.TheVariants.{First}
-use Rattle.futexcalls.specs.Pieces.{takes_at}
+use Rattle.futexcalls.specs.Pieces.{takes_at, LiesIn}
 use Rattle.locals.specs.Threads.{Thread}
 use Rattle.locals.specs.Looks.{look}
 use Rattle.locals.specs.Steps.{local_after}
@@ -18,7 +18,7 @@ use Rattle.machine.specs.declared.event.Event.{Event as Told}
 use Rattle.machine.specs.declared.event.StepFault.{StepFault}
 use Rattle.machine.specs.declared.event.StepFault.TheVariants.{CannotMove, Broken}
 use Rattle.machine.specs.PieceStates.{PieceState, IsHeldRight, call_at, called}
-use Rattle.machine.specs.PieceSteps.{IsPieceStep, PieceRun, BlocksAt, CanTakePiece, NextPieceIsBroken}
+use Rattle.machine.specs.PieceSteps.{IsPieceStep, PieceRun, BlocksAt, BlocksCall, CanTakePiece}
 use Rattle.machine.specs.Runs.{Own, Strayed, Killed, Step, is_paused}
 use Rattle.machine.specs.ThreadSets.{set_of}
 use Rattle.piece_machine.specs.PieceConcrete.{PieceConcrete}
@@ -87,11 +87,6 @@ pub record Steps (p : Program) (s : PieceState) (t : ℕ) (e : PieceEvent) (s' :
   pub step : IsPieceStep p s (own_step s' t woken) s'
   pub told : Tells p s t woken e
 
--- why a step of thread t is refused: a held bucket is in its way, or it can't move for another cause; or it may not be
-abbrev pub Refuses : Program → PieceState → ℕ → StepFault → Type 0
-Refuses p s t CannotMove = CanTakePiece p s t → ⊥
-Refuses p s t Broken = NextPieceIsBroken p s t
-
 -- thread t was made and is awake, makes no futex call, and no held bucket is in its way
 pub record IsApart (p : Program) (s : PieceState) (t : ℕ) : Type 0 where
   pub thread : Thread
@@ -105,6 +100,13 @@ pub record IsBlocked (p : Program) (s : PieceState) (t : ℕ) : Type 0 where
   pub thread : Thread
   pub stands : s.base.thread t ≡ Some thread
   pub blocks : BlocksAt s t (look p t thread)
+
+-- why the next piece of a call of thread t is refused, if it is: a held bucket is in its way, or one of its words lies
+-- outside the memory
+abbrev pub RefusesCall : PieceState → ℕ → FutexCall → Option StepFault → Type 0
+RefusesCall s t call None = LiesIn s.base.size call × (BlocksCall s t (Some call) → ⊥)
+RefusesCall s t call (Some CannotMove) = BlocksCall s t (Some call)
+RefusesCall s t call (Some Broken) = LiesIn s.base.size call → ⊥
 
 -- no thread can take a step
 abbrev pub IsAtRest : Program → PieceState → Type 0
@@ -134,9 +136,9 @@ pub record Kills (p : Program) (s : PieceState) (t : ℕ) (e : Told) (s' : Piece
   pub told : e.woken ≡ set_of []
 
 -- why it is refused: no such thread was made
-abbrev pub RefusesKill : PieceState → ℕ → StepFault → Type 0
-RefusesKill s t CannotMove = s.base.thread t ≡ None
-RefusesKill s t Broken = ⊥
+abbrev pub RefusesPieceKill : PieceState → ℕ → StepFault → Type 0
+RefusesPieceKill s t CannotMove = s.base.thread t ≡ None
+RefusesPieceKill s t Broken = ⊥
 
 -- thread t stands in the machine, and some number of local steps leads it here
 pub record GoesTo (v : View) (t : ℕ) (here : Thread) : Type 0 where

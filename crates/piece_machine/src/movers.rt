@@ -1,12 +1,13 @@
-//! Which threads can take a step.
+//! Which threads can take a step, and what one would be refused for.
 ghost use Rattle.std.specs.Prelude.{◌≡◌, ◌≤◌, ◌<◌, ℕ, Some, None, true, length, MatchBool};
 ghost use Rattle.machine.specs.PieceSteps.{BlocksCall, CanTakePiece};
-ghost use Rattle.piece_machine.specs.PieceConcrete.{can_take};
-ghost use Rattle.piece_machine.specs.PieceViews.{pieces, parts, IsBlocked, IsAtRest};
+ghost use Rattle.piece_machine.specs.PieceConcrete.{can_take, piece_fault_at};
+ghost use Rattle.piece_machine.specs.PieceViews.{pieces, parts, GoesTo, IsBlocked, IsAtRest, RefusesCall};
 
 use crate::piece_machine::{PieceMachine, call_in};
 use futexcalls::FutexCall;
-use locals::NextStep;
+use locals::{Local, NextStep};
+use machine::StepFault;
 
 impl PieceMachine {
     /// Whether thread `t` can take a step: it was made, neither sleeps nor has ended, and no held bucket is in its way.
@@ -30,6 +31,43 @@ impl PieceMachine {
             }
         }
         true
+    }
+
+    /// What a step of thread `t` would be refused for, if its local steps had led it to `here`.
+    pub fn refusal_at(&self, t: u32, here: &Local) -> Option<StepFault>
+        requires { GoesTo self.now.view t here.now }
+        ensures { result ≡ piece_fault_at self.now.view.program (parts self.now) t here.now }
+    {
+        if self.machine.asleep(t).is_some() {
+            return Some(StepFault::CannotMove);
+        }
+        match self.machine.next_step_at(t, here) {
+            NextStep::Shared(request) => match call_in(request) {
+                Some(call) => self.call_refusal(t, call),
+                None => self.machine.refusal_at(t, here),
+            },
+            NextStep::Exit(phase) => {
+                if self.machine.is_held_up(t, phase) {
+                    return Some(StepFault::CannotMove);
+                }
+                self.machine.refusal_at(t, here)
+            }
+            _ => self.machine.refusal_at(t, here),
+        }
+    }
+
+    // What the next piece of this call would be refused for, if thread `t` were awake and made it.
+    fn call_refusal(&self, t: u32, call: FutexCall) -> Option<StepFault>
+        requires { (0 < t) × (t ≤ length self.now.view.threads) }
+        ensures { RefusesCall (pieces self.now) t call result }
+    {
+        if !self.machine.has_words(call) {
+            Some(StepFault::Broken)
+        } else if self.waits_for_bucket(t, call) {
+            Some(StepFault::CannotMove)
+        } else {
+            None
+        }
     }
 
     // Whether a held bucket is in the way of thread `t`.

@@ -7,7 +7,7 @@ ghost use Rattle.machine.specs.PieceStates.{called};
 ghost use Rattle.machine.specs.States.{thread_of};
 ghost use Rattle.machine.specs.Views.{concrete};
 ghost use Rattle.piece_machine.specs.PieceConcrete.{stray_piece, kill_piece};
-ghost use Rattle.piece_machine.specs.PieceViews.{pieces, parts, Strays, RefusesStray, Kills, RefusesKill};
+ghost use Rattle.piece_machine.specs.PieceViews.{parts};
 
 use crate::piece_machine::{PieceMachine, call_in};
 use futexcalls::{FutexCall, FutexPhase};
@@ -79,12 +79,9 @@ impl PieceMachine {
     ///
     /// Refuses with `CannotMove` where there is no such thread or it doesn't sleep; then nothing has changed.
     pub fn stray(&mut self, t: u32) -> Result<Event, StepFault>
-        ensures gives { IfOk result (λ e. stray_piece (parts self.old) t ≡ Ok (parts self.new, e)) }
-        ensures done { IfOk result (λ e. Strays self.old.view.program (pieces self.old) t e
-            (pieces self.new)) }
-        ensures refused { IfErr result (λ f. stray_piece (parts self.old) t ≡ Err f) }
+        ensures done { IfOk result (λ e. stray_piece (parts self.old) t ≡ Ok (parts self.new, e)) }
         ensures err { IfErr result
-            (λ f. RefusesStray (pieces self.old) t f × (self.new ≡ self.old)) }
+            (λ f. (stray_piece (parts self.old) t ≡ Err f) × (self.new ≡ self.old)) }
         ensures program { self.new.view.program ≡ self.old.view.program }
         ensures room { self.new.view.room ≡ self.old.view.room }
     {
@@ -98,13 +95,11 @@ impl PieceMachine {
     ///
     /// Refuses with `CannotMove` where there is no such thread; then nothing has changed.
     pub fn kill(&mut self, t: u32) -> Result<Event, StepFault>
-        ensures gives { IfOk result (λ e. kill_piece self.old.view.program (parts self.old) t
+        ensures done { IfOk result (λ e. kill_piece self.old.view.program (parts self.old) t
             ≡ Ok (parts self.new, e)) }
-        ensures done { IfOk result (λ e. Kills self.old.view.program (pieces self.old) t e
-            (pieces self.new)) }
-        ensures refused { IfErr result (λ f. kill_piece self.old.view.program (parts self.old) t ≡ Err f) }
         ensures err { IfErr result
-            (λ f. RefusesKill (pieces self.old) t f × (self.new ≡ self.old)) }
+            (λ f. (kill_piece self.old.view.program (parts self.old) t ≡ Err f)
+            × (self.new ≡ self.old)) }
         ensures program { self.new.view.program ≡ self.old.view.program }
         ensures room { self.new.view.room ≡ self.old.view.room }
     {

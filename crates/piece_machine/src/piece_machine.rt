@@ -1,10 +1,11 @@
-ghost use Rattle.std.specs.Prelude.{◌≡◌, ◌≤◌, ◌+◌, None, Some, IfOk, IfErr, OnOk};
+ghost use Rattle.std.specs.Prelude.{◌≡◌, ◌≤◌, ◌+◌, None, Some, Ok, Err, IfOk, IfErr, OnOk};
 ghost use Rattle.buckets.specs.BucketCount.{IsBucketCount};
 ghost use Rattle.machine.specs.ConcretePieces.{MakesCall};
 ghost use Rattle.machine.specs.PieceStates.{opening_pieces, call_of};
 ghost use Rattle.machine.specs.RequestMeanings.{asked_of};
-ghost use Rattle.piece_machine.specs.PieceConcrete.{opening_at};
-ghost use Rattle.piece_machine.specs.PieceViews.{pieces, parts, IsComeTo, Steps, Refuses, IsApart, expected_of};
+ghost use Rattle.piece_machine.specs.PieceConcrete.{opening_at, piece_of};
+ghost use Rattle.piece_machine.specs.PieceDetermined.{IsFit};
+ghost use Rattle.piece_machine.specs.PieceViews.{pieces, parts, IsComeTo, IsApart, expected_of};
 
 use crate::piece_event::PieceEvent;
 use futexcalls::{FutexCall, FutexPhase};
@@ -104,10 +105,11 @@ impl PieceMachine {
     }
 
     /// The machine, which shows its words, its threads and what they printed. With it comes what always holds: a run of
-    /// its program with futex calls in pieces leads to where it is.
+    /// its program with futex calls in pieces leads to where it is, and its buckets are held as the phases say.
     pub fn machine(&self) -> &Machine
         ensures shows { result.now ≡ self.now.view }
         ensures come { IsComeTo self.now.view.program (pieces self.now) }
+        ensures fit { IsFit self.now.view.program (parts self.now) }
     {
         &self.machine
     }
@@ -118,10 +120,11 @@ impl PieceMachine {
     /// and with `Broken` where its step may not be; then nothing has changed.
     pub fn step(&mut self, t: u32) -> Result<PieceEvent, StepFault>
         requires { 1 ≤ self.old.view.room }
-        ensures done { IfOk result
-            (λ e. Steps self.old.view.program (pieces self.old) t e (pieces self.new)) }
+        ensures done { IfOk result (λ e. piece_of self.old.view.program (parts self.old) t
+            ≡ Ok (parts self.new, e)) }
         ensures err { IfErr result
-            (λ f. Refuses self.old.view.program (pieces self.old) t f × (self.new ≡ self.old)) }
+            (λ f. (piece_of self.old.view.program (parts self.old) t ≡ Err f)
+            × (self.new ≡ self.old)) }
         ensures program { self.new.view.program ≡ self.old.view.program }
         ensures room { self.old.view.room ≤ self.new.view.room + 1 }
     {
@@ -147,10 +150,11 @@ impl PieceMachine {
     fn whole_step(&mut self, t: u32) -> Result<PieceEvent, StepFault>
         requires room { 1 ≤ self.old.view.room }
         requires apart { IsApart self.old.view.program (pieces self.old) t }
-        ensures done { IfOk result
-            (λ e. Steps self.old.view.program (pieces self.old) t e (pieces self.new)) }
+        ensures done { IfOk result (λ e. piece_of self.old.view.program (parts self.old) t
+            ≡ Ok (parts self.new, e)) }
         ensures err { IfErr result
-            (λ f. Refuses self.old.view.program (pieces self.old) t f × (self.new ≡ self.old)) }
+            (λ f. (piece_of self.old.view.program (parts self.old) t ≡ Err f)
+            × (self.new ≡ self.old)) }
         ensures program { self.new.view.program ≡ self.old.view.program }
         ensures room { self.old.view.room ≤ self.new.view.room + 1 }
     {
@@ -162,10 +166,11 @@ impl PieceMachine {
     fn call_step(&mut self, t: u32, call: FutexCall) -> Result<PieceEvent, StepFault>
         requires makes { MakesCall self.old.view t call }
         requires awake { (pieces self.old).base.asleep t ≡ None }
-        ensures done { IfOk result
-            (λ e. Steps self.old.view.program (pieces self.old) t e (pieces self.new)) }
+        ensures done { IfOk result (λ e. piece_of self.old.view.program (parts self.old) t
+            ≡ Ok (parts self.new, e)) }
         ensures err { IfErr result
-            (λ f. Refuses self.old.view.program (pieces self.old) t f × (self.new ≡ self.old)) }
+            (λ f. (piece_of self.old.view.program (parts self.old) t ≡ Err f)
+            × (self.new ≡ self.old)) }
         ensures program { self.new.view.program ≡ self.old.view.program }
         ensures room { self.new.view.room ≡ self.old.view.room }
     {

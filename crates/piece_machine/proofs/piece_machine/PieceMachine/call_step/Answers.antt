@@ -1,5 +1,5 @@
 -- A piece of the call that the thread makes.
-use Rattle.std.proofs.Common.{◌≡◌, inl, inr, [], slice_set, Some, None, true, refl, sym, ap, ◌∙◌}
+use Rattle.std.proofs.Common.{◌≡◌, inl, inr, slice_set, Some, None, Ok, Err, true, sym, ap, ◌∙◌}
 use Rattle.std.proofs.Common.{subst, length-set}
 use Rattle.buckets.specs.Places.{names}
 use Rattle.buckets.specs.Sleepers.{bucket_count}
@@ -9,13 +9,17 @@ use Rattle.futexcalls.specs.Pieces.{held_at, takes_at, IsPhase}
 use Rattle.locals.specs.Looks.{Asks}
 use Rattle.machine.specs.ConcretePieces.{pieces_of, MakesCall}
 use Rattle.machine.specs.PieceStates.{request_of}
-use Rattle.machine.specs.PieceSteps.{CanTakePiece}
+use Rattle.machine.specs.declared.event.StepFault.TheVariants.{CannotMove}
 use Rattle.machine.specs.States.{state_of}
-use Rattle.machine.specs.Views.{View, concrete}
-use Rattle.piece_machine.specs.declared.piece_event.PieceEvent.TheVariants.{Event}
-use Rattle.piece_machine.specs.PieceViews.{PieceView, pieces, phase_in, IsKept, Steps, Tells}
-use Rattle.piece_machine.proofs.OwnCalls.{called_is, stands_in, holds, in_the_way, call_blocks}
-use Rattle.piece_machine.proofs.Owns.{phase_at, call_step, kept_on}
+use Rattle.machine.specs.Views.{View, concrete, IsWellFormed}
+use Rattle.isa.specs.Programs.{Program}
+use Rattle.piece_machine.specs.declared.piece_event.PieceEvent.TheVariants.{Compare, Event}
+use Rattle.piece_machine.specs.PieceConcrete.{Outcome, pieces_at, piece_of}
+use Rattle.piece_machine.specs.PieceViews.{PieceView, pieces, parts, phase_in, IsKept}
+use Rattle.piece_machine.proofs.Given.{held_up}
+use Rattle.piece_machine.proofs.OwnCalls.{stands_in, holds, call_blocks}
+use Rattle.piece_machine.proofs.Owns.{phase_at, kept_fit}
+use Rattle.piece_machine.proofs.Taken.{told_next, taken_next, taken_done, kept_step}
 use Rattle.piece_machine.proofs.piece_machine.PieceMachine.call_step.Goals.{in-Some, in-None}
 use Rattle.piece_machine.proofs.piece_machine.PieceMachine.call_step.Goals as goal
 
@@ -53,10 +57,10 @@ invariant_of-self c =
     subst (λ (q : PieceView). (pieces q).base.asleep c.args.t ≡ None) (sym c.self.view_is) c.requires.awake in
     let at = phase_at v ph c.args.t m.thread c.index-phase.result.now c.self.invariant m.stands c.index-phase.ensures in
     let e = c.in-Next.ensures in
-    kept_on v v' ph (slice_set ph c.args.t c.in-Next.next) c.args.t [] c.self.invariant e.program e.holds
+    kept_step v v' ph (slice_set ph c.args.t c.in-Next.next) c.args.t _ c.self.invariant e.program
     (length-set ph c.args.t c.in-Next.next)
-    (call_step v v' ph c.args.t m.thread [] c.in-Next.next c.self.invariant m.stands awake
-    (e.piece (phase_in ph) m.thread at m.stands))
+    (taken_next v v' ph c.args.t c.args.call c.index-phase.result.now c.in-Next.next c.self.invariant m
+    c.if-not-has_words.ensures awake at e.order (e.piece (phase_in ph) m.thread at m.stands))
 
 pub returns-after-bucket-clause-done : goal.returns-after-bucket-clause-done
 returns-after-bucket-clause-done c =
@@ -67,21 +71,22 @@ returns-after-bucket-clause-done c =
     let awake : (state_of (concrete v)).asleep c.args.t ≡ None =
     subst (λ (q : PieceView). (pieces q).base.asleep c.args.t ≡ None) (sym c.self.view_is) c.requires.awake in
     let at = phase_at v ph c.args.t m.thread c.index-phase.result.now c.self.invariant m.stands c.index-phase.ensures in
-    let called = called_is v.program c.args.t m.thread c.args.call m.go _ m.stands m.asks in
-    let next = ap (λ (f : FutexPhase). takes_at (bucket_count v.sleepers) f c.args.call) at
-    ∙ sym c.next_bucket-bucket.ensures in
-    let told : Tells v.program (pieces_of v (phase_in ph)) c.args.t [] c.match-bucket.result =
+    let e = c.in-Next.ensures in
+    let bucket = takes_at (bucket_count v.sleepers) c.index-phase.result.now c.args.call in
+    let told : told_next bucket c.args.call ≡ c.match-bucket.result =
     elim c.match-bucket.branch [
-      | in-Some w ↦ rw w.result-is (refl, c.args.call, called, next ∙ w.in-Some.is)
-      | in-None w ↦ rw w.result-is (refl, c.args.call, called, next ∙ w.in-None.is, w.expected_word.ensures)
+      | in-Some w ↦ ap (λ o. told_next o c.args.call) (sym c.next_bucket-bucket.ensures ∙ w.in-Some.is) ∙ sym w.result-is
+      | in-None w ↦ ap (λ o. told_next o c.args.call) (sym c.next_bucket-bucket.ensures ∙ w.in-None.is)
+          ∙ ap Compare (sym w.expected_word.ensures) ∙ sym w.result-is
     ] in
-    subst (λ (q : PieceView). Steps q.view.program (pieces q) c.args.t c.match-bucket.result
-    (pieces_of v' (phase_in (slice_set ph c.args.t c.in-Next.next)))) c.self.view_is (record {
-      woken = [];
-      step = call_step v v' ph c.args.t m.thread [] c.in-Next.next c.self.invariant m.stands awake
-          (c.in-Next.ensures.piece (phase_in ph) m.thread at m.stands);
-      told = told;
-    })
+    subst (λ (q : PieceView). piece_of q.view.program (parts q) c.args.t
+    ≡ (let o : Outcome = Ok (
+      parts (record { view = v'; phases = slice_set ph c.args.t c.in-Next.next }),
+      c.match-bucket.result,
+    ) in o)) c.self.view_is
+    (taken_next v v' ph c.args.t c.args.call c.index-phase.result.now c.in-Next.next c.self.invariant m
+    c.if-not-has_words.ensures awake at e.order (e.piece (phase_in ph) m.thread at m.stands)
+    ∙ (λ i. Ok (parts (record { view = v'; phases = slice_set ph c.args.t c.in-Next.next }), told i)))
 
 pub invariant_of-self-in-Blocked : goal.invariant_of-self-in-Blocked
 invariant_of-self-in-Blocked c =
@@ -98,11 +103,14 @@ returns-in-Blocked-clause-err c =
     let ph = c.self.inside.phases.items in
     let m = subst (λ (q : PieceView). MakesCall q.view c.args.t c.args.call) (sym c.self.view_is) c.requires.makes in
     let at = phase_at v ph c.args.t m.thread c.index-phase.result.now c.self.invariant m.stands c.index-phase.ensures in
+    let awake : (state_of (concrete v)).asleep c.args.t ≡ None =
+    subst (λ (q : PieceView). (pieces q).base.asleep c.args.t ≡ None) (sym c.self.view_is) c.requires.awake in
     let b = c.in-Blocked.ensures.piece (phase_in ph) m.thread at m.stands in
-    let s = pieces_of v (phase_in ph) in (
-      subst (λ (q : PieceView). CanTakePiece q.view.program (pieces q) c.args.t → ⊥) c.self.view_is
-          (in_the_way v.program s c.args.t m.thread (Asks (request_of c.args.call) m.go) m.stands m.asks
-          (call_blocks s c.args.t c.args.call m.go b.0)),
+    let k = parts (record { view = v; phases = ph }) in (
+      subst (λ (q : PieceView). piece_of q.view.program (parts q) c.args.t ≡ (let o : Outcome = Err CannotMove in o))
+          c.self.view_is
+          (held_up v.program k c.args.t m.thread (Asks (request_of c.args.call) m.go) (kept_fit v ph c.self.invariant)
+          (m.stands, awake) m.asks (call_blocks (pieces_at k) c.args.t c.args.call m.go b.0)),
       (λ i. record { view = b.1 i; phases = ph }) ∙ c.self.view_is,
     )
 
@@ -116,10 +124,11 @@ invariant_of-self-in-Done c =
     subst (λ (q : PieceView). (pieces q).base.asleep c.args.t ≡ None) (sym c.self.view_is) c.requires.awake in
     let at = phase_at v ph c.args.t m.thread c.index-phase.result.now c.self.invariant m.stands c.index-phase.ensures in
     let e = c.in-Done.ensures in
-    let d = e.piece (phase_in ph) m.thread at m.stands in
-    kept_on v v' ph (slice_set ph c.args.t First) c.args.t d.0 c.self.invariant e.program e.holds
+    kept_step v v' ph (slice_set ph c.args.t First) c.args.t (Event c.in-Done.event) c.self.invariant e.program
     (length-set ph c.args.t First)
-    (call_step v v' ph c.args.t m.thread d.0 First c.self.invariant m.stands awake d.4)
+    (taken_done v v' ph c.args.t c.args.call c.index-phase.result.now c.in-Done.event c.self.invariant m
+    c.if-not-has_words.ensures awake at (subst (λ (p : Program). IsWellFormed p (concrete v')) e.program e.holds) e.order
+    (e.piece (phase_in ph) m.thread at m.stands))
 
 pub returns-in-Done-clause-done : goal.returns-in-Done-clause-done
 returns-in-Done-clause-done c =
@@ -130,10 +139,10 @@ returns-in-Done-clause-done c =
     let awake : (state_of (concrete v)).asleep c.args.t ≡ None =
     subst (λ (q : PieceView). (pieces q).base.asleep c.args.t ≡ None) (sym c.self.view_is) c.requires.awake in
     let at = phase_at v ph c.args.t m.thread c.index-phase.result.now c.self.invariant m.stands c.index-phase.ensures in
-    let d = c.in-Done.ensures.piece (phase_in ph) m.thread at m.stands in
-    subst (λ (q : PieceView). Steps q.view.program (pieces q) c.args.t (Event c.in-Done.event)
-    (pieces_of v' (phase_in (slice_set ph c.args.t First)))) c.self.view_is (record {
-      woken = d.0;
-      step = call_step v v' ph c.args.t m.thread d.0 First c.self.invariant m.stands awake d.4;
-      told = ap (λ z. z.woken) d.3;
-    })
+    let e = c.in-Done.ensures in
+    subst (λ (q : PieceView). piece_of q.view.program (parts q) c.args.t
+    ≡ (let o : Outcome = Ok (parts (record { view = v'; phases = slice_set ph c.args.t First }), Event c.in-Done.event)
+    in o)) c.self.view_is
+    (taken_done v v' ph c.args.t c.args.call c.index-phase.result.now c.in-Done.event c.self.invariant m
+    c.if-not-has_words.ensures awake at (subst (λ (p : Program). IsWellFormed p (concrete v')) e.program e.holds) e.order
+    (e.piece (phase_in ph) m.thread at m.stands))

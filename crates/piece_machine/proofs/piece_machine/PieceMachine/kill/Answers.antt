@@ -33,8 +33,8 @@ invariant_of-self-2 c =
     kept_by v v' ph (slice_set ph t First) (kill_step t (event.value == 1)) c.self.invariant
     (e.program ∙ gave.same.0) e.holds (length-set ph t First) s.step
 
-pub returns-clause-gives : goal.returns-clause-gives
-returns-clause-gives c =
+pub returns-clause-done : goal.returns-clause-done
+returns-clause-done c =
     let v = c.self.inside.machine in
     let v1 = c.give_up.new.machine in
     let v' = c.kill.new.self in
@@ -53,24 +53,3 @@ returns-clause-gives c =
     c.self.view_is
     (ap (killed_at v.program k t) (ap (λ (q : ConcreteState). kill_of q t) (sym gave.same.1) ∙ e.done)
     ∙ (λ i. Ok (sym same i, event)))
-
-pub returns-clause-done : goal.returns-clause-done
-returns-clause-done c =
-    let v = c.self.inside.machine in
-    let v1 = c.give_up.new.machine in
-    let v' = c.kill.new.self in
-    let ph = c.self.inside.phases.items in
-    let t = c.args.t in
-    let event = c.in_ok-event.event in
-    let gave = c.give_up.ensures in
-    let e = c.in_ok-event.ensures in
-    let calls = subst (λ (q : PieceView). c.call_at-call.result ≡ called q.view.program t (thread_of (concrete q.view) t))
-    (sym c.self.view_is) c.call_at-call.ensures in
-    let k = parts (record { view = v; phases = ph }) in
-    let same = killed_parts v v1 v' ph t c.call_at-call.result c.index.result.now c.self.invariant
-    c.if-not-is_made.ensures calls c.index.ensures gave.holders gave.count e.holders in
-    let r = kill_done v.program k (concrete v') t event (kept_fit v ph c.self.invariant)
-    (ap (λ (q : ConcreteState). kill_of q t) (sym gave.same.1) ∙ e.done) in
-    subst (λ (q : PieceView). Kills q.view.program (pieces q) t event
-    (pieces (record { view = v'; phases = slice_set ph t First }))) c.self.view_is
-    (subst (λ (q : PieceConcrete). Kills v.program (pieces_at k) t event (pieces_at q)) (sym same) r.0)

@@ -1,16 +1,11 @@
 -- What the thread does next says which of the steps it is.
-use Rattle.std.proofs.Common.{◌≡◌, ℕ, false, Option, Some, None, is_some, refl, sym, ◌∙◌, subst}
-use Rattle.words.specs.declared.mem.Addr.{Addr}
+use Rattle.std.proofs.Common.{refl, sym, ◌∙◌, subst}
 use Rattle.machine.specs.ConcretePieces.{pieces_of, MakesCall}
 use Rattle.machine.specs.States.{state_of}
-use Rattle.machine.specs.Views.{concrete, address_of}
+use Rattle.machine.specs.Views.{concrete}
 use Rattle.piece_machine.specs.PieceViews.{PieceView, pieces, phase_in, IsApart}
-use Rattle.piece_machine.proofs.OwnCalls.{makes_call, apart_asks, apart_leaves, apart_others}
+use Rattle.piece_machine.proofs.OwnCalls.{awake_of, makes_call, apart_asks, apart_leaves, apart_others}
 use Rattle.piece_machine.proofs.piece_machine.PieceMachine.step.Goals as goal
-
-awake_of : (o : Option Addr) (x : Option ℕ) → is_some o ≡ false → address_of o ≡ x → x ≡ None
-awake_of None x h e = sym e
-awake_of (Some a) x h e = absurd cc
 
 pub call_step-requires-clause-makes : goal.call_step-requires-clause-makes
 call_step-requires-clause-makes c =

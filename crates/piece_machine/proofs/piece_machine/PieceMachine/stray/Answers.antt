@@ -1,10 +1,10 @@
 -- A wake from outside changes no holder and no phase.
-use Rattle.std.proofs.Common.{◌≡◌, Ok, refl, sym, ap, ◌∙◌, subst}
+use Rattle.std.proofs.Common.{◌≡◌, Ok, Err, refl, sym, ap, ◌∙◌, subst}
 use Rattle.machine.specs.Views.{concrete}
 use Rattle.machine.proofs.Steps.{hand_on}
 use Rattle.piece_machine.specs.PieceConcrete.{PieceConcrete, OutsideOutcome, pieces_at, stray_piece, strayed_at}
-use Rattle.piece_machine.specs.PieceViews.{PieceView, pieces, parts, stray_step, Strays, RefusesStray}
-use Rattle.piece_machine.proofs.Beyond.{stray_done, stray_refused}
+use Rattle.piece_machine.specs.PieceViews.{PieceView, pieces, parts, stray_step, Strays}
+use Rattle.piece_machine.proofs.Beyond.{stray_done}
 use Rattle.piece_machine.proofs.Owns.{kept_by, kept_fit, same_parts}
 use Rattle.piece_machine.proofs.piece_machine.PieceMachine.stray.Goals as goal
 
@@ -21,8 +21,8 @@ invariant_of-self-2 c =
     (sym (same_parts v v' ph e.holders)) r.0 in
     kept_by v v' ph ph (stray_step c.args.t c.in_ok-event.event.value) c.self.invariant e.program e.holds refl s.step
 
-pub returns-clause-gives : goal.returns-clause-gives
-returns-clause-gives c =
+pub returns-clause-done : goal.returns-clause-done
+returns-clause-done c =
     let v = c.self.inside.machine in
     let v' = c.stray.new.self in
     let ph = c.self.inside.phases.items in
@@ -33,19 +33,6 @@ returns-clause-gives c =
     c.self.view_is
     (ap (strayed_at k) e.done ∙ (λ i. Ok (sym (same_parts v v' ph e.holders) i, c.in_ok-event.event)))
 
-pub returns-clause-done : goal.returns-clause-done
-returns-clause-done c =
-    let v = c.self.inside.machine in
-    let v' = c.stray.new.self in
-    let ph = c.self.inside.phases.items in
-    let e = c.in_ok-event.ensures in
-    let k = parts (record { view = v; phases = ph }) in
-    let r = stray_done v.program k (concrete v') c.args.t c.in_ok-event.event (kept_fit v ph c.self.invariant) e.done in
-    subst (λ (q : PieceView). Strays q.view.program (pieces q) c.args.t c.in_ok-event.event
-    (pieces (record { view = v'; phases = ph }))) c.self.view_is
-    (subst (λ (q : PieceConcrete). Strays v.program (pieces_at k) c.args.t c.in_ok-event.event (pieces_at q))
-    (sym (same_parts v v' ph e.holders)) r.0)
-
 pub returns-in_err-event-clause-err : goal.returns-in_err-event-clause-err
 returns-in_err-event-clause-err c =
     let v = c.self.inside.machine in
@@ -53,7 +40,7 @@ returns-in_err-event-clause-err c =
     let f = c.in_err-event.field-0.0 in
     let err = c.in_err-event.ensures.err in
     hand_on c.from_residual.result f _ c.from_residual.ensures.1 (
-      subst (λ (q : PieceView). RefusesStray (pieces q) c.args.t f) c.self.view_is
-          (stray_refused (parts (record { view = v; phases = ph })) c.args.t f err.0),
+      subst (λ (q : PieceView). stray_piece (parts q) c.args.t ≡ (let o : OutsideOutcome = Err f in o)) c.self.view_is
+          (ap (strayed_at (parts (record { view = v; phases = ph }))) err.0),
       (λ i. record { view = err.1 i; phases = ph }) ∙ c.self.view_is,
     )
