@@ -1,5 +1,5 @@
 -- What generating and linking refuse of a program's pieces.
-use Rattle.std.proofs.Common.{◌≡◌, ◌+◌, ◌≤◌, ◌⊎◌, ℕ, true, false, suc, Result, Ok, Err, List, [], ◌∷◌, refl, sym, ap}
+use Rattle.std.proofs.Common.{◌≡◌, ◌+◌, ◌≤◌, ◌⊎◌, ℕ, true, false, Result, Ok, Err, List, [], ◌∷◌, refl, sym}
 use Rattle.std.proofs.Common.{◌∙◌, subst, length}
 use Rattle.std.proofs.Common.{length-append, map, inl, inr, arith}
 use Rattle.std.specs.Prelude.{IsPermutation, nat_le, MatchResult, IsErr, IsErrAnd}
@@ -10,8 +10,6 @@ use Rattle.isa.specs.Programs.{Program as Image, IsProgram}
 use Rattle.scanner.specs.declared.refusal.Refusal.{Refusal}
 use Rattle.program.specs.Trees.{Program, Procedure}
 use Rattle.program.specs.WellFormed.{WellFormed}
-use Rattle.lowering.specs.declared.mark.Marked.{Marked}
-use Rattle.lowering.specs.Marks.{instructions}
 use Rattle.lowering.specs.Layout.{layout_of}
 use Rattle.lowering.specs.Pieces.{piece_code, pieces_code, start_of, marked_code, code_of}
 use Rattle.lowering.proofs.LengthLaws.{piece_same}
@@ -21,7 +19,7 @@ use Rattle.linker.specs.Failures as linked
 use Rattle.linker.specs.Linked.{Links, image_of}
 use Rattle.linker.proofs.Orders.{links_program}
 use Rattle.linker.proofs.Rising.{program_known}
-use Rattle.lowering_limits.proofs.Images.{within}
+use Rattle.lowering_limits.proofs.Images.{within, length_instructions}
 use Rattle.backend.specs.Refusals.{CodeFits, CodeIsTooLong, RefusesCode}
 
 length_made : (p : Program) (f : ℕ → ℕ) (qs : List Procedure) (base : ℕ) → length (pieces_code p f qs base)
@@ -32,10 +30,6 @@ length_made p f (q ∷ qs) base =
     let both = length-append first (pieces_code p f qs (base + length first)) in
     let same = piece_same p f (λ piece. piece) q base 0 in
     let rest = length_made p f qs (base + length first) in omega (arith, both, same, rest)
-
-length_instructions : (is : List Marked) → length (instructions is) ≡ length is
-length_instructions [] = refl
-length_instructions (i ∷ is) = ap suc (length_instructions is)
 
 -- a program that isn't generated
 pub of_generate : (p : Program) (e : Refusal) → generated.RefusesPieces p e → RefusesCode p e

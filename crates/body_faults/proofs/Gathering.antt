@@ -82,7 +82,7 @@ gathers_comparison fs gs sign l m r n o p q t j k a b c d e e1 e2 e3 e4 split g1
     (gathers_both gs (comparison_faults sign m n p t) b c e g2
     (subst (λ xs. Gathers xs c e) (sym split ∙ moved) (gathers_both (faults_of j o) (faults_of k q) c d e g3 g4)))
 
-chained : (f v g w r : List Refusal) → (f ++ v) ++ ((g ++ w) ++ r) ≡ f ++ (v ++ g ++ w ++ r)
+pub chained : (f v g w r : List Refusal) → (f ++ v) ++ ((g ++ w) ++ r) ≡ f ++ (v ++ g ++ w ++ r)
 chained f v g w r = append_assoc f v ((g ++ w) ++ r)
     ∙ ap (λ xs. f ++ xs) (ap (λ xs. v ++ xs) (append_assoc g w r)
     ∙ sym (append_assoc (v ++ g) w r ∙ append_assoc v g (w ++ r)))

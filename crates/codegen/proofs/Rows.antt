@@ -1,27 +1,21 @@
 -- What a statement's lists of statements say.
 use Rattle.std.proofs.Common.{◌≡◌, ◌<◌, ◌≤◌, ◌+◌, ℕ, suc, get_or, drop, drop-cons, arith, length-append, List, ◌∷◌}
-use Rattle.std.proofs.Common.{◌++◌, length, Result, refl, sym, ap, ◌∙◌, Vec, Global}
+use Rattle.std.proofs.Common.{◌++◌, length, Result, sym, ap, ◌∙◌, Vec, Global}
 use Rattle.std.specs.Prelude.{MatchResult}
 use Rattle.scanner.specs.declared.refusal.Refusal.{Refusal}
-use Rattle.program.specs.declared.statement.Statement.{Statement as StatementOf, Row_of-Statement, end_of-Statement}
-use Rattle.program.specs.declared.statement.Statement.{more_of-Statement, items-the_row-Statement}
-use Rattle.program.specs.declared.statement.Statement.{items_hidden-the_row-Statement-0}
+use Rattle.program.specs.declared.statement.Statement.{Statement as StatementOf}
 use Rattle.program.specs.declared.statement.Statement.TheBlock.{hidden-the_row-Statement-0}
-use Rattle.program.specs.Trees.{Statement, Then}
+use Rattle.program.specs.Trees.{Statement}
 use Rattle.program.specs.Views.{block_of, block_in, statement_of}
+use Rattle.program.proofs.Blocks.{inner_block as held_block}
 use Rattle.lowering.specs.declared.mark.Marked.{Marked}
 use Rattle.lowering.specs.Statements.{Setting, statement_code, block_code}
 use Rattle.codegen.specs.Failures.{Fails}
 
-row_block : {n : _} (row : Row_of-Statement n) → block_of row ≡ block_in (items-the_row-Statement _ row)
-row_block end_of-Statement = refl
-row_block (more_of-Statement s row) = ap (λ b. Then (statement_of s) b) (row_block row)
-
 -- the statements in a `Vec` that a statement holds
 pub inner_block : (ss : List StatementOf) (v : Vec StatementOf Global) → ss ≡ v.items
     → block_in ss ≡ block_of (hidden-the_row-Statement-0 v)
-inner_block ss v e = ap block_in (e ∙ sym (items_hidden-the_row-Statement-0 v))
-    ∙ sym (row_block (hidden-the_row-Statement-0 v))
+inner_block ss v e = ap block_in e ∙ sym (held_block v)
 
 -- a statement's code was made, or it failed for its cause
 abbrev pub Makes : {T : Type 0} → Setting → List Marked → List Marked → Result T Refusal → Statement → Type 0

@@ -12,7 +12,7 @@ use Rattle.grammar.specs.Reading.{lexeme_at, StartsFactor}
 use Rattle.grammar.proofs.Complete.{plains}
 use Rattle.grammar.proofs.Steps.{begun_on}
 
-truth_starts : (value : Bool) (place : Place) → StartsFactor (bool_lexeme value place)
+pub truth_starts : (value : Bool) (place : Place) → StartsFactor (bool_lexeme value place)
 truth_starts true place = record {
   symbols = [];
   make =

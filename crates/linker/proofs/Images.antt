@@ -3,7 +3,7 @@ use Rattle.std.proofs.Common.{◌≡◌, ◌<◌, ◌≤◌, ◌+◌, ◌-◌, �
 use Rattle.std.proofs.Common.{length, arith}
 use Rattle.std.specs.Prelude.{nat_le, ◌&&◌, slice_index, sum}
 use Rattle.std.specs.List.{AllByRecursion}
-use Rattle.std.proofs.lemmas.Bool.{leb-true}
+use Rattle.std.proofs.lemmas.Bool.{and_parts, leb-true}
 use Rattle.words.specs.declared.version.ImageVersion.TheVariants.{One}
 use Rattle.isa.specs.Instructions.{LeadsBelow}
 use Rattle.isa.specs.Limits.{most_monitors, most_member_words, most_instructions}
@@ -13,7 +13,7 @@ use Rattle.lowering.specs.Marks.{instructions}
 use Rattle.lowering.specs.Layout.{Layout}
 use Rattle.codegen.specs.Generated.{Piece}
 use Rattle.linker.specs.Linked.{all_fit, code_from, length_of, places_from, begins, image_of}
-use Rattle.linker.proofs.Tests.{ands, all_instructions, all_lead, fit_where, code_length}
+use Rattle.linker.proofs.Tests.{all_instructions, all_lead, fit_where, code_length}
 
 places_length : (n : ℕ) (ps : List Piece) → length (places_from n ps) ≡ length ps
 places_length n [] = refl
@@ -60,7 +60,7 @@ pub is_program : (ms : List ℕ) (s t : ℕ) (code : List Instr)
     → t ≡ length code → s < t → all_fit t code ≡ true → IsProgram
     (record { version = One; monitors = ms; start = s; code = code })
 is_program ms s t code few short e within fit =
-    let h = ands (nat_le (length ms) most_monitors) (nat_le (sum ms) most_member_words) few in record {
+    let h = and_parts (nat_le (length ms) most_monitors) (nat_le (sum ms) most_member_words) few in record {
       few_monitors = leb-true (length ms) most_monitors h.0;
       few_members = leb-true (sum ms) most_member_words h.1;
       short = omega (arith, short, e);

@@ -3,7 +3,7 @@ use Rattle.std.proofs.Common.{◌≡◌, ◌+◌, ℕ, suc, List, [], ◌∷◌,
 use Rattle.std.proofs.Common.{arith}
 use Rattle.std.specs.Prelude.{cond, nat_lt, nat_le, ◌&&◌}
 use Rattle.std.specs.List.{AllByRecursion}
-use Rattle.std.proofs.lemmas.Bool.{ltb-true, lt-ltb, leb-true, le-leb}
+use Rattle.std.proofs.lemmas.Bool.{and_parts, ltb-true, lt-ltb, leb-true, le-leb}
 use Rattle.isa.specs.Instructions.{IsInstruction, IsSlot, LeadsBelow}
 use Rattle.isa.specs.Limits.{most_arguments, most_locals}
 use Rattle.isa.specs.declared.slot.Slot.{Slot}
@@ -31,13 +31,6 @@ slot_no Template h = refl
 two : (b c : Bool) → b ≡ true → c ≡ true → cond b c false ≡ true
 two b c e h = ap (λ x. cond x c false) e ∙ h
 
-pub ands : (b c : Bool) → (b && c) ≡ true → (b ≡ true) × (c ≡ true)
-ands true c e = (refl, e)
-ands false c e = absurd (no e)
-  where
-    no : false ≡ true → ⊥
-    no e = cc
-
 and : (b c : Bool) → b ≡ true → c ≡ true → (b && c) ≡ true
 and true true e h = refl
 and true false e h = h
@@ -50,7 +43,7 @@ one_fits t (Jump p) e = (tt, ltb-true p t e)
 one_fits t (JumpIfZero p) e = (tt, ltb-true p t e)
 one_fits t (Call p) e = (tt, ltb-true p t e)
 one_fits t (Fork p n) e =
-    let h = ands (nat_lt p t) (nat_le n most_arguments) e in (leb-true n most_arguments h.1, ltb-true p t h.0)
+    let h = and_parts (nat_lt p t) (nat_le n most_arguments) e in (leb-true n most_arguments h.1, ltb-true p t h.0)
 one_fits t (Push n) e = (tt, tt)
 one_fits t Pop e = (tt, tt)
 one_fits t (Operate op) e = (tt, tt)

@@ -132,7 +132,7 @@ begins p n q e =
     let at = h.at in
     let some = piece_some p (start_of p) q (start_of p n) in omega (arith, whole, front, back, at, some)
 
-length_instructions : (is : List Marked) → length (instructions is) ≡ length is
+pub length_instructions : (is : List Marked) → length (instructions is) ≡ length is
 length_instructions [] = refl
 length_instructions (i ∷ is) = ap suc (length_instructions is)
 

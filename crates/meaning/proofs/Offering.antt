@@ -41,7 +41,7 @@ either s true b c x y = x
 either s false b c x y = y
 
 -- who runs in a procedure of a monitor holds it
-owned : (role : Role) (cs : List Caller) (m : ℕ) → own_monitor role ≡ Some m → StandsOn role cs
+pub owned : (role : Role) (cs : List Caller) (m : ℕ) → own_monitor role ≡ Some m → StandsOn role cs
     → IsIn (monitor_of_role role (callers_monitors cs)) m
 owned (Entry n) cs m own stands = inl (let e : n ≡ m = cc in sym e)
 owned (Internal n) cs m own stands =

@@ -22,7 +22,7 @@ use Rattle.grammar.specs.Machine.{procedure_in, behind_procedure, of_access, rep
 use Rattle.grammar.specs.Machine.{reads, unit, unit_trees, unit_in}
 use Rattle.grammar.specs.Reading.{lexeme_at, rest_after, Passes, Fails, Leads}
 use Rattle.grammar.proofs.Joins.{push, then10, fail10, leads_as}
-use Rattle.grammar.proofs.Law.{accepts, spells, limits, refused}
+use Rattle.grammar.proofs.Law.{accepts, refused}
 use Rattle.parser.specs.Kinds.{access_at}
 use Rattle.parser.specs.Steps.{procedure_trees}
 
@@ -101,14 +101,6 @@ pub unit_fails : {a : List Item} {e : Refusal} → Fails 0 unit a e → (e.kind 
 unit_fails f = elim f.fails [ inl m ↦ inl m | inr r ↦ inr (r.refuses [] refl) ]
 
 -- what a unit that was read says of the tokens
-pub text_read : (ts : List Token) (u : UnitTree) → EndsOnce (views ts)
-    → reads 64 (items_of ts) unit ≡ Read (unit_trees u) → unit_text u ≡ lexemes ts
-text_read ts u h r = spells ts u h r
-
-pub within_read : (ts : List Token) (u : UnitTree) → reads 64 (items_of ts) unit ≡ Read (unit_trees u)
-    → unit_nesting u ≤ 64
-within_read ts u r = limits ts u r
-
 pub only_read : (ts : List Token) (t u : UnitTree) → unit_text t ≡ lexemes ts → unit_nesting t ≤ 64
     → reads 64 (items_of ts) unit ≡ Read (unit_trees u) → u ≡ t
 only_read ts t u e le r =

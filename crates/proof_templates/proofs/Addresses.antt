@@ -9,7 +9,7 @@ use Rattle.program.specs.Trees.{Monitor, Program}
 use Rattle.program.specs.Scope.{member_in, member_type}
 use Rattle.proof_thread.specs.Variables.{is_condition}
 use Rattle.program.specs.WellFormed.{member_words}
-use Rattle.lowering.specs.Cells.{OfMember, address, IsCell}
+use Rattle.lowering.specs.Cells.{OfMember, IsCell}
 use Rattle.lowering.specs.Cells as C
 use Rattle.lowering.specs.Pieces.{code_of}
 use Rattle.lowering.proofs.CellLaws.{cells_apart, cell_above}

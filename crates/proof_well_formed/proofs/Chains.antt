@@ -3,15 +3,12 @@ use Rattle.std.proofs.Common.{◌≡◌, ℕ, zero, suc, ◌+◌, ◌<◌, ◌�
 use Rattle.std.proofs.Common.{Contains, Bool, true, false, cond, ◌&&◌, ◌||◌, nat_eq, slice_index_or, slice_set}
 use Rattle.std.proofs.Common.{inl, inr}
 use Rattle.std.proofs.Common.{◌⊎◌, eqb-true, eq-eqb, replicate}
+use Rattle.std.proofs.lemmas.Bool.{and_parts}
 use Rattle.std.specs.List.{list_any}
 use Rattle.callgraph.specs.declared.Call.{Call}
 use Rattle.callgraph.specs.Calls.{has_chain, Leads, Directly, Through, IsCall}
 use Rattle.proof_well_formed.proofs.Lists.{within_or_past, first_in, later_in}
 use Rattle.proof_well_formed.proofs.Free.{true_false}
-
-both_true : (b c : Bool) → (b && c) ≡ true → (b ≡ true) × (c ≡ true)
-both_true true c h = (refl, h)
-both_true false c h = cc
 
 -- an element that passes a test
 found : {X : Type 0} (p : X → Bool) (xs : List X) → list_any p xs ≡ true → (x : X) × Contains xs x × (p x ≡ true)
@@ -44,7 +41,7 @@ pub first_call : (calls : List Call) (n a : ℕ) → has_chain calls (suc n) a �
     → (b : ℕ) × IsCall calls a b × (has_chain calls n b ≡ true)
 first_call calls n a h =
     let r = found (λ x. nat_eq x.caller a && has_chain calls n x.callee) calls h in
-    let p = both_true (nat_eq r.0.caller a) (has_chain calls n r.0.callee) r.2 in
+    let p = and_parts (nat_eq r.0.caller a) (has_chain calls n r.0.callee) r.2 in
     (r.0.callee, subst (λ x. IsCall calls x r.0.callee) (eqb-true r.0.caller a p.0) r.1, p.1)
 
 pub starts : (calls : List Call) (a b : ℕ) → Leads calls a b → (x : ℕ) × IsCall calls a x

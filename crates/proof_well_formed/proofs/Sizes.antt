@@ -1,7 +1,8 @@
 -- What the limits of a unit say of the resolved program.
 use Rattle.std.proofs.Common.{◌≡◌, ℕ, zero, suc, ◌+◌, ◌<◌, ◌≤◌, List, [], ◌∷◌, ◌++◌, length, map, flat_map, take}
-use Rattle.std.proofs.Common.{slice_get, Option, Some, None, refl, sym, ap, ◌∙◌, subst, arith, Bool, true, false, cond}
-use Rattle.std.proofs.Common.{Contains, sum_by, ◌&&◌, nat_lt, inl, inr, ltb-true, length-append}
+use Rattle.std.proofs.Common.{slice_get, Option, Some, None, refl, sym, ap, ◌∙◌, subst, arith, true, false, cond}
+use Rattle.std.proofs.Common.{Contains, sum_by, nat_lt, inl, inr, ltb-true, length-append}
+use Rattle.std.proofs.lemmas.Bool.{and_parts}
 use Rattle.std.proofs.lemmas.List.{length-map, take_all}
 use Rattle.std.proofs.lemmas.List.Sums.{sum_by-cons, sum_by-append}
 use Rattle.std.proofs.lemmas.List.Elements.{Contains-append_left, Contains-append_right}
@@ -99,13 +100,9 @@ all_words_same u first (t ∷ ts) h =
     sum_by-append (λ y. kind_words y.kind) t.members rest in
     omega (arith, a, b, c)
 
-both_true : (b c : Bool) → (b && c) ≡ true → (b ≡ true) × (c ≡ true)
-both_true true c h = (refl, h)
-both_true false c h = cc
-
 size_bounds : (n : ℕ) → is_size n ≡ true → (1 ≤ n) × (n ≤ 1024)
 size_bounds n h =
-    let p = both_true (nat_lt 0 n) (nat_lt n (most_elements + 1)) h in
+    let p = and_parts (nat_lt 0 n) (nat_lt n (most_elements + 1)) h in
     let a : 0 < n = ltb-true 0 n p.0 in
     let b : n < 1025 = ltb-true n (most_elements + 1) p.1 in
     (omega (arith, a), omega (arith, b))

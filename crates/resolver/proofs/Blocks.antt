@@ -7,38 +7,30 @@ use Rattle.types.specs.CallFaults.{block_faults, part_faults}
 use Rattle.types.specs.Scope.{Scope}
 use Rattle.types.specs.Statements as st
 use Rattle.program.specs.declared.statement.Statement.{Statement}
-use Rattle.program.specs.declared.statement.Statement.TheBlock.{Row_of-Statement, end_of-Statement, more_of-Statement}
-use Rattle.program.specs.declared.statement.Statement.TheBlock.{items-the_row-Statement, hidden-the_row-Statement-0}
-use Rattle.program.specs.declared.statement.Statement.TheBlock.{items_hidden-the_row-Statement-0}
+use Rattle.program.specs.declared.statement.Statement.TheBlock.{hidden-the_row-Statement-0}
 use Rattle.program.specs.declared.expression.Expression.{Expression}
 use Rattle.program.specs.declared.statement.Statement.TheViews.{If as IfOf, While as WhileOf, Join as JoinOf}
 use Rattle.program.specs.Trees.{Block, Then, If, While, Join, NoPart, SomePart}
+use Rattle.program.proofs.Blocks.{inner_block}
 use Rattle.program.specs.Views.{expression_of, statement_of, block_of, block_before, block_in, part_in}
 use Rattle.resolver.specs.Clean.{is_clean}
 use Rattle.resolver.specs.Sites.{part_made, is_part_clean}
 
-row_block : {n : _} (row : Row_of-Statement n) → block_of row ≡ block_in (items-the_row-Statement _ row)
-row_block end_of-Statement = refl
-row_block (more_of-Statement s row) = ap (Then (statement_of s)) (row_block row)
-
-vec_block : (v : Vec Statement Global) → block_of (hidden-the_row-Statement-0 v) ≡ block_in v.items
-vec_block v = row_block (hidden-the_row-Statement-0 v) ∙ ap block_in (items_hidden-the_row-Statement-0 v)
-
 pub while_made : (e : Expression) (v : Vec Statement Global)
     → statement_of (WhileOf e v) ≡ While (expression_of e) (block_in v.items)
-while_made e v = ap (While (expression_of e)) (vec_block v)
+while_made e v = ap (While (expression_of e)) (inner_block v)
 
 pub if_made : (e : Expression) (v : Vec Statement Global) (o : Option (Vec Statement Global))
     → statement_of (IfOf e v o) ≡ If (expression_of e) (block_in v.items) (part_in o)
-if_made e v None = ap (λ x. If (expression_of e) x NoPart) (vec_block v)
+if_made e v None = ap (λ x. If (expression_of e) x NoPart) (inner_block v)
 if_made e v (Some w) =
-    ap (λ x. If (expression_of e) x (SomePart (block_of (hidden-the_row-Statement-0 w)))) (vec_block v)
-    ∙ ap (λ x. If (expression_of e) (block_in v.items) (SomePart x)) (vec_block w)
+    ap (λ x. If (expression_of e) x (SomePart (block_of (hidden-the_row-Statement-0 w)))) (inner_block v)
+    ∙ ap (λ x. If (expression_of e) (block_in v.items) (SomePart x)) (inner_block w)
 
 pub join_made : (e : Expression) (into : Option ℕ) (o : Option (Vec Statement Global))
     → statement_of (JoinOf e into o) ≡ Join (expression_of e) into (part_in o)
 join_made e into None = refl
-join_made e into (Some w) = ap (λ x. Join (expression_of e) into (SomePart x)) (vec_block w)
+join_made e into (Some w) = ap (λ x. Join (expression_of e) into (SomePart x)) (inner_block w)
 
 -- the statements of a part, where there is one, and whether they are clean
 abbrev pub IsPart : Scope → Option (Vec Tree Global) → Option (Vec Statement Global × Bool) → Type 0

@@ -1,11 +1,12 @@
 -- Where no fault is among several, none is among each.
 use Rattle.std.proofs.Common.{◌≡◌, List, [], ◌∷◌, ◌++◌, Bool, true, false, not, ◌&&◌, Option, Some, None, is_none}
-use Rattle.std.proofs.Common.{refl, ap, ◌∙◌, sym, append_assoc, append-nil}
+use Rattle.std.proofs.Common.{refl, ap, ◌∙◌, sym, append-nil}
 use Rattle.std.proofs.Math.Bool.{and_assoc}
 use Rattle.scanner.specs.declared.token.Place.{Place}
 use Rattle.scanner.specs.declared.refusal.Refusal.{Refusal}
 use Rattle.scanner.specs.declared.refusal.RefusalKind.{RefusalKind}
 use Rattle.types.specs.Faults.{where_true, faults_of}
+use Rattle.body_faults.proofs.Gathering.{chained}
 use Rattle.resolver.specs.Clean.{is_clean}
 
 pub clean_both : (a b : List Refusal) → is_clean (a ++ b) ≡ (is_clean a && is_clean b)
@@ -44,11 +45,6 @@ clean_next y a r = ap (λ b. y && b) (clean_both a r) ∙ sym (and_assoc y (is_c
 pub clean_past : (y : Bool) → (y && is_clean []) ≡ y
 clean_past true = refl
 clean_past false = refl
-
-chained : (f v g w r : List Refusal) → (f ++ v) ++ ((g ++ w) ++ r) ≡ f ++ (v ++ g ++ w ++ r)
-chained f v g w r = append_assoc f v ((g ++ w) ++ r)
-    ∙ ap (λ xs. f ++ xs) (ap (λ xs. v ++ xs) (append_assoc g w r)
-    ∙ sym (append_assoc (v ++ g) w r ∙ append_assoc v g (w ++ r)))
 
 -- two operands, and further ones
 pub clean_chain : (f v g w r : List Refusal)

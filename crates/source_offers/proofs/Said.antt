@@ -1,22 +1,12 @@
 -- What a statement that holds lists of statements says.
-use Rattle.std.proofs.Common.{◌≡◌, Option, Some, None, refl, ap, ◌∙◌, Vec, Global}
+use Rattle.std.proofs.Common.{◌≡◌, Option, Some, None, refl, ap, Vec, Global}
 use Rattle.program.specs.declared.expression.Expression.{Expression as ExpressionOf}
-use Rattle.program.specs.declared.statement.Statement.{Statement as StatementOf, Row_of-Statement, end_of-Statement}
-use Rattle.program.specs.declared.statement.Statement.{more_of-Statement, items-the_row-Statement}
-use Rattle.program.specs.declared.statement.Statement.{items_hidden-the_row-Statement-0}
+use Rattle.program.specs.declared.statement.Statement.{Statement as StatementOf}
 use Rattle.program.specs.declared.statement.Statement as Code
-use Rattle.program.specs.declared.statement.Statement.TheBlock.{hidden-the_row-Statement-0}
-use Rattle.program.specs.Trees.{Then, If, While, Join, NoPart, SomePart}
-use Rattle.program.specs.Views.{block_of, block_in, expression_of, part_in, statement_of}
+use Rattle.program.specs.Trees.{If, While, Join, NoPart, SomePart}
+use Rattle.program.specs.Views.{block_in, expression_of, part_in, statement_of}
+use Rattle.program.proofs.Blocks.{inner_block}
 use Rattle.std.proofs.Common.{ℕ}
-
-row_block : {n : _} (row : Row_of-Statement n) → block_of row ≡ block_in (items-the_row-Statement _ row)
-row_block end_of-Statement = refl
-row_block (more_of-Statement s row) = ap (λ b. Then (statement_of s) b) (row_block row)
-
--- the statements in a `Vec` that a statement holds
-inner_block : (v : Vec StatementOf Global) → block_of (hidden-the_row-Statement-0 v) ≡ block_in v.items
-inner_block v = row_block (hidden-the_row-Statement-0 v) ∙ ap block_in (items_hidden-the_row-Statement-0 v)
 
 pub if_said : (e : ExpressionOf) (v : Vec StatementOf Global) (o : Option (Vec StatementOf Global))
     → statement_of (Code.If e v o) ≡ If (expression_of e) (block_in v.items) (part_in o)

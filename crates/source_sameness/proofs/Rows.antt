@@ -1,29 +1,18 @@
 -- What a statement's lists of statements say.
-use Rattle.std.proofs.Common.{◌≡◌, ℕ, List, Option, Some, None, sym, ap, refl, ◌∙◌, Vec, Global}
-use Rattle.program.specs.declared.statement.Statement.{Statement as StatementOf, Row_of-Statement, end_of-Statement}
-use Rattle.program.specs.declared.statement.Statement.{more_of-Statement, items-the_row-Statement}
-use Rattle.program.specs.declared.statement.Statement.{items_hidden-the_row-Statement-0}
+use Rattle.std.proofs.Common.{◌≡◌, ℕ, List, Option, Some, None, sym, ap, ◌∙◌, Vec, Global}
+use Rattle.program.specs.declared.statement.Statement.{Statement as StatementOf}
 use Rattle.program.specs.declared.statement.Statement.{If as IfOf, Join as JoinOf, While as WhileOf}
 use Rattle.program.specs.declared.expression.Expression.{Expression as ExpressionOf}
 use Rattle.program.specs.declared.statement.Statement.TheBlock.{hidden-the_row-Statement-0}
-use Rattle.program.specs.Trees.{Block, Done, If, Join, NoPart, SomePart, Statement, Then, While}
+use Rattle.program.specs.Trees.{Block, Done, If, Join, NoPart, SomePart, While}
 use Rattle.program.specs.Views.{block_before, block_of, block_in, expression_of, statement_of}
-
-row_block : {n : _} (row : Row_of-Statement n) → block_of row ≡ block_in (items-the_row-Statement _ row)
-row_block end_of-Statement = refl
-row_block (more_of-Statement s row) = ap (λ b. Then (statement_of s) b) (row_block row)
-
--- the statements in a `Vec` that a statement holds
-inner_block : (ss : List StatementOf) (v : Vec StatementOf Global) → ss ≡ v.items
-    → block_in ss ≡ block_of (hidden-the_row-Statement-0 v)
-inner_block ss v e = ap block_in (e ∙ sym (items_hidden-the_row-Statement-0 v))
-    ∙ sym (row_block (hidden-the_row-Statement-0 v))
+use Rattle.program.proofs.Blocks.{inner_block}
 
 -- two of them are the same where the statements are
 pub same_inner : (ss ts : List StatementOf) (v w : Vec StatementOf Global) → ss ≡ v.items → ts ≡ w.items
     → ((later : Block) → block_before ss later ≡ block_before ts later)
     → block_of (hidden-the_row-Statement-0 v) ≡ block_of (hidden-the_row-Statement-0 w)
-same_inner ss ts v w e f same = sym (inner_block ss v e) ∙ same Done ∙ inner_block ts w f
+same_inner ss ts v w e f same = inner_block v ∙ sym (ap block_in e) ∙ same Done ∙ ap block_in f ∙ sym (inner_block w)
 
 module _ (a b : StatementOf) (e f : ExpressionOf) (condition : expression_of e ≡ expression_of f) where
   module _ (v w : Vec StatementOf Global)

@@ -1,29 +1,15 @@
 -- Which lexemes a factor begins with.
-use Rattle.std.proofs.Common.{◌≡◌, ℕ, List, [], ◌∷◌, Option, Some, None, Bool, true, false, is_some, refl, sym, subst}
+use Rattle.std.proofs.Common.{◌≡◌, ℕ, List, [], ◌∷◌, Option, Some, None, true, is_some, refl, sym, subst}
 use Rattle.scanner.specs.declared.token.Place.{Place}
 use Rattle.scanner.specs.declared.token.Sign.TheVariants as S
 use Rattle.syntax.specs.Lexeme.{Lexeme}
-use Rattle.syntax.specs.Spelling.{bool_lexeme}
-use Rattle.syntax.specs.Tree.{Constant, Truthful, Reads, Group, Minus, Not}
+use Rattle.syntax.specs.Tree.{Constant, Reads, Group, Minus, Not}
 use Rattle.grammar.specs.Machine.{AFactor, AnIndex, AMark, Closed, expression, expression_in}
 use Rattle.grammar.specs.Reading.{StartsFactor}
+use Rattle.grammar.proofs.Starts.{truth_starts}
 use Rattle.token_cursor.specs.declared.operators.FactorStart.{FactorStart}
 use Rattle.token_cursor.specs.declared.operators.FactorStart.TheVariants as F
 use Rattle.token_cursor.specs.Openers.{start_lexeme, Starts}
-
-truth_starts : (value : Bool) (place : Place) → StartsFactor (bool_lexeme value place)
-truth_starts true place = record {
-  symbols = [];
-  make =
-      λ _. Truthful (record { value = true; place = place });
-  begins = refl;
-}
-truth_starts false place = record {
-  symbols = [];
-  make =
-      λ _. Truthful (record { value = false; place = place });
-  begins = refl;
-}
 
 start_starts : (s : FactorStart) (text : List ℕ) (place : Place) → StartsFactor (start_lexeme s text place)
 start_starts (F.Number n) text place =

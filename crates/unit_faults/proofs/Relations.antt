@@ -2,7 +2,6 @@
 use Rattle.std.proofs.Common.{◌≡◌, ℕ, ◌<◌, ◌≤◌, ◌+◌, List, [], ◌∷◌, Option, Some, length, take}
 use Rattle.std.proofs.Common.{refl, sym, ap, ◌∙◌, subst, arith, is_some, not, Bool, true, false, zero, suc, get_or}
 use Rattle.std.specs.Prelude.{slice_get, IsTrue, sum_by}
-use Rattle.std.specs.List.{Contains}
 use Rattle.std.proofs.lemmas.Option.{none-some, slice_get_within, slice_get-get_or, get_or_from_slice_get}
 use Rattle.std.proofs.lemmas.List.{length-take-le, take_more}
 use Rattle.std.proofs.lemmas.List.Sums.{sum_by_push}
@@ -12,6 +11,7 @@ use Rattle.scanner.specs.declared.refusal.RefusalKind.{RefusalKind}
 use Rattle.scanner.specs.declared.refusal.RefusalKind.TheVariants.{Redeclared, Limit}
 use Rattle.syntax.specs.Lexeme.{NameTree}
 use Rattle.syntax.specs.Tree.{MemberTree}
+use Rattle.callees.proofs.Growing.{contains_at}
 use Rattle.types.specs.Faults.{fault}
 use Rattle.types.specs.Names.{number_in}
 use Rattle.types.specs.Judgement.{IsRepeated, IsPast, is_size, kind_words}
@@ -125,14 +125,11 @@ pub words_from : (ms : List MemberTree) (e : Refusal) → OfKind Limit (IsPastWo
 words_from ms e (k, (i, x, g, h, p)) =
     (i, x, g, (subst (λ m. most_member_words < m) (words_step ms i x g) h, by_parts e Limit x.name.place k p))
 
-pub in_list : {X : Type 0} (xs : List X) (i : ℕ) (x : X) → slice_get xs i ≡ Some x → Contains xs x
-in_list xs i x g = (i, slice_get_within xs i x g, get_or_from_slice_get xs i x x g)
-
 pub found : {X : Type 0} (xs : List X) (i : ℕ) (x : X) → i < length xs → get_or xs i x ≡ x → slice_get xs i ≡ Some x
 found xs i x h e = slice_get-get_or xs i x h ∙ ap (λ z. Some z) e
 
 pub sizes_to : (ms : List MemberTree) (e : Refusal) → Along SizeAt ms e → OfKind Limit (IsNoSizeOf ms) e
-sizes_to ms e (i, x, g, (k, (n, is, h, p))) = (k, (x, in_list ms i x g, n, is, h, p))
+sizes_to ms e (i, x, g, (k, (n, is, h, p))) = (k, (x, contains_at ms i x g, n, is, h, p))
 
 pub sizes_from : (ms : List MemberTree) (e : Refusal) → OfKind Limit (IsNoSizeOf ms) e → Along SizeAt ms e
 sizes_from ms e (k, (x, (i, l, q), n, is, h, p)) = (i, x, found ms i x l q, (k, (n, is, h, p)))

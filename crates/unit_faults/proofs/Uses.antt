@@ -13,7 +13,8 @@ use Rattle.unit_faults.specs.Collected.{Collects, OfKind, InOne}
 use Rattle.std.proofs.lemmas.List.{length-map, get_or-map}
 use Rattle.unit_faults.proofs.Collecting.{collects_same}
 use Rattle.unit_faults.proofs.Along.{Along, along_next, along_end}
-use Rattle.unit_faults.proofs.Relations.{in_list, found}
+use Rattle.callees.proofs.Growing.{contains_at}
+use Rattle.unit_faults.proofs.Relations.{found}
 
 -- names that are read twice
 pub repeated_of : (xs ys : List Name) (ns : List NameTree) (a b : Option Refusal) → xs ≡ ys → map name_of ys ≡ ns
@@ -40,7 +41,7 @@ pub one_end : {X Y : Type 0} (f : Y → X) (Is : X → Refusal → Type 0) (ys :
     → length ys ≤ i → Collects (Along (λ before x. Is x) (take i (map f ys))) a b → Collects (InOne Is (map f ys)) a b
 one_end f Is ys i a b h k =
     collects_same (Along (λ before x. Is x) (map f ys)) (InOne Is (map f ys)) a b
-    (λ e (j, x, g, w). (x, in_list (map f ys) j x g, w)) (λ e (x, (j, l, q), w). (j, x, found (map f ys) j x l q, w))
+    (λ e (j, x, g, w). (x, contains_at (map f ys) j x g, w)) (λ e (x, (j, l, q), w). (j, x, found (map f ys) j x l q, w))
     (along_end f (λ before x. Is x) ys i a b h k)
 
 -- an element of what another list says

@@ -1,12 +1,13 @@
 use Rattle.std.proofs.Common.{◌≢◌, rules, inl, inr}
 use Rattle.scanner.specs.declared.refusal.RefusalKind.TheVariants.{Memory}
 use Rattle.syntax.specs.Whole.{unit_of}
-use Rattle.parser.proofs.Units.{text_read, only_read, never_refused, refusal_read}
+use Rattle.grammar.proofs.Law.{spells}
+use Rattle.parser.proofs.Units.{only_read, never_refused, refusal_read}
 use Rattle.parser.proofs.unit.parse.Goals as goal
 
 pub returns-in-Ok-clause-tree : goal.returns-in-Ok-clause-tree
 returns-in-Ok-clause-tree c =
-    text_read c.args.tokens.now (unit_of c.in-Ok.unit) c.requires.ends (rw c.new-parser.ensures at c.in-Ok.ensures.ok)
+    spells c.args.tokens.now (unit_of c.in-Ok.unit) c.requires.ends (rw c.new-parser.ensures at c.in-Ok.ensures.ok)
 
 pub returns-in-Ok-clause-only : goal.returns-in-Ok-clause-only
 returns-in-Ok-clause-only c = λ t e le.

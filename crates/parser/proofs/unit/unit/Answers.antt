@@ -2,7 +2,8 @@ use Rattle.std.proofs.Common.{arith, inr}
 use Rattle.std.proofs.lemmas.Result.{err_from_is_err_and}
 use Rattle.syntax.specs.View.{whole}
 use Rattle.grammar.proofs.Joins.{here, then1, fail1, then3, fail3, then4, fail4}
-use Rattle.parser.proofs.Units.{unit_reads, unit_refused, unit_fails, within_read}
+use Rattle.grammar.proofs.Law.{limits}
+use Rattle.parser.proofs.Units.{unit_reads, unit_refused, unit_fails}
 use Rattle.parser.proofs.unit.unit.Goals as goal
 
 pub returns-in_err-name-clause-err : goal.returns-in_err-name-clause-err
@@ -53,7 +54,7 @@ returns-in-Ok-finish-clause-ok c =
 pub invariant_of-result : goal.invariant_of-result
 invariant_of-result c =
     record {
-      within = within_read c.args.parser.now.rest.now
+      within = limits c.args.parser.now.rest.now
           (whole c.in_ok-name.name c.in_ok-monitors.monitors.items c.in-Ok.procedures.items
           c.in-Ok-main_part.main)
           (unit_reads (then4 c.in-Ok-main_part.ensures.ok
