@@ -1,6 +1,6 @@
 -- What the value of an event tells of its step.
-use Rattle.std.proofs.Common.{◌≡◌, ℕ, zero, suc, ◌==◌, Bool, true, false, List, [], ◌∷◌, length}
-use Rattle.std.proofs.Common.{Option, Some, None, Result, Ok, Err, refl, ap, sym, ◌∙◌, arith, inl, inr, slice_set}
+use Rattle.std.proofs.Common.{◌≡◌, ℕ, suc, ◌==◌, Bool, true, false, List, length}
+use Rattle.std.proofs.Common.{Option, Some, Result, Ok, Err, refl, ap, sym, ◌∙◌, arith, inl, inr}
 use Rattle.std.proofs.Common.{lt-ltb}
 use Rattle.std.specs.Prelude.{◌-◌, nat_lt, if◌then◌else◌}
 use Rattle.std.proofs.lemmas.Bool.{eq-eqb, ne_eqb}
@@ -8,7 +8,6 @@ use Rattle.words.specs.Process.{process_word}
 use Rattle.locals.specs.Threads.{Thread, opening_thread}
 use Rattle.locals.specs.Looks.{Request, AskLoad, AskSwap, AskCompareSwap, AskFork, Look, Goes, Asks, Leaves, Breaks}
 use Rattle.locals.specs.Looks.{Rests}
-use Rattle.locals.specs.Steps.{local_next}
 use Rattle.machine.specs.declared.event.Event.{Event}
 use Rattle.machine.specs.declared.event.EventName.{EventName}
 use Rattle.machine.specs.declared.event.EventName.TheVariants as name
@@ -17,34 +16,13 @@ use Rattle.machine.specs.declared.event.StepFault.TheVariants.{Broken}
 use Rattle.machine.specs.States.{Common, State, ConcreteState, state_of}
 use Rattle.machine.specs.AbstractServing.{Serves}
 use Rattle.machine.specs.ConcreteServing.{plain, gives, load, set_word}
-use Rattle.machine.specs.ConcreteSteps.{Stepped, thread_step, on_machine, go_on_with}
-use Rattle.machine.specs.ConcreteSteps.{put_thread}
+use Rattle.machine.specs.ConcreteSteps.{thread_step, on_machine, go_on_with}
 use Rattle.program.specs.Trees.{Program}
 use Rattle.lowering.specs.declared.mark.Mark.{Mark}
 use Rattle.proof_thread.specs.Deferrals.{deferred_by_request, deferred_by_step}
 use Rattle.meaning.specs.Labels.{Kind}
 use Rattle.proof_simulation.specs.Ordering.{StepsSo, completes}
 use Rattle.log_simulation.specs.Entries.{is_visible}
-
--- a thread that is put twice
-set_twice : {A : Type 0} → (xs : List A) (i : ℕ) (x y : A) → slice_set (slice_set xs i x) i y ≡ slice_set xs i y
-set_twice [] i x y = refl
-set_twice (z ∷ zs) zero x y = refl
-set_twice (z ∷ zs) (suc i) x y = ap (λ ws. z ∷ ws) (set_twice zs i x y)
-
-pub put_twice : (k : ConcreteState) (t : ℕ) (x y : Thread) → put_thread (put_thread k t x) t y ≡ put_thread k t y
-put_twice k t x y = λ i. record { common = k.common; threads = set_twice k.threads (t - 1) x y i }
-
-pub goes_local : (made t : ℕ) (c : Common) (l : Look) (x : Thread) → local_next l ≡ Some x
-    → (let R : Type 0 = Result Stepped StepFault in
-    (let a : R = thread_step made t c l in a)
-    ≡ (let b : R = Ok (record { common = c; thread = x; child = None; event = plain name.Local 0 }) in b))
-goes_local made t c (Goes y) x h = let e : y ≡ x = cc in
-    ap (λ z. Ok (record { common = c; thread = z; child = None; event = plain name.Local 0 })) e
-goes_local made t c (Asks request go) x h = absurd cc
-goes_local made t c (Leaves phase) x h = absurd cc
-goes_local made t c Breaks x h = absurd cc
-goes_local made t c Rests x h = absurd cc
 
 -- the value of the event of a step
 abbrev value_of : Result (ConcreteState × Event) StepFault → ℕ
@@ -133,13 +111,6 @@ module _ (p : Program) (k k' : ConcreteState) (t : ℕ) (event : Event) (done ra
     deferral (Leaves phase) s' h g = g.5
     deferral Breaks s' h g = absurd g
     deferral Rests s' h g = absurd g
-
-pub goes_by : (l : Look) (y : Thread) → local_next l ≡ Some y → l ≡ Goes y
-goes_by (Goes z) y e = cc
-goes_by (Asks request go) y e = absurd cc
-goes_by (Leaves phase) y e = absurd cc
-goes_by Breaks y e = absurd cc
-goes_by Rests y e = absurd cc
 
 pub same_thread : {x y : Thread} → Some x ≡ Some y → x ≡ y
 same_thread e = cc

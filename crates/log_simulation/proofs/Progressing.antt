@@ -58,7 +58,9 @@ use Rattle.log_simulation.specs.Entries.{progress_shared, progress_end, progress
 use Rattle.log_simulation.specs.Entries.{progress_strayed}
 use Rattle.log_simulation.specs.Entries.{entry_steps, progress_entry, ComesTo}
 use Rattle.log_simulation.specs.Going.{IsKillDue, IsStrayDue}
-use Rattle.log_simulation.proofs.LogSteps.{visible, deferral, put_twice, goes_local, goes_by, same_thread}
+use Rattle.runner.proofs.Unrolling.{put_twice, goes_local}
+use Rattle.proof_simulation.proofs.Whole.{goes_by}
+use Rattle.log_simulation.proofs.LogSteps.{visible, deferral, same_thread}
 
 abbrev step_by : ℕ → Event → EventStep
 step_by t event = record { thread = t; event = event }

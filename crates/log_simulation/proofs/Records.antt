@@ -14,6 +14,7 @@ use Rattle.meaning.specs.Labels.{Kind}
 use Rattle.program.specs.Trees.{Program}
 use Rattle.words.proofs.Updates.{put_same, put_other}
 use Rattle.proof_simulation.specs.Deferred.{deferred_then, is_failing, has_failed}
+use Rattle.proof_simulation.proofs.Tracking.{failed_more}
 use Rattle.log_simulation.specs.Entries.{deferred_at, deferred_locally}
 use Rattle.log_simulation.specs.Deferred.{deferral_of, deferred_by_next_step, Says, CountsDeferred, Raises}
 use Rattle.log_simulation.specs.declared.deferral.Deferral.TheVariants as deferral
@@ -74,11 +75,6 @@ or_on : (a b d : Bool) → ((a || b) || d) ≡ (a || (b || d))
 or_on true b d = refl
 or_on false b d = refl
 
-failed_last : (ks : List Kind) (k : Kind) → has_failed (ks ++ k ∷ []) ≡ (has_failed ks || is_failing k)
-failed_last [] k = or_false (is_failing k)
-failed_last (x ∷ ks) k = ap (λ b. is_failing x || b) (failed_last ks k)
-    ∙ sym (or_on (is_failing x) (has_failed ks) (is_failing k))
-
 -- no action adds nothing
 pub nothing_more : (x : Deferred) (ks : List Kind) (o : Option Kind) → Says x ks → deferral.Nothing ≡ deferral_of o
     → Says x (deferred_then o ks)
@@ -108,7 +104,7 @@ one_more x y ks k b says is count failed =
     let was = says.count in
     record {
       count = omega (arith, long, was, count);
-      failed = failed ∙ ap (λ c. c || b) says.failed ∙ ap (λ c. has_failed ks || c) (sym is) ∙ sym (failed_last ks k);
+      failed = failed ∙ ap (λ c. c || b) says.failed ∙ ap (λ c. has_failed ks || c) (sym is) ∙ sym (failed_more ks k);
     }
 
 pub fault_first : (x y : Deferred) (ks : List Kind) (o : Option Kind) → Says x ks → x.has_failed ≡ false

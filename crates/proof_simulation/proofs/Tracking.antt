@@ -140,7 +140,7 @@ own_more [] k h g = (g, tt)
 own_more (x ∷ ks) k h g = (h.0, own_more ks k h.1 g)
 
 -- one more that waits
-failed_more : (ks : List Kind) (k : Kind) → has_failed (ks ++ k ∷ []) ≡ (has_failed ks || is_failing k)
+pub failed_more : (ks : List Kind) (k : Kind) → has_failed (ks ++ k ∷ []) ≡ (has_failed ks || is_failing k)
 failed_more [] k = or_false (is_failing k)
 failed_more (x ∷ ks) k = ap (λ b. is_failing x || b) (failed_more ks k)
     ∙ sym (or_on (is_failing x) (has_failed ks) (is_failing k))

@@ -150,7 +150,7 @@ none_from_outside test own_none [] h = refl
 none_from_outside test own_none (a ∷ as') h = rw (own_none a.kind h.0) (none_from_outside test own_none as' h.1)
 
 -- a local step is one of a thread that goes
-goes_by : (l : Look) (y : Thread) → local_next l ≡ Some y → l ≡ Goes y
+pub goes_by : (l : Look) (y : Thread) → local_next l ≡ Some y → l ≡ Goes y
 goes_by (Goes z) y e = cc
 goes_by (Asks request go) y e = absurd cc
 goes_by (Leaves phase) y e = absurd cc

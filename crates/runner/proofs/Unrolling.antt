@@ -58,10 +58,10 @@ set_twice [] i x y = refl
 set_twice (z ∷ zs) zero x y = refl
 set_twice (z ∷ zs) (suc i) x y = ap (λ ws. z ∷ ws) (set_twice zs i x y)
 
-put_twice : (k : ConcreteState) (t : ℕ) (x y : Thread) → put_thread (put_thread k t x) t y ≡ put_thread k t y
+pub put_twice : (k : ConcreteState) (t : ℕ) (x y : Thread) → put_thread (put_thread k t x) t y ≡ put_thread k t y
 put_twice k t x y = λ i. record { common = k.common; threads = set_twice k.threads (t - 1) x y i }
 
-goes_local : (made t : ℕ) (c : Common) (l : Look) (x : Thread) → local_next l ≡ Some x
+pub goes_local : (made t : ℕ) (c : Common) (l : Look) (x : Thread) → local_next l ≡ Some x
     → (let R : Type 0 = Result Stepped StepFault in
     (let a : R = thread_step made t c l in a)
     ≡ (let b : R = Ok (record { common = c; thread = x; child = None; event = plain name.Local 0 }) in b))
