@@ -23,7 +23,7 @@ use devices::Counted;
 use emit::emit;
 use isa::{Image, encode};
 use program::Checked;
-use source_search::Outside;
+use source_search::{Outside, Progress};
 use std::alloc::Global;
 use std::io;
 use std::io::Write;
@@ -34,7 +34,8 @@ use words::OpenGate;
 
 /// Does the command that these words ask for, those after the program's name, and answers the exit status. `output`
 /// and `errors` stand for standard output and standard error; what is to stand behind what `errors` got is appended to
-/// `hints`, where the words ask for hints.
+/// `hints`, where the words ask for hints. `progress` is told how far a search over all runs has come, as it goes, and
+/// gives nothing back.
 ///
 /// The first fault decides: of the words, of reading the files, of the source text or the image, of its run, of
 /// writing.
@@ -44,12 +45,13 @@ use words::OpenGate;
 ///
 /// The status is 0 where the command was done, 1 where the source text is refused, 2 for words that are no command, 3
 /// where the run was stuck, 4 where it reached its limit, 5 where memory ran out, and 6 for any other failure.
-pub fn perform<R: Files + AllocGlobal + Threads + Wait + Sync, O: Write, E: Write>(
+pub fn perform<R: Files + AllocGlobal + Threads + Wait + Sync, O: Write, E: Write, P: Progress>(
     rt: &R,
     words: &[&str],
     output: &mut Counted<O>,
     errors: &mut Counted<E>,
     hints: &mut String,
+    progress: &mut P,
 ) -> u8
     ensures known { result ≤ 6 }
     ensures done { result ≡ 0 → HasAnswered (map (λ w. w.now) words.now)
@@ -62,7 +64,7 @@ pub fn perform<R: Files + AllocGlobal + Threads + Wait + Sync, O: Write, E: Writ
         (HasAll O.contents output.old output.new)
         (HasAll E.contents errors.old errors.new) Status.Limit }
 {
-    match do_job(rt, words, output, errors, hints) {
+    match do_job(rt, words, output, errors, hints, progress) {
         Ok(status) => status.code(),
         Err(failure) => {
             let _told = tell(errors, &failure);
@@ -76,16 +78,16 @@ pub fn perform<R: Files + AllocGlobal + Threads + Wait + Sync, O: Write, E: Writ
 
 /// As `perform`, and then writes the hints to `errors`, behind what they speak of. Where they can't be written, a command
 /// that ended well has failed.
-pub fn perform_with_hints<R: Files + AllocGlobal + Threads + Wait + Sync, O: Write, E: Write>(
-    rt: &R,
-    words: &[&str],
-    output: &mut Counted<O>,
-    errors: &mut Counted<E>,
-) -> u8
+pub fn perform_with_hints<
+    R: Files + AllocGlobal + Threads + Wait + Sync,
+    O: Write,
+    E: Write,
+    P: Progress,
+>(rt: &R, words: &[&str], output: &mut Counted<O>, errors: &mut Counted<E>, progress: &mut P) -> u8
     ensures { result ≤ 6 }
 {
     let mut hints = String::new(rt.alloc());
-    let status = perform(rt, words, output, errors, &mut hints);
+    let status = perform(rt, words, output, errors, &mut hints, progress);
     if hints.is_empty() || write_text(errors, hints.as_str()).is_ok() {
         return status;
     }
@@ -108,12 +110,13 @@ fn tell<E: Write>(errors: &mut Counted<E>, failure: &Failure<'_>) -> io::Result<
     }
 }
 
-fn do_job<'a, R: Files + AllocGlobal + Threads + Wait + Sync, O: Write, E: Write>(
+fn do_job<'a, R: Files + AllocGlobal + Threads + Wait + Sync, O: Write, E: Write, P: Progress>(
     rt: &R,
     words: &'a [&'a str],
     output: &mut Counted<O>,
     errors: &mut Counted<E>,
     told: &mut String,
+    progress: &mut P,
 ) -> Result<Status, Failure<'a>>
     ensures { IfOk result (HasAnswered (map (λ w. w.now) words.now)
         (HasAll O.contents output.old output.new)
@@ -167,7 +170,9 @@ fn do_job<'a, R: Files + AllocGlobal + Threads + Wait + Sync, O: Write, E: Write
         } => {
             let drawings = Drawings { chart, timeline };
             let outside = Outside { strays, kills };
-            explore_file(rt, file, states, outside, drawings, hints, output, told)
+            explore_file(
+                rt, file, states, outside, drawings, hints, output, told, progress,
+            )
         }
     }
 }

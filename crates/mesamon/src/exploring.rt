@@ -19,7 +19,7 @@ use devices::{Counted, write_bytes};
 use image_ends::image_laws;
 use program::{Checked, Names};
 use scanner::Refusal;
-use source_search::{Exploration, Outside, explore};
+use source_search::{Exploration, Outside, Progress, explore};
 use source_states::Action;
 use std::alloc::{AllocError, Global};
 use std::fmt::Write as _;
@@ -43,14 +43,17 @@ pub struct ExploredText<'a> {
 /// thread that aborts: with strays whatever wakes come from outside, else as long as none do; and as long as no more
 /// threads are killed.
 ///
+/// How far the search has come is told as it goes.
+///
 /// # Errors
 ///
 /// A text that `compile` refuses has the same refusal. Else there is no fault but want of memory.
-pub fn explore_source<'a>(
+pub fn explore_source<'a, P: Progress>(
     alloc: Global,
     text: &'a [u8],
     most_states: usize,
     outside: Outside,
+    progress: &mut P,
 ) -> Result<ExploredText<'a>, Refusal>
     ensures { MatchResult result (λ explored. IsExploredText text.now outside explored)
         (λ e. (e ≡ out_of_memory) ⊎ RefusesText text.now e) }
@@ -58,7 +61,7 @@ pub fn explore_source<'a>(
     text_laws();
     image_laws();
     let (checked, _lowered) = compile_checked(alloc, text)?;
-    let exploration = explore_checked(alloc, &checked, most_states, outside)?;
+    let exploration = explore_checked(alloc, &checked, most_states, outside, progress)?;
     Ok(ExploredText {
         checked,
         exploration,
@@ -66,20 +69,21 @@ pub fn explore_source<'a>(
 }
 
 // What is found of a checked program.
-fn explore_checked(
+fn explore_checked<P: Progress>(
     alloc: Global,
     checked: &Checked,
     most_states: usize,
     outside: Outside,
+    progress: &mut P,
 ) -> Result<Exploration, AllocError>
     ensures { IfOk result (λ e. IsFoundOf (said_by checked.now) outside e) }
 {
-    explore(alloc, checked, most_states, outside)
+    explore(alloc, checked, most_states, outside, progress)
 }
 
 /// Searches all runs of the source text of a file, with as much from outside as may be, prints what is found, and shows
-/// it in other files where they are named and anything was found.
-pub fn explore_file<'a, R: Files + AllocGlobal, O: Write>(
+/// it in other files where they are named and anything was found. How far the search has come is told as it goes.
+pub fn explore_file<'a, R: Files + AllocGlobal, O: Write, P: Progress>(
     rt: &R,
     file: &'a str,
     most_states: u32,
@@ -88,6 +92,7 @@ pub fn explore_file<'a, R: Files + AllocGlobal, O: Write>(
     hints: bool,
     output: &mut Counted<O>,
     told: &mut String,
+    progress: &mut P,
 ) -> Result<Status, Failure<'a>>
     ensures { IfOk result
         (λ s. HasExplored outside (HasAll O.contents output.old output.new) s) }
@@ -98,7 +103,7 @@ pub fn explore_file<'a, R: Files + AllocGlobal, O: Write>(
         bytes: bytes.as_slice(),
         hints,
     };
-    let explored = explore_text(rt.alloc(), &text, most_states, outside)?;
+    let explored = explore_text(rt.alloc(), &text, most_states, outside, progress)?;
     let lines = lines_of(rt.alloc(), &explored, outside)?;
     let found = shown(&explored.exploration);
     tell_found(rt.alloc(), told, &text, &explored.checked, found);
@@ -108,19 +113,18 @@ pub fn explore_file<'a, R: Files + AllocGlobal, O: Write>(
 }
 
 // Searches all runs of a text's program; its refusal with hints where they are wanted.
-fn explore_text<'a, 't>(
+fn explore_text<'a, 't, P: Progress>(
     alloc: Global,
     text: &SourceText<'t>,
     most_states: u32,
     outside: Outside,
+    progress: &mut P,
 ) -> Result<ExploredText<'t>, Failure<'a>>
     ensures { IfOk result (λ explored. IsExploredText text.now.bytes.now outside explored) }
 {
-    explore_source(alloc, text.bytes, most_states as usize, outside).map_err(|refusal| hinted(
-        alloc,
-        text,
-        Failure::from(refusal),
-    ))
+    explore_source(alloc, text.bytes, most_states as usize, outside, progress).map_err(|refusal| {
+        hinted(alloc, text, Failure::from(refusal))
+    })
 }
 
 // Shows the run that was found in files.

@@ -11,6 +11,7 @@ mod files;
 mod hinting;
 mod lines;
 mod listing;
+mod progress;
 mod replaying;
 mod run_ends;
 mod run_entries;
@@ -33,7 +34,9 @@ pub use explained_run::{
     ExplainSourceFault, ExplainedRun, explain_by_seed, explain_schedule, explain_source,
 };
 pub use exploring::{ExploredText, explore_source};
+pub use progress::ProgressLines;
 pub use replaying::{ReplayFault, replay};
 pub use source_log::{SourceLogFault, explain_log_text, replay_log_text};
 pub use source_run::{RunSourceFault, run_by_seed, run_in_order, run_source};
+pub use source_search::{Progress, Untold};
 pub use status::Status;

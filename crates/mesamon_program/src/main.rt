@@ -1,7 +1,7 @@
 //! The program mesamon: it hands its words to `mesamon::perform_with_hints`, on a thread with a large stack.
 #![tactic(auto)]
 
-use mesamon::{Counted, Status, perform_with_hints};
+use mesamon::{Counted, Progress, ProgressLines, Status, perform_with_hints};
 use std::io::Write;
 use std::process::ExitCode;
 use std::rt::{Env, Files};
@@ -13,40 +13,47 @@ use std::{env, io};
 // it has operators in a row, for which a text has room for half a million, and what goes over a tree calls itself.
 const STACK: usize = 1 << 30;
 
+// For how many states that a search keeps it tells once how far it has come.
+const STATES: usize = 100_000;
+
 fn main(rt: HostRuntime) -> ExitCode {
-    let started = Builder::new()
-        .stack_size(STACK)
-        .spawn(&rt, move || do_job(&rt, rt.stdout(), rt.stderr()));
+    let started = Builder::new().stack_size(STACK).spawn(
+        &rt,
+        move || do_job(&rt, rt.stdout(), rt.stderr(), rt.stderr()),
+    );
     ExitCode::from(match started {
         Ok(thread) => thread.join(&rt),
         // Most texts need no more than the stack that there is.
-        Err(_) => do_job(&rt, rt.stdout(), rt.stderr()),
+        Err(_) => do_job(&rt, rt.stdout(), rt.stderr(), rt.stderr()),
     })
 }
 
-// Does the job, and answers the exit status.
+// Does the job, and answers the exit status. What tells how far a search has come is a writer of its own, since `errors`
+// is lent to whoever does the job.
 fn do_job<
     R: Env + Files + Eprint + AllocGlobal + Threads + Wait + Sync,
     O: Write + Drop,
     E: Write + Drop,
->(rt: &R, output: O, errors: E) -> u8 {
+>(rt: &R, output: O, errors: E, progress: E) -> u8 {
     let mut output = Counted::new(output);
     let mut errors = Counted::new(errors);
-    match perform_words(rt, &mut output, &mut errors) {
+    let mut progress = ProgressLines::new(progress, STATES);
+    match perform_words(rt, &mut output, &mut errors, &mut progress) {
         Ok(status) => status,
         Err(error) => refuse(rt, &error).code(),
     }
 }
 
 // Does what the words of the command line ask for.
-fn perform_words<R: Env + Files + AllocGlobal + Threads + Wait + Sync, O: Write, E: Write>(
-    rt: &R,
-    output: &mut Counted<O>,
-    errors: &mut Counted<E>,
-) -> io::Result<u8> {
+fn perform_words<
+    R: Env + Files + AllocGlobal + Threads + Wait + Sync,
+    O: Write,
+    E: Write,
+    P: Progress,
+>(rt: &R, output: &mut Counted<O>, errors: &mut Counted<E>, progress: &mut P) -> io::Result<u8> {
     let words: Vec<String> = env::args(rt)?.skip(1).collect(rt.alloc())?;
     let texts: Vec<&str> = words.iter().map(|word| word.as_str()).collect(rt.alloc())?;
-    Ok(perform_with_hints(rt, texts.as_slice(), output, errors))
+    Ok(perform_with_hints(rt, texts.as_slice(), output, errors, progress))
 }
 
 // Says why there are no words: one of them is no UTF-8, or there was no memory for them.

@@ -12,10 +12,12 @@ mod next;
 mod outside;
 mod packed;
 mod parts;
+mod progress;
 mod replay;
 mod runs;
 mod search;
 mod sets;
 
 pub use outside::Outside;
+pub use progress::{Progress, Untold};
 pub use runs::{Exploration, explore};

@@ -6,6 +6,7 @@ ghost use Rattle.source_search.specs.Found.{HasFailed, LeadsNowhere, LeadsTo};
 use crate::ends::{has_failed, is_stuck};
 use crate::kept::{Kept, Way};
 use crate::outside::{Outside, are_from};
+use crate::progress::Progress;
 use crate::replay::{OPENING, actions_to};
 use crate::search::{Findings, search};
 use program::Checked;
@@ -145,12 +146,13 @@ fn is_complete(
 /// most are killed, wherever they stand; breadth first, keeping at most so many states: for one that gets stuck, and for
 /// one in which a process aborts. Where nothing comes from outside a process whose next action is calm, so that none of
 /// the others races with it, is followed alone. What is found is such a run. Where the search came to its end and none
-/// was found, there is none.
-pub fn explore(
+/// was found, there is none. How far it has come is told as it goes.
+pub fn explore<P: Progress>(
     alloc: Global,
     checked: &Checked,
     most_states: usize,
     outside: Outside,
+    progress: &mut P,
 ) -> Result<Exploration, AllocError>
     ensures stuck { IfOk result (λ e. IfSome e.stuck (λ v. LeadsTo (program_of checked.now.tree) outside
         (IsStuck (program_of checked.now.tree)) v.items)) }
@@ -165,7 +167,7 @@ pub fn explore(
     let mut kept = Kept::new(alloc, most_states);
     let opening = SourceState::opening(alloc, checked)?;
     let opens = kept.cover(alloc, checked, opening, OPENING, outside)?;
-    let findings = search(alloc, checked, &mut kept, most_states, outside)?;
+    let findings = search(alloc, checked, &mut kept, most_states, outside, progress)?;
     let ways = kept.ways.as_slice();
     let stuck = stuck_run(alloc, checked, ways, findings.stuck, outside)?;
     let aborted = aborted_run(alloc, checked, ways, findings.aborted, outside)?;

@@ -11,6 +11,7 @@ use crate::ends::{has_failed, is_stuck};
 use crate::kept::{Kept, Way};
 use crate::next::next_state;
 use crate::outside::Outside;
+use crate::progress::Progress;
 use program::Checked;
 use source_states::{Action, SourceState};
 use sourcemeaning::can_move;
@@ -166,13 +167,14 @@ impl<'a> Kept<'a> {
     }
 }
 
-/// Keeps all states that a run leads to, breadth first, as far as there is room.
-pub(crate) fn search<'a>(
+/// Keeps all states that a run leads to, breadth first, as far as there is room, and tells how far it has come.
+pub(crate) fn search<'a, P: Progress>(
     alloc: Global,
     checked: &'a Checked,
     kept: &mut Kept<'a>,
     most: usize,
     outside: Outside,
+    progress: &mut P,
 ) -> Result<Findings, AllocError>
     ensures longer { OnOk result
         (IsLonger (states_in kept.old.states.items) (states_in kept.new.states.items)) }
@@ -202,6 +204,7 @@ pub(crate) fn search<'a>(
         if !kept.expand(alloc, checked, &state, place, outside)? {
             return Ok(findings);
         }
+        progress.looked_at(kept.states.len(), place + 1);
     }
     let all = kept.states.as_slice();
     findings.complete = all.len() <= most;

@@ -1,8 +1,8 @@
 use crate::device::Device;
 use crate::fault::RowFault;
 use crate::row::Row;
-use mesamon::{Counted, perform_with_hints};
-use std::alloc::Global;
+use mesamon::{Counted, ProgressLines, perform_with_hints};
+use std::alloc::{AllocError, Global};
 use std::rt::Files;
 use std::sync::Wait;
 use std::thread::Threads;
@@ -19,6 +19,9 @@ const LOG: &str = "program.log";
 
 // The file whose bytes a row tells.
 const IMAGE: &str = "program.image";
+
+// For how many states that a search keeps it tells once how far it has come.
+const STATES: usize = 200;
 
 /// What a command left.
 #[derive(Drop)]
@@ -86,9 +89,16 @@ impl Outcome {
             .collect(rt.alloc())?;
         let mut output = Counted::new(Device::new(rt.alloc(), row.output_room)?);
         let mut errors = Counted::new(Device::new(rt.alloc(), row.errors_room)?);
-        let status = perform_with_hints(rt, words.as_slice(), &mut output, &mut errors);
+        let mut progress = ProgressLines::new(Device::new(rt.alloc(), row.errors_room)?, STATES);
+        let status = perform_with_hints(
+            rt,
+            words.as_slice(),
+            &mut output,
+            &mut errors,
+            &mut progress,
+        );
+        let errors = joined(progress.into_inner(), errors.into_inner())?;
         let output = output.into_inner();
-        let errors = errors.into_inner();
         Ok(Outcome {
             status,
             failures: output.failures.saturating_add(errors.failures),
@@ -98,6 +108,14 @@ impl Outcome {
             log: None,
         })
     }
+}
+
+// What two devices took and how often they failed, as of one that took the first one's bytes before the other's.
+fn joined(first: Device, second: Device) -> Result<Device, AllocError> {
+    let mut both = first;
+    both.taken.extend_from_slice(second.taken.as_slice())?;
+    both.failures = both.failures.saturating_add(second.failures);
+    Ok(both)
 }
 
 // Writes a file of these bytes, where there are any.

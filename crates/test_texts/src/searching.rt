@@ -2,7 +2,7 @@
 
 use crate::failure::Failure;
 use compiler::compile_checked;
-use source_search::{Exploration, Outside, explore};
+use source_search::{Exploration, Outside, Untold, explore};
 use source_states::Action;
 use std::alloc::Global;
 use std::io;
@@ -22,7 +22,7 @@ fn search(alloc: Global, said: &str) -> Result<Exploration, Failure> {
     let most: usize = most.parse().map_err(|_| Failure::Row)?;
     let outside = outside_of(runs)?;
     let (checked, _lowered) = compile_checked(alloc, text.as_bytes())?;
-    Ok(explore(alloc, &checked, most, outside)?)
+    Ok(explore(alloc, &checked, most, outside, &mut Untold)?)
 }
 
 // What comes from outside in the runs that are searched.

@@ -3,7 +3,7 @@ use Rattle.mesamon.proofs.Explored.{holds_of_image, refines_own}
 use Rattle.mesamon.proofs.exploring.explore_source.Goals as goal
 
 pub returns : goal.returns
-returns c =
+returns g c =
     let read = c.in_ok-checked.ensures.compiled in
     let p = said_by c.in_ok-checked.checked in
     let found = c.in_ok-exploration.ensures in

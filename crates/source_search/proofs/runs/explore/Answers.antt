@@ -6,7 +6,7 @@ use Rattle.source_search.proofs.Searched.{nowhere_aborted, nowhere_stuck}
 use Rattle.source_search.proofs.runs.explore.Goals as goal
 
 pub returns-clause-never_stuck : goal.returns-clause-never_stuck
-returns-clause-never_stuck c = λ complete none.
+returns-clause-never_stuck g c = λ complete none.
     nowhere_stuck (program_of c.args.checked.now.tree) c.program-program.ensures.well_formed c.args.outside
     (states_in c.cover.new.self.states.items) (states_in c.search.new.kept.states.items)
     (subst (IsSeen (program_of c.args.checked.now.tree) (is_any c.args.outside) (states_in c.cover.new.self.states.items)) c.in_ok-opening.ensures
@@ -18,7 +18,7 @@ returns-clause-never_stuck c = λ complete none.
     (c.is_complete-complete.ensures.stuck complete none)
 
 pub returns-clause-never_aborted : goal.returns-clause-never_aborted
-returns-clause-never_aborted c = λ complete none.
+returns-clause-never_aborted g c = λ complete none.
     nowhere_aborted (program_of c.args.checked.now.tree) c.program-program.ensures.well_formed c.args.outside
     (states_in c.cover.new.self.states.items) (states_in c.search.new.kept.states.items)
     (subst (IsSeen (program_of c.args.checked.now.tree) (is_any c.args.outside) (states_in c.cover.new.self.states.items)) c.in_ok-opening.ensures

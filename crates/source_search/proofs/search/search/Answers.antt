@@ -9,13 +9,13 @@ use Rattle.source_search.proofs.Searched.{all_expanded, at_first, goes_on, none_
 use Rattle.source_search.proofs.search.search.Goals as goal
 
 pub loop-place-init : goal.loop-place-init
-loop-place-init c = record {
+loop-place-init g c = record {
   so_far = at_first (program_of c.args.checked.now.tree) c.args.outside (states_in c.args.kept.now.states.items);
   goes_on = refl;
 }
 
 pub loop-place-preserved : goal.loop-place-preserved
-loop-place-preserved c =
+loop-place-preserved g c =
     let states = c.loop-place.kept.states.items in
     let there : IsKeptAt c.next.new.self.states.items c.loop-place.place (state_of c.in-Some.state) =
     rw c.in-Some.is at c.in_ok-state.ensures.like in
@@ -33,7 +33,7 @@ loop-place-preserved c =
     }
 
 pub returns-then-place-known-clause-expanded : goal.returns-then-place-known-clause-expanded
-returns-then-place-known-clause-expanded c = λ e.
+returns-then-place-known-clause-expanded g c = λ e.
     let end : length (states_in c.loop-place.kept.states.items) ≤ c.loop-place.place =
     omega (
       arith,
@@ -45,7 +45,7 @@ returns-then-place-known-clause-expanded c = λ e.
     c.loop-place.findings.aborted c.loop-place.invariant.so_far end
 
 pub returns-then-place-known-clause-stuck : goal.returns-then-place-known-clause-stuck
-returns-then-place-known-clause-stuck c = λ e.
+returns-then-place-known-clause-stuck g c = λ e.
     let end : length (states_in c.loop-place.kept.states.items) ≤ c.loop-place.place =
     omega (
       arith,
@@ -57,7 +57,7 @@ returns-then-place-known-clause-stuck c = λ e.
     c.loop-place.findings.aborted c.loop-place.invariant.so_far end
 
 pub returns-then-place-known-clause-aborted : goal.returns-then-place-known-clause-aborted
-returns-then-place-known-clause-aborted c = λ e.
+returns-then-place-known-clause-aborted g c = λ e.
     let end : length (states_in c.loop-place.kept.states.items) ≤ c.loop-place.place =
     omega (
       arith,
@@ -69,7 +69,7 @@ returns-then-place-known-clause-aborted c = λ e.
     c.loop-place.findings.aborted c.loop-place.invariant.so_far end
 
 pub returns-clause-expanded : goal.returns-clause-expanded
-returns-clause-expanded c = λ e.
+returns-clause-expanded g c = λ e.
     let few : length c.as_slice-all.result.now ≤ c.args.most = grind (arith, nat_tests, e) in
     let end : length (states_in c.loop-place.kept.states.items) ≤ c.loop-place.place =
     omega (
@@ -84,7 +84,7 @@ returns-clause-expanded c = λ e.
     c.loop-place.findings.aborted c.loop-place.invariant.so_far end
 
 pub returns-clause-stuck : goal.returns-clause-stuck
-returns-clause-stuck c = λ e.
+returns-clause-stuck g c = λ e.
     let few : length c.as_slice-all.result.now ≤ c.args.most = grind (arith, nat_tests, e) in
     let end : length (states_in c.loop-place.kept.states.items) ≤ c.loop-place.place =
     omega (
@@ -99,7 +99,7 @@ returns-clause-stuck c = λ e.
     c.loop-place.findings.aborted c.loop-place.invariant.so_far end
 
 pub returns-clause-aborted : goal.returns-clause-aborted
-returns-clause-aborted c = λ e.
+returns-clause-aborted g c = λ e.
     let few : length c.as_slice-all.result.now ≤ c.args.most = grind (arith, nat_tests, e) in
     let end : length (states_in c.loop-place.kept.states.items) ≤ c.loop-place.place =
     omega (

@@ -5,7 +5,7 @@ use Rattle.source_search.proofs.Searched.{IsSoFar}
 use Rattle.source_search.proofs.search.search.Given as goal
 
 abbrev pub invariant-loop-place : goal.invariant-loop-place
-invariant-loop-place l = record {
+invariant-loop-place g l = record {
   so_far : IsSoFar (program_of l.checked.tree) l.outside (states_in l.fn.kept.states.items)
       (states_in l.kept.states.items) l.place l.findings.stuck l.findings.aborted;
   goes_on : l.findings.complete ≡ false;
