@@ -47,6 +47,17 @@ impl PackedLog {
         }
     }
 
+    /// A log without entries, and memory for the heads of so many.
+    pub fn with_capacity(alloc: Global, count: usize) -> Result<PackedLog, AllocError>
+        ensures { IfOk result (λ log. log.items ≡ []) }
+    {
+        Ok(PackedLog {
+            heads: Vec::with_capacity(alloc, count)?,
+            sets: Vec::new(alloc),
+            whole: Vec::new(alloc),
+        })
+    }
+
     /// A log of the entries of a list, which are left as they stand.
     pub fn of(alloc: Global, entries: Vec<Entry>) -> PackedLog
         ensures { result.items ≡ entries.items }
@@ -247,7 +258,10 @@ mod tests {
         whole.make_room()?;
         whole.push_reserved(entries[0]);
         assert_eq!(rt; whole.len(), 6);
-        assert_eq!(rt; LogReader::of(&entries).next(), Some(entries[0]));
+        assert!(rt; PackedLog::with_capacity(rt.alloc(), 6)?.is_empty());
+        let mut reader = LogReader::of(&entries);
+        assert_eq!(rt; reader.len(), 5);
+        assert_eq!(rt; reader.next(), Some(entries[0]));
         Ok(())
     }
 }

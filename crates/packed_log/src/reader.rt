@@ -1,4 +1,4 @@
-ghost use Rattle.std.specs.Prelude.{◌≡◌, ◌++◌};
+ghost use Rattle.std.specs.Prelude.{◌≡◌, ◌++◌, length};
 ghost use Rattle.std.specs.Iterator.{YieldsFirst, item_count};
 ghost use Rattle.packed_log.specs.Packing.{entries_of};
 ghost use Rattle.packed_log.specs.Views.{IsPacked as IsPackedIn};
@@ -42,6 +42,13 @@ impl<'a> LogReader<'a> {
         ensures { result ≡ entries.now }
     {
         LogReader::new(&[], &[], entries)
+    }
+
+    /// How many are left.
+    pub fn len(&self) -> usize
+        ensures { result ≡ length self.now }
+    {
+        self.heads.len() + self.whole.len()
     }
 }
 
