@@ -4,8 +4,8 @@ use crate::palette::{SHAPES, STUCK, STYLES, UNSTUCK};
 use crate::shapes::{append_escaped, append_shape, wide};
 use crate::sheet::Sheet;
 use crate::span::Span;
-use machine::Entry;
 use monitor_waits::attempts;
+use packed_log::PackedLog;
 use program::Checked;
 use source_states::Action;
 use std::alloc::{AllocError, Global};
@@ -25,7 +25,7 @@ pub struct Picture<'p, 'n> {
     pub actions: &'p [Action],
     /// The log that these actions explain. It tells who waited for a monitor; where it is empty, only who called an
     /// ENTRY procedure and never got in.
-    pub log: &'p [Entry],
+    pub log: &'p PackedLog,
     /// Which run it is, and how it ended.
     pub title: &'p str,
     /// The first action that is drawn, from 1. Without it as many as are drawn, which are 2,000, up to the last one.
@@ -136,7 +136,7 @@ fn assemble(alloc: Global, sheet: &Sheet, title: &str) -> Result<Vec<u8>, AllocE
 /// At most 2,000 actions are drawn where not both ends of what is drawn are named. Of a name at most 40 letters are
 /// shown.
 pub fn chart(alloc: Global, picture: &Picture) -> Result<Vec<u8>, AllocError> {
-    let failed = attempts(alloc, picture.log, picture.actions)?;
+    let failed = attempts(alloc, picture.log.iter(), picture.actions)?;
     let labels = Labels {
         program: picture.checked.program(),
         names: picture.checked.names(),

@@ -10,7 +10,8 @@ use crate::walking::{Walked, walk};
 use isa::Image;
 use layout::Layout;
 use lowering::Mark;
-use machine::{Entry, Machine};
+use machine::Machine;
+use packed_log::LogReader;
 use program::Checked;
 use source_states::Action;
 use std::alloc::{AllocError, Global};
@@ -48,14 +49,14 @@ pub fn explain_log(
     alloc: Global,
     checked: &Checked,
     image: &Image,
-    log: &[Entry],
+    log: LogReader<'_>,
     layout: Layout,
     marks: Vec<Mark>,
 ) -> Result<LogExplanation, AllocError>
     requires own { image.now ≡ code_of (said_by checked.now) }
     requires layout { layout ≡ layout_of (said_by checked.now) }
     requires marks { marks.items ≡ marks_of (said_by checked.now) }
-    ensures { IfOk result (λ told. ExplainsLog (said_by checked.now) log.now told) }
+    ensures { IfOk result (λ told. ExplainsLog (said_by checked.now) log.entry told) }
 {
     checked_is_well_formed(checked);
     let mut recorder = Recorder::new(alloc, checked, layout, marks)?;

@@ -14,6 +14,7 @@ use crate::recorder::Recorder;
 use isa::Image;
 use locals::Local;
 use machine::{Entry, Event, EventName, Machine};
+use packed_log::LogReader;
 use robustexit::ExitPhase;
 use std::alloc::{AllocError, Global};
 use words::BUCKETS;
@@ -235,18 +236,18 @@ pub enum Walked {
 pub fn walk(
     alloc: Global,
     image: &Image,
-    log: &[Entry],
+    log: LogReader<'_>,
     recorder: &mut Recorder,
 ) -> Result<Walked, AllocError>
     ensures { IfOk result (λ w. (p : Program) → WellFormed p → image.now ≡ code_of p
-        → IsAlong p [] (opening_concrete image.now) recorder.old → WalksTo p log.now w recorder.new) }
+        → IsAlong p [] (opening_concrete image.now) recorder.old → WalksTo p log.entry w recorder.new) }
 {
     let mut machine = Machine::new(alloc, image, BUCKETS)?;
     let mut here = Local::exiting(ExitPhase::Ended);
     let mut number: u64 = 0;
     for entry in log {
         number += 1;
-        if !go_through(image, &mut machine, recorder, &mut here, entry)? {
+        if !go_through(image, &mut machine, recorder, &mut here, &entry)? {
             return Ok(Walked::StopsAt(number));
         }
         if !recorder.is_whole() {

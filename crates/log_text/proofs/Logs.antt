@@ -1,10 +1,10 @@
 -- Lines of entries, and texts that have none.
-use Rattle.std.proofs.Common.{◌≡◌, ◌≢◌, ◌<◌, ◌+◌, ℕ, zero, suc, List, [], ◌∷◌, ◌++◌, length, drop, codes}
+use Rattle.std.proofs.Common.{◌≡◌, ◌≢◌, ◌<◌, ◌≤◌, ◌+◌, ℕ, zero, suc, List, [], ◌∷◌, ◌++◌, length, drop, codes}
 use Rattle.std.proofs.Common.{Bool, false, ◌==◌, if◌then◌else◌, Result, Ok, Err, is_ok, is_err}
 use Rattle.std.proofs.Common.{Option, Some, None, refl, ap, sym, ◌∙◌, subst, arith, length-append}
 use Rattle.std.specs.List.{All}
 use Rattle.std.specs.Fmt.{decimal}
-use Rattle.std.proofs.lemmas.List.{append-nil, append_assoc}
+use Rattle.std.proofs.lemmas.List.{append-nil, append_assoc, length-drop}
 use Rattle.std.proofs.lemmas.List.Elements.{All-append, All-cons, All-nil, All-head, All-tail}
 use Rattle.std.proofs.lemmas.Grind.{flat_map-append}
 use Rattle.machine.specs.ThreadSets.{IsThread}
@@ -116,6 +116,14 @@ line_more text log log' rest front tail e sum whole at some is grows =
     whole ∙ (λ i. is i ++ after_end tail at some i) ∙ sym (append_assoc (entry_text e) (10 ∷ []) (drop 1 tail)) in
     sum ∙ ap (λ xs. log_lines log ++ xs) line ∙ sym (append_assoc (log_lines log) (entry_line e) (drop 1 tail))
     ∙ ap (λ xs. xs ++ drop 1 tail) (sym more)
+
+-- and at least a byte less is left
+pub line_shorter : (rest front tail : List ℕ) → rest ≡ front ++ tail → 0 < length tail
+    → length (drop 1 tail) + 1 ≤ length rest
+line_shorter rest front tail whole some =
+    let sum = ap length whole ∙ length-append front tail in
+    let less = length-drop 1 tail in
+    omega (arith, some, sum, less)
 
 pub some_left : (n : ℕ) → false ≡ (n == 0) → 0 < n
 some_left zero e = absurd cc

@@ -5,7 +5,7 @@ ghost use Rattle.log_text.specs.declared.reading.ReadLogFault.TheVariants.{Memor
 
 use crate::fields::read_line;
 use crate::parts::{cut, past_first};
-use machine::Entry;
+use packed_log::PackedLog;
 use std::alloc::{AllocError, Global};
 use thiserror::Error;
 
@@ -32,13 +32,13 @@ impl From<AllocError> for ReadLogFault {
 /// apart by one space, numbers have no zeros in front, and the threads of a set rise. The empty text is the empty log.
 ///
 /// So each list of entries of the machine's size is read back from its lines, memory aside.
-pub fn read_log(alloc: Global, text: &[u8]) -> Result<Vec<Entry>, ReadLogFault>
+pub fn read_log(alloc: Global, text: &[u8]) -> Result<PackedLog, ReadLogFault>
     ensures read { MatchResult result (λ entries. IsLogText text.now entries.items)
         (λ fault. RefusesLines text.now fault) }
     ensures reads { (log : List LogEntry) → IsLogText text.now log
         → MatchResult result (λ entries. entries.items ≡ log) (λ fault. fault ≡ Memory) }
 {
-    let mut entries = Vec::new(alloc);
+    let mut entries = PackedLog::new(alloc);
     let mut rest = text;
     let mut number: u64 = 0;
     while !rest.is_empty() {

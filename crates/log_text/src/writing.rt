@@ -4,15 +4,16 @@ ghost use Rattle.log_text.specs.LogLines.{entry_line, event_text, log_lines, nam
 
 use itoa::Buffer;
 use machine::{Entry, Event, EventName, MOST_THREADS, ThreadSet};
+use packed_log::LogReader;
 use std::alloc::AllocError;
 use words::signed;
 
 /// Appends the lines of a log: of each entry its thread, its local steps, and what came then.
-pub fn append_log(text: &mut String, log: &[Entry]) -> Result<(), AllocError>
-    ensures { OnOk result (string_bytes text.new ≡ string_bytes text.old ++ log_lines log.now) }
+pub fn append_log(text: &mut String, log: LogReader<'_>) -> Result<(), AllocError>
+    ensures { OnOk result (string_bytes text.new ≡ string_bytes text.old ++ log_lines log.entry) }
 {
     for entry in log {
-        append_entry(text, entry)?;
+        append_entry(text, &entry)?;
     }
     Ok(())
 }

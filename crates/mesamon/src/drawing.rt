@@ -2,7 +2,7 @@ use crate::failure::Failure;
 use crate::files::put_bytes;
 use chart::{Picture, chart};
 use commandline::ChartOptions;
-use machine::Entry;
+use packed_log::PackedLog;
 use places::{Places, places_of};
 use program::Checked;
 use source_states::Action;
@@ -28,8 +28,8 @@ pub struct ShownRun<'r, 'n> {
     pub checked: &'r Checked<'n>,
     /// The actions.
     pub actions: &'r [Action],
-    /// The log that they explain; nothing where there is none.
-    pub log: &'r [Entry],
+    /// The log that they explain; an empty one where there is none.
+    pub log: &'r PackedLog,
     /// Which run it is, and how it ended.
     pub title: &'r str,
 }

@@ -20,7 +20,7 @@ use crate::replaying::{ReplayFault, follow_compiled};
 use backend::Lowered;
 use compiler::compile_checked;
 use isa::Image;
-use machine::Entry;
+use packed_log::LogReader;
 use program::Checked;
 use runner::{Report, RunFault, Turn, logs_are_machine_runs};
 use scanner::Refusal;
@@ -114,13 +114,13 @@ fn explain_run(
     alloc: Global,
     checked: &Checked,
     lowered: Lowered,
-    log: &[Entry],
+    log: LogReader<'_>,
 ) -> Result<Vec<Action>, ExplainSourceFault>
     requires own { IsLowered (said_by checked.now) lowered }
-    requires legal { (k : ConcreteState) × LeadsTo lowered.image log.now k }
-    requires few { cost log.now < 2 ^ 32 }
+    requires legal { (k : ConcreteState) × LeadsTo lowered.image log k }
+    requires few { cost log < 2 ^ 32 }
     ensures { MatchResult result
-        (λ actions. IsExplainedLog (said_by checked.now) lowered.image log.now
+        (λ actions. IsExplainedLog (said_by checked.now) lowered.image log.entry
         (map action_of actions.items))
         (λ fault. fault ≡ Memory) }
 {
@@ -147,7 +147,7 @@ fn explain_alone<'a>(
     logs_are_machine_runs();
     let (checked, lowered) = compile_checked(alloc, text)?;
     let report = run_image(alloc, &lowered.image, limit, order)?;
-    let actions = explain_run(alloc, &checked, lowered, report.log.as_slice())?;
+    let actions = explain_run(alloc, &checked, lowered, report.log.iter())?;
     Ok(ExplainedRun {
         checked,
         report,
@@ -220,7 +220,7 @@ pub fn explain_schedule<'a>(
 {
     let (checked, lowered) = compile_checked(alloc, text)?;
     let report = follow_compiled(alloc, &lowered.image, schedule)?;
-    let Ok(actions) = explain_run(alloc, &checked, lowered, report.log.as_slice()) else {
+    let Ok(actions) = explain_run(alloc, &checked, lowered, report.log.iter()) else {
         return Err(ReplayFault::Memory);
     };
     Ok(ExplainedRun {

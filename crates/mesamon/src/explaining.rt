@@ -66,7 +66,7 @@ fn put_run<'a, R: Files + AllocGlobal>(
         text: text.bytes,
         checked: &run.checked,
         actions: run.actions.as_slice(),
-        log: run.report.log.as_slice(),
+        log: &run.report.log,
         title,
     };
     drawings.put(rt, &shown)

@@ -17,6 +17,7 @@ use actionlines::action_lines;
 use compiler::{compile_checked, text_laws};
 use devices::{Counted, write_bytes};
 use image_ends::image_laws;
+use packed_log::PackedLog;
 use program::{Checked, Names};
 use scanner::Refusal;
 use source_search::{Exploration, Outside, Progress, explore};
@@ -139,11 +140,12 @@ fn put_found<'a, R: Files + AllocGlobal>(
     };
     let is_stuck = explored.exploration.stuck.is_some();
     let title = title_of_found(rt.alloc(), text.file, is_stuck)?;
+    let log = PackedLog::new(rt.alloc());
     let run = ShownRun {
         text: text.bytes,
         checked: &explored.checked,
         actions,
-        log: &[],
+        log: &log,
         title: title.as_str(),
     };
     drawings.put(rt, &run)

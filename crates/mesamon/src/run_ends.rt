@@ -1,7 +1,8 @@
 use crate::explained_run::ExplainedRun;
 use crate::hinting::SourceText;
 use crate::run_entries::explained;
-use machine::{Entry, Machine};
+use machine::Machine;
+use packed_log::LogReader;
 use program::Checked;
 use run_hints::{Way, append_drawing, append_limit, append_way, end_hints};
 use runner::{Report, Verdict};
@@ -25,7 +26,7 @@ fn is_told(report: &Report) -> bool {
 }
 
 // How many steps a log has.
-fn steps_of(log: &[Entry]) -> u64 {
+fn steps_of(log: LogReader<'_>) -> u64 {
     let mut steps: u64 = 0;
     for entry in log {
         let shared = u64::from(entry.event.is_some());
@@ -47,7 +48,7 @@ fn known_hints(
 ) -> Result<String, AllocError> {
     let mut told = end_hints(alloc, text.file, text.bytes, checked, actions)?;
     if report.verdict == Verdict::Limit {
-        append_limit(&mut told, way, steps_of(report.log.as_slice()))?;
+        append_limit(&mut told, way, steps_of(report.log.iter()))?;
     }
     Ok(told)
 }
@@ -87,7 +88,7 @@ pub fn report_hints(
     if !is_told(report) {
         return Ok(String::new(alloc));
     }
-    match explained(alloc, text.bytes, report.log.as_slice())? {
+    match explained(alloc, text.bytes, report.log.iter())? {
         None => Ok(String::new(alloc)),
         Some((checked, actions)) => {
             let mut told = known_hints(alloc, text, &checked, report, actions.as_slice(), way)?;

@@ -2,6 +2,7 @@ use crate::hinting::SourceText;
 use compiler::{compile, compile_checked};
 use log_text::read_log;
 use machine::{Entry, EventName};
+use packed_log::{LogReader, PackedLog};
 use program::Checked;
 use run_hints::{Refused, entry_hints};
 use runner::{Report, Turn, follow, follow_log};
@@ -14,7 +15,7 @@ use std::alloc::{AllocError, Global};
 pub(crate) fn explained<'t>(
     alloc: Global,
     text: &'t [u8],
-    log: &[Entry],
+    log: LogReader<'_>,
 ) -> Result<Option<(Checked<'t>, Vec<Action>)>, AllocError> {
     let Ok((checked, lowered)) = compile_checked(alloc, text) else {
         return Ok(None);
@@ -50,7 +51,7 @@ fn hints_behind(
     report: &Report,
     refused: Refused,
 ) -> Result<String, AllocError> {
-    match explained(alloc, text.bytes, report.log.as_slice())? {
+    match explained(alloc, text.bytes, report.log.iter())? {
         None => Ok(String::new(alloc)),
         Some((checked, actions)) => {
             let actions = actions.as_slice();
@@ -84,6 +85,15 @@ pub fn schedule_entry_hints(
     }
 }
 
+// The first entries of a log, so many.
+fn first_of(alloc: Global, log: &PackedLog, count: usize) -> Result<PackedLog, AllocError> {
+    let mut entries = PackedLog::new(alloc);
+    for entry in log.iter().take(count) {
+        entries.push(entry)?;
+    }
+    Ok(entries)
+}
+
 /// The hints to the entry of a log, whose lines are given, that has this number, from 1, and is the first that is
 /// refused: why, in the words of the source.
 ///
@@ -99,16 +109,16 @@ pub fn log_entry_hints(
     let Ok(entries) = read_log(alloc, lines) else {
         return Ok(String::new(alloc));
     };
-    let entries = entries.as_slice();
     let before = (number as usize).saturating_sub(1);
-    let (Some(entry), Some(entries)) = (entries.get(before), entries.get(..before)) else {
+    let Some(entry) = entries.iter().nth(before) else {
         return Ok(String::new(alloc));
     };
+    let entries = first_of(alloc, &entries, before)?;
     let Ok(image) = compile(alloc, text.bytes) else {
         return Ok(String::new(alloc));
     };
-    match follow_log(alloc, &image, entries) {
-        Ok(report) => hints_behind(alloc, text, &report, wanted_by_entry(entry)),
+    match follow_log(alloc, &image, entries.iter()) {
+        Ok(report) => hints_behind(alloc, text, &report, wanted_by_entry(&entry)),
         Err(_) => Ok(String::new(alloc)),
     }
 }

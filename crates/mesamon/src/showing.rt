@@ -8,7 +8,7 @@ use crate::files::put_bytes;
 use crate::status::Status;
 use devices::{Counted, ReportTexts};
 use log_text::append_log;
-use machine::Entry;
+use packed_log::LogReader;
 use runner::{Report, Verdict};
 use std::io::Write;
 use std::rt::Files;
@@ -39,7 +39,7 @@ pub fn show<'a, R: Files + AllocGlobal, O: Write, E: Write>(
 {
     let texts = ReportTexts::new(rt.alloc(), report, kept.trace)?;
     if let Some(name) = kept.log {
-        put_log(rt, name, report.log.as_slice())?;
+        put_log(rt, name, report.log.iter())?;
     }
     texts.write(output, errors)?;
     Ok(status_of(report.verdict))
@@ -49,7 +49,7 @@ pub fn show<'a, R: Files + AllocGlobal, O: Write, E: Write>(
 fn put_log<'a, R: Files + AllocGlobal>(
     rt: &R,
     name: &'a str,
-    log: &[Entry],
+    log: LogReader<'_>,
 ) -> Result<(), Failure<'a>> {
     let mut text = String::new(rt.alloc());
     append_log(&mut text, log)?;

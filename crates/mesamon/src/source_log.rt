@@ -17,7 +17,7 @@ use backend::Lowered;
 use compiler::{compile, compile_checked, text_laws};
 use isa::Image;
 use log_text::{ReadLogFault, log_text_laws, read_log};
-use machine::Entry;
+use packed_log::{LogReader, PackedLog};
 use program::Checked;
 use runner::{FollowLogFault, Report, follow_log, report_of};
 use scanner::Refusal;
@@ -59,7 +59,7 @@ impl From<AllocError> for SourceLogFault {
 }
 
 // The entries of which a text has the lines.
-fn entries_of(alloc: Global, lines: &[u8]) -> Result<Vec<Entry>, SourceLogFault>
+fn entries_of(alloc: Global, lines: &[u8]) -> Result<PackedLog, SourceLogFault>
     ensures { MatchResult result (λ entries. IsLogText lines.now entries.items)
         (λ fault. ReadsNot lines.now fault) }
 {
@@ -75,12 +75,12 @@ fn explain_entries(
     alloc: Global,
     checked: &Checked,
     lowered: Lowered,
-    entries: &[Entry],
+    entries: LogReader<'_>,
 ) -> Result<ExplainedLog, SourceLogFault>
     requires { IsLowered (said_by checked.now) lowered }
     ensures { MatchResult result
-        (λ explained. ExplainsEntries (said_by checked.now) lowered.image entries.now explained)
-        (λ fault. StopsLog lowered.image entries.now fault) }
+        (λ explained. ExplainsEntries (said_by checked.now) lowered.image entries.entry explained)
+        (λ fault. StopsLog lowered.image entries.entry fault) }
 {
     match explain_log_lowered(alloc, checked, lowered, entries) {
         Ok(explained) => Ok(explained),
@@ -90,9 +90,13 @@ fn explain_entries(
 }
 
 // Runs an image by the threads and counts of a log.
-fn follow_entries(alloc: Global, image: &Image, entries: &[Entry]) -> Result<Report, SourceLogFault>
-    ensures { MatchResult result (λ report. IsFollowedLog image.now entries.now report)
-        (λ fault. FollowsNot image.now entries.now fault) }
+fn follow_entries(
+    alloc: Global,
+    image: &Image,
+    entries: LogReader<'_>,
+) -> Result<Report, SourceLogFault>
+    ensures { MatchResult result (λ report. IsFollowedLog image.now entries.entry report)
+        (λ fault. FollowsNot image.now entries.entry fault) }
 {
     match follow_log(alloc, image, entries) {
         Ok(report) => Ok(report),
@@ -114,7 +118,7 @@ fn explain_lines<'a>(
 {
     let (checked, lowered) = compile_checked(alloc, text)?;
     let entries = entries_of(alloc, lines)?;
-    let explained = explain_entries(alloc, &checked, lowered, entries.as_slice())?;
+    let explained = explain_entries(alloc, &checked, lowered, entries.iter())?;
     let report = report_of(alloc, entries, explained.last)?;
     Ok(ExplainedRun {
         checked,
@@ -166,5 +170,5 @@ pub fn replay_log_text(alloc: Global, text: &[u8], lines: &[u8]) -> Result<Repor
 {
     let image = compile(alloc, text)?;
     let entries = entries_of(alloc, lines)?;
-    follow_entries(alloc, &image, entries.as_slice())
+    follow_entries(alloc, &image, entries.iter())
 }

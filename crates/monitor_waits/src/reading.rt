@@ -1,5 +1,6 @@
 use crate::events::{Act, Point, Told, after_event};
 use machine::Entry;
+use packed_log::LogReader;
 use source_states::{Action, ActionKind};
 use std::alloc::{AllocError, Global};
 use words::MOST_THREADS;
@@ -168,7 +169,7 @@ impl<'p> Reading<'p> {
 /// other process holds the monitor.
 pub fn attempts(
     alloc: Global,
-    log: &[Entry],
+    log: LogReader<'_>,
     actions: &[Action],
 ) -> Result<Vec<Attempt>, AllocError> {
     let mut reading = Reading {
@@ -178,7 +179,7 @@ pub fn attempts(
         attempts: Vec::new(alloc),
     };
     for entry in log {
-        reading.read(entry)?;
+        reading.read(&entry)?;
     }
     Ok(reading.attempts)
 }

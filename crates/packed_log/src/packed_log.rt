@@ -1,4 +1,4 @@
-ghost use Rattle.std.specs.Prelude.{◌≡◌, ◌≢◌, ◌≤◌, ◌<◌, ◌+◌, ◌-◌, ◌++◌, ◌∷◌, [], length, slice_get};
+ghost use Rattle.std.specs.Prelude.{◌≡◌, ◌≢◌, ◌≤◌, ◌<◌, ◌+◌, ◌-◌, ◌^◌, ◌++◌, ◌∷◌, [], length, slice_get};
 ghost use Rattle.std.specs.Prelude.{OnOk, IfOk, MatchBool, is_ok, if◌then◌else◌, vec_len, vec_capacity};
 ghost use Rattle.packed_log.specs.Packing.{entries_of, kept, sets_of};
 ghost use Rattle.packed_log.specs.Views.{HasHead, IsPacked as IsPackedIn};
@@ -97,6 +97,7 @@ impl PackedLog {
     /// Makes room for one entry more at least.
     pub fn make_room(&mut self) -> Result<(), AllocError>
         ensures room { OnOk result (1 ≤ self.new.room) }
+        ensures few { OnOk result (length self.new.items < 2 ^ 64) }
         ensures same { self.new.items ≡ self.old.items }
     {
         self.heads.reserve(1)?;

@@ -1,5 +1,5 @@
-ghost use Rattle.std.specs.Prelude.{◌≡◌, ◌≢◌, ◌≤◌, ◌<◌, ◌++◌, ◌∷◌, [], true, None, Some, Ok, IfOk, OnOk, OnErr, IsOk};
-ghost use Rattle.std.specs.Prelude.{vec_len, vec_capacity};
+ghost use Rattle.std.specs.Prelude.{◌≡◌, ◌≢◌, ◌≤◌, ◌<◌, ◌^◌, ◌++◌, ◌∷◌, [], length, true, None, Some, Ok};
+ghost use Rattle.std.specs.Prelude.{IfOk, OnOk, OnErr, IsOk};
 ghost use Rattle.machine.specs.States.{state_of, thread_of};
 ghost use Rattle.machine.specs.ConcreteSteps.{can_move};
 ghost use Rattle.machine.specs.ConcreteOutside.{kill_of, stray_of};
@@ -8,12 +8,13 @@ ghost use Rattle.runner.specs.Entries.{entry_end};
 
 use locals::Local;
 use machine::{Entry, Event, Machine};
+use packed_log::PackedLog;
 use std::alloc::AllocError;
 
 /// Takes in where thread `t` has come after `count` local steps, as one entry of the log.
 pub fn enter(
     machine: &mut Machine,
-    log: &mut Vec<Entry>,
+    log: &mut PackedLog,
     t: u32,
     here: &Local,
     count: u32,
@@ -26,6 +27,7 @@ pub fn enter(
     ensures log { IfOk result
         (λ event. log.new.items
         ≡ log.old.items ++ record { thread = t; local = count; event = event } ∷ []) }
+    ensures few { OnOk result (length log.old.items < 2 ^ 64) }
     ensures err { OnErr result ((concrete machine.new ≡ concrete machine.old)
         × (log.new.items ≡ log.old.items)) }
     ensures program { machine.new.program ≡ machine.old.program }
@@ -43,7 +45,7 @@ pub fn enter(
 /// Takes in a wake of thread `t`, which sleeps, from outside, as one entry of the log.
 pub fn enter_outside(
     machine: &mut Machine,
-    log: &mut Vec<Entry>,
+    log: &mut PackedLog,
     t: u32,
 ) -> Result<Event, AllocError>
     requires sleeps { (state_of (concrete machine.old)).asleep t ≢ None }
@@ -52,6 +54,7 @@ pub fn enter_outside(
     ensures log { IfOk result
         (λ event. log.new.items
         ≡ log.old.items ++ record { thread = t; local = 0; event = Some event } ∷ []) }
+    ensures few { OnOk result (length log.old.items < 2 ^ 64) }
     ensures err { OnErr result ((concrete machine.new ≡ concrete machine.old)
         × (log.new.items ≡ log.old.items)) }
     ensures program { machine.new.program ≡ machine.old.program }
@@ -67,13 +70,14 @@ pub fn enter_outside(
 }
 
 /// Takes in a kill of thread `t`, which was made, from outside, as one entry of the log.
-pub fn enter_kill(machine: &mut Machine, log: &mut Vec<Entry>, t: u32) -> Result<Event, AllocError>
+pub fn enter_kill(machine: &mut Machine, log: &mut PackedLog, t: u32) -> Result<Event, AllocError>
     requires made { thread_of (concrete machine.old) t ≢ None }
     ensures gives { IfOk result
         (λ event. kill_of (concrete machine.old) t ≡ Ok (concrete machine.new, event)) }
     ensures log { IfOk result
         (λ event. log.new.items
         ≡ log.old.items ++ record { thread = t; local = 0; event = Some event } ∷ []) }
+    ensures few { OnOk result (length log.old.items < 2 ^ 64) }
     ensures err { OnErr result ((concrete machine.new ≡ concrete machine.old)
         × (log.new.items ≡ log.old.items)) }
     ensures program { machine.new.program ≡ machine.old.program }
@@ -89,12 +93,13 @@ pub fn enter_kill(machine: &mut Machine, log: &mut Vec<Entry>, t: u32) -> Result
 }
 
 /// Makes room for one more entry, and for the number that it may print.
-pub fn make_room(machine: &mut Machine, log: &mut Vec<Entry>) -> Result<(), AllocError>
-    ensures room { OnOk result ((1 ≤ machine.new.room) × (vec_len log.new < vec_capacity log.new)) }
+pub fn make_room(machine: &mut Machine, log: &mut PackedLog) -> Result<(), AllocError>
+    ensures room { OnOk result ((1 ≤ machine.new.room) × (1 ≤ log.new.room)) }
+    ensures few { OnOk result (length log.old.items < 2 ^ 64) }
     ensures same { (concrete machine.new ≡ concrete machine.old) × (log.new.items ≡ log.old.items) }
     ensures program { machine.new.program ≡ machine.old.program }
 {
-    log.reserve(1)?;
+    log.make_room()?;
     machine.make_room(1)
 }
 

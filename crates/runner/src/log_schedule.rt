@@ -9,6 +9,7 @@ ghost use Rattle.runner.specs.LogSchedules.{CannotTake, FailsLogAt, IsFollowedLo
 use crate::report::{Report, report_of};
 use isa::Image;
 use machine::{Entry, Event, EventName, Machine};
+use packed_log::{LogReader, PackedLog};
 use std::alloc::{AllocError, Global};
 use thiserror::Error;
 use words::BUCKETS;
@@ -38,22 +39,26 @@ impl From<AllocError> for FollowLogFault {
 /// are not compared, so the report's log may have other values.
 ///
 /// The verdict is Limit where some thread can still move. The first entry that can't be taken so is refused.
-pub fn follow_log(alloc: Global, image: &Image, entries: &[Entry]) -> Result<Report, FollowLogFault>
-    ensures ok { IfOk result (λ report. IsFollowedLog image.now entries.now report) }
-    ensures err { IfErr result (λ fault. FailsLogAt image.now entries.now fault) }
+pub fn follow_log(
+    alloc: Global,
+    image: &Image,
+    entries: LogReader<'_>,
+) -> Result<Report, FollowLogFault>
+    ensures ok { IfOk result (λ report. IsFollowedLog image.now entries.entry report) }
+    ensures err { IfErr result (λ fault. FailsLogAt image.now entries.entry fault) }
 {
     let mut machine = Machine::new(alloc, image, BUCKETS)?;
-    let mut log = Vec::with_capacity(alloc, entries.len())?;
+    let mut log = PackedLog::with_capacity(alloc, entries.len())?;
     let mut steps: u64 = 0;
     let mut number: u64 = 0;
     for entry in entries {
         number += 1;
-        steps += steps_of(entry);
+        steps += steps_of(&entry);
         if steps > u64::from(u32::MAX) {
             return Err(FollowLogFault::BadEntry(number));
         }
         machine.make_room(1)?;
-        let Some(taken) = take_turn(&mut machine, entry) else {
+        let Some(taken) = take_turn(&mut machine, &entry) else {
             return Err(FollowLogFault::BadEntry(number));
         };
         if log.push(taken).is_err() {

@@ -2,7 +2,8 @@ ghost use Rattle.std.specs.Prelude.{◌≡◌, IfOk};
 ghost use Rattle.machine.specs.Views.{concrete};
 ghost use Rattle.runner.specs.Reports.{IsVerdict};
 
-use machine::{Entry, Machine};
+use machine::Machine;
+use packed_log::PackedLog;
 use std::alloc::{AllocError, Global};
 
 /// How a run came to its end.
@@ -22,7 +23,7 @@ pub struct Report {
     /// The numbers that were printed.
     pub output: Vec<i32>,
     /// The entries of the threads, in order.
-    pub log: Vec<Entry>,
+    pub log: PackedLog,
     /// How the run came to its end.
     pub verdict: Verdict,
     /// The machine after the last entry.
@@ -30,7 +31,7 @@ pub struct Report {
 }
 
 /// What is told of a run that left this log and this machine.
-pub fn report_of(alloc: Global, log: Vec<Entry>, last: Machine) -> Result<Report, AllocError>
+pub fn report_of(alloc: Global, log: PackedLog, last: Machine) -> Result<Report, AllocError>
     ensures log { IfOk result (λ report. report.log.items ≡ log.items) }
     ensures last { IfOk result (λ report. report.last ≡ last) }
     ensures output { IfOk result (λ report. report.output.items ≡ last.output) }

@@ -11,6 +11,7 @@ use crate::entering::wake_from_outside;
 use crate::report::{Report, report_of};
 use isa::Image;
 use machine::{Entry, Machine, StepFault};
+use packed_log::PackedLog;
 use std::alloc::{AllocError, Global};
 use thiserror::Error;
 use words::BUCKETS;
@@ -59,7 +60,7 @@ pub fn follow(alloc: Global, image: &Image, schedule: &[Turn]) -> Result<Report,
     ensures err { IfErr result (λ fault. FailsAt image.now schedule.now fault) }
 {
     let mut machine = Machine::new(alloc, image, BUCKETS)?;
-    let mut log = Vec::new(alloc);
+    let mut log = PackedLog::new(alloc);
     let mut number: u64 = 0;
     for turn in schedule {
         number += 1;

@@ -21,7 +21,8 @@ use crate::next::{After, Next};
 use crate::piece::Piece;
 use crate::share::{PARTS, Share};
 use isa::Image;
-use machine::{Entry, Machine};
+use machine::Machine;
+use packed_log::PackedLog;
 use std::alloc::{AllocError, Global};
 use std::marker::{Model, PhantomData};
 use std::sync::ledger;
@@ -34,7 +35,7 @@ use words::{BUCKETS, MOST_LOCAL_STEPS};
 #[derive(Drop)]
 pub struct Shared<J: RunName> {
     machine: Machine,
-    log: Vec<Entry>,
+    log: PackedLog,
     steps: u32,
     // How many entries are kills.
     kills: u32,
@@ -78,7 +79,7 @@ impl<J: RunName> Shared<J> {
         let (book, rest) = blank.open::<J>();
         Ok(Shared {
             machine,
-            log: Vec::new(alloc),
+            log: PackedLog::new(alloc),
             steps: 0,
             kills: 0,
             limit,
@@ -134,13 +135,13 @@ impl<J: RunName> Shared<J> {
     }
 
     /// The log.
-    pub fn log(&self) -> &[Entry]
-        ensures value { result.now ≡ self.now.log }
+    pub fn log(&self) -> &PackedLog
+        ensures value { result.now.items ≡ self.now.log }
         ensures legal { Runs J.program (opening_concrete J.program) self.now.log
             (log_state self.now).concrete }
         ensures own { HasOnly J.outside self.now.log }
     {
-        self.log.as_slice()
+        &self.log
     }
 
     /// How many steps were taken: the cost of the log.
@@ -160,7 +161,7 @@ impl<J: RunName> Shared<J> {
     }
 
     /// What a run leaves: its log and its machine.
-    pub fn into_parts(self) -> (Vec<Entry>, Machine)
+    pub fn into_parts(self) -> (PackedLog, Machine)
         ensures log { result.0.items ≡ self.log }
         ensures concrete { concrete result.1 ≡ (log_state self).concrete }
         ensures program { result.1.program ≡ J.program }

@@ -11,7 +11,7 @@ use crate::fault::{ExplainFault, LogFault};
 use backend::{Lowered, lower};
 use isa::{Image, encode, one_spelling};
 use log_simulation::{ExplainedLog, LogExplanation, explain_log};
-use machine::Entry;
+use packed_log::LogReader;
 use program::Checked;
 use scanner::{Refusal, RefusalKind};
 use source_states::Action;
@@ -85,12 +85,12 @@ pub fn explain_log_lowered(
     alloc: Global,
     checked: &Checked,
     lowered: Lowered,
-    log: &[Entry],
+    log: LogReader<'_>,
 ) -> Result<ExplainedLog, LogFault>
     requires { IsLowered (said_by checked.now) lowered }
     ensures { let p = said_by checked.now in MatchResult result
-        (λ explained. ExplainsEntries p lowered.image log.now explained)
-        (λ fault. RefusesLogEntry lowered.image log.now fault) }
+        (λ explained. ExplainsEntries p lowered.image log.entry explained)
+        (λ fault. RefusesLogEntry lowered.image log.entry fault) }
 {
     let Lowered {
         image,
@@ -109,12 +109,12 @@ pub fn explain_lowered(
     alloc: Global,
     checked: &Checked,
     lowered: Lowered,
-    log: &[Entry],
+    log: LogReader<'_>,
 ) -> Result<Vec<Action>, ExplainFault>
     requires { IsLowered (said_by checked.now) lowered }
     ensures { let p = said_by checked.now in MatchResult result
-        (λ actions. IsExplainedLog p lowered.image log.now (map action_of actions.items))
-        (λ fault. RefusesLog p lowered.image log.now fault) }
+        (λ actions. IsExplainedLog p lowered.image log.entry (map action_of actions.items))
+        (λ fault. RefusesLog p lowered.image log.entry fault) }
 {
     match explain_log_lowered(alloc, checked, lowered, log) {
         Ok(explained) => Ok(explained.actions),
@@ -141,11 +141,11 @@ pub fn explain(
     alloc: Global,
     checked: &Checked,
     image: &Image,
-    log: &[Entry],
+    log: LogReader<'_>,
 ) -> Result<Vec<Action>, ExplainFault>
     ensures { let p = said_by checked.now in MatchResult result
-        (λ actions. IsExplainedLog p image.now log.now (map action_of actions.items))
-        (λ fault. RefusesLog p image.now log.now fault) }
+        (λ actions. IsExplainedLog p image.now log.entry (map action_of actions.items))
+        (λ fault. RefusesLog p image.now log.entry fault) }
 {
     match lower_as(alloc, checked, image)? {
         Some(lowered) => explain_lowered(alloc, checked, lowered, log),

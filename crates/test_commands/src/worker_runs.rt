@@ -51,7 +51,7 @@ fn is_explained<R: AllocGlobal + Threads + Wait + Sync>(
         return Ok(false);
     };
     let mut lines = String::new(rt.alloc());
-    append_log(&mut lines, report.log.as_slice())?;
+    append_log(&mut lines, report.log.iter())?;
     let Ok(run) = explain_log_text(rt.alloc(), text, lines.as_bytes()) else {
         return Ok(false);
     };

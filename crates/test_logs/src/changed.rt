@@ -2,6 +2,7 @@ use crate::changing::Change;
 use backend::lower;
 use log_text::{ReadLogFault, read_log};
 use machine::Entry;
+use packed_log::LogReader;
 use program::Checked;
 use simulation::{LogFault, explain_log_lowered};
 use std::alloc::{AllocError, Global};
@@ -45,13 +46,13 @@ impl ChangeTrial {
 // What is said of a text as the log of a program.
 fn answer_to(alloc: Global, checked: &Checked, text: &[u8]) -> Answer {
     match read_log(alloc, text) {
-        Ok(entries) => answer_to_entries(alloc, checked, entries.as_slice()),
+        Ok(entries) => answer_to_entries(alloc, checked, entries.iter()),
         Err(ReadLogFault::Line(_)) => Answer::Line,
         Err(ReadLogFault::Memory) => Answer::Memory,
     }
 }
 
-fn answer_to_entries(alloc: Global, checked: &Checked, entries: &[Entry]) -> Answer {
+fn answer_to_entries(alloc: Global, checked: &Checked, entries: LogReader<'_>) -> Answer {
     let Ok(lowered) = lower(alloc, checked) else {
         return Answer::Memory;
     };

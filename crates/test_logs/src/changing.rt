@@ -1,5 +1,6 @@
 use log_text::append_log;
 use machine::{Entry, Event, EventName, ThreadSet};
+use packed_log::LogReader;
 use std::alloc::{AllocError, Global};
 use test_schedules::Sequence;
 
@@ -136,7 +137,7 @@ impl Change {
 // The lines of a log.
 fn lines_of(alloc: Global, log: &[Entry]) -> Result<Vec<u8>, AllocError> {
     let mut text = String::new(alloc);
-    append_log(&mut text, log)?;
+    append_log(&mut text, LogReader::of(log))?;
     Ok(text.into_bytes())
 }
 

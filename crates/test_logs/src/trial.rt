@@ -2,6 +2,7 @@ use crate::forging::Forgery;
 use crate::logging::log_of;
 use isa::Image;
 use machine::Entry;
+use packed_log::LogReader;
 use program::Checked;
 use simulation::{ExplainFault, explain};
 use source_states::accepts;
@@ -40,7 +41,7 @@ pub struct Subject<'a> {
 impl Subject<'_> {
     // Whether the explanation of a log is a run of the program.
     pub(crate) fn is_run(&self, log: &[Entry]) -> Result<bool, AllocError> {
-        match explain(self.alloc, self.checked, self.image, log) {
+        match explain(self.alloc, self.checked, self.image, LogReader::of(log)) {
             Ok(actions) => {
                 let end = accepts(self.alloc, self.checked, actions.as_slice())?;
                 Ok(end.is_some())
@@ -57,7 +58,7 @@ impl Subject<'_> {
         log: &[Entry],
         wanted: ExplainFault,
     ) -> Result<bool, AllocError> {
-        match explain(self.alloc, self.checked, image, log) {
+        match explain(self.alloc, self.checked, image, LogReader::of(log)) {
             Ok(_) => Ok(false),
             Err(ExplainFault::Memory) => Err(AllocError),
             Err(fault) => Ok(fault == wanted),

@@ -37,7 +37,7 @@ pub fn show_pictures<R: AllocGlobal + Print>(
             checked,
             procedures: &[],
             actions,
-            log: report.log.as_slice(),
+            log: &report.log,
             title: TITLE,
             from,
             to,

@@ -67,7 +67,7 @@ fn actions_of(
     image: &Image,
     report: &Report,
 ) -> Result<Vec<Action>, Failure> {
-    match explain(alloc, checked, image, report.log.as_slice()) {
+    match explain(alloc, checked, image, report.log.iter()) {
         Ok(actions) => Ok(actions),
         Err(ExplainFault::Memory) => Err(Failure::Memory),
         Err(_) => Err(Failure::Run),

@@ -14,13 +14,13 @@ returns-in-StopsAt c =
     let p = said_by c.args.checked.now in
     let begins = subst (λ (i : Image). IsAlong p [] (opening_concrete i) c.in_ok-recorder.recorder)
     (sym c.requires.own) c.in_ok-recorder.ensures in
-    subst (λ (w : Walked). WalksTo p c.args.log.now w c.walk.new.recorder) c.in-StopsAt.is
+    subst (λ (w : Walked). WalksTo p c.args.log w c.walk.new.recorder) c.in-StopsAt.is
     (c.in_ok-number.ensures p c.checked_is_well_formed.ensures c.requires.own begins)
 
 pub returns-in_ok-actions-in-LeadsTo : goal.returns-in_ok-actions-in-LeadsTo
 returns-in_ok-actions-in-LeadsTo c =
     let p = said_by c.args.checked.now in
-    let log = c.args.log.now in
+    let log = c.args.log in
     let begins = subst (λ (i : Image). IsAlong p [] (opening_concrete i) c.in_ok-recorder.recorder)
     (sym c.requires.own) c.in_ok-recorder.ensures in
     let told = subst (λ (w : Walked). WalksTo p log w c.walk.new.recorder) c.in-LeadsTo.is

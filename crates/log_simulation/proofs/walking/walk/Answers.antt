@@ -1,19 +1,15 @@
 -- The log leads on from each entry that is taken, and stops at the first that can't be, or that is one too many.
-use Rattle.std.proofs.lemmas.List.{take_all}
-use Rattle.std.proofs.Common.{rules, ◌+◌, ◌≡◌, ◌∙◌, sym, arith, take, get_or, None, subst}
+use Rattle.std.proofs.Common.{rules, ◌+◌, ◌∷◌, [], ◌∙◌, sym, arith, length-append, subst}
 use Rattle.isa.specs.Programs.{Program as Image}
-use Rattle.machine.specs.declared.event.Entry.{Entry}
 use Rattle.machine.specs.Views.{concrete}
 use Rattle.runner.specs.LogRuns.{steps_of}
 use Rattle.runner.specs.Logs.{Enters}
 use Rattle.lowering.specs.Pieces.{code_of}
 use Rattle.log_simulation.specs.Recording.{IsAlong, IsWhole}
 use Rattle.log_simulation.proofs.Records.{when_false, when_true}
-use Rattle.log_simulation.proofs.Stopping.{leads_next, steps_next, stops_illegal, stops_long, whole_first}
+use Rattle.log_simulation.proofs.Stopping.{leads_next, read_all, read_next, steps_next, stops_illegal, stops_long}
+use Rattle.log_simulation.proofs.Stopping.{whole_first}
 use Rattle.log_simulation.proofs.walking.walk.Goals as goal
-
-abbrev no_entry : Entry
-no_entry = record { thread = 0; local = 0; event = None }
 
 pub loop-entry-init : goal.loop-entry-init
 loop-entry-init c = record {
@@ -29,48 +25,50 @@ loop-entry-init c = record {
 pub returns-then-not-branch : goal.returns-then-not-branch
 returns-then-not-branch c = λ p w own begins.
     let l = c.loop-entry in
-    let log = c.args.log.now in
+    let next = c.in-Some.entry in
+    let starts = c.into_iter-entry-iterator.ensures.into_iter_gives in
+    let read = read_next c.args.log _ l.yielded l.entry-iterator c.next.new.self next starts l.yielded_by
+    c.in-Some.ensures.steps in
     let never = when_false _ _ c.in_ok-go_through.field-0 c.in_ok-go_through.ensures.enters c.if-not-branch.true in
-    stops_illegal p log l.entry-index (l.number + 1) no_entry c.loop-entry-test.true (omega (arith, l.invariant.number))
+    stops_illegal p c.args.log l.yielded c.next.new.self next read (l.number + 1) (omega (arith, l.invariant.number))
     (concrete l.machine) l.recorder (l.invariant.recorded p w own begins)
-    (λ new enters. never new (subst
-    (λ (i : Image). Enters i (concrete l.machine) (get_or log l.entry-index no_entry) new) (sym own) enters))
+    (λ new enters. never new (subst (λ (i : Image). Enters i (concrete l.machine) next new) (sym own) enters))
 
 pub returns-then-not-is_whole : goal.returns-then-not-is_whole
 returns-then-not-is_whole c = λ p w own begins.
     let l = c.loop-entry in
-    let log = c.args.log.now in
+    let next = c.in-Some.entry in
+    let starts = c.into_iter-entry-iterator.ensures.into_iter_gives in
+    let read = read_next c.args.log _ l.yielded l.entry-iterator c.next.new.self next starts l.yielded_by
+    c.in-Some.ensures.steps in
     let new = concrete c.go_through.new.machine in
     let recorder = c.go_through.new.recorder in
     let before = l.invariant.recorded p w own begins in
-    let enters = subst (λ (i : Image). Enters i (concrete l.machine) (get_or log l.entry-index no_entry) new) own
+    let enters = subst (λ (i : Image). Enters i (concrete l.machine) next new) own
     (when_true _ _ c.in_ok-go_through.field-0 c.in_ok-go_through.ensures.enters c.if-not-branch.false) in
-    let along = c.in_ok-go_through.ensures.told c.if-not-branch.false p own w (steps_of (take l.entry-index log))
-    before.along in
-    stops_long p log l.entry-index (l.number + 1) no_entry c.loop-entry-test.true (omega (arith, l.invariant.number))
+    let along = c.in_ok-go_through.ensures.told c.if-not-branch.false p own w (steps_of l.yielded) before.along in
+    stops_long p c.args.log l.yielded c.next.new.self next read (l.number + 1) (omega (arith, l.invariant.number))
     (concrete l.machine) l.recorder before new enters
     (when_false _ _ recorder.is_whole along.told (sym c.is_whole.ensures ∙ c.if-not-is_whole.true))
 
 pub loop-entry-preserved : goal.loop-entry-preserved
 loop-entry-preserved c =
     let l = c.loop-entry in
-    let log = c.args.log.now in
+    let next = c.in-Some.entry in
     let new = concrete c.go_through.new.machine in
     let recorder = c.go_through.new.recorder in
+    let sum = length-append l.yielded (next ∷ []) in
     record {
       program = c.in_ok-go_through.ensures.program;
-      number = omega (arith, l.invariant.number);
+      number = omega (arith, l.invariant.number, sum);
       recorded = λ p w own begins.
           let before = l.invariant.recorded p w own begins in
-          let enters = subst (λ (i : Image). Enters i (concrete l.machine) (get_or log l.entry-index no_entry) new) own
+          let enters = subst (λ (i : Image). Enters i (concrete l.machine) next new) own
           (when_true _ _ c.in_ok-go_through.field-0 c.in_ok-go_through.ensures.enters c.if-not-branch.false) in
-          let along = c.in_ok-go_through.ensures.told c.if-not-branch.false p own w (steps_of (take l.entry-index log))
-          before.along in
+          let along = c.in_ok-go_through.ensures.told c.if-not-branch.false p own w (steps_of l.yielded) before.along in
           record {
-            legal = leads_next log l.entry-index no_entry c.loop-entry-test.true (code_of p) (concrete l.machine)
-                before.legal new enters;
-            along = subst (λ es. IsAlong p es new recorder)
-                (sym (steps_next log l.entry-index no_entry c.loop-entry-test.true)) along;
+            legal = leads_next l.yielded next (code_of p) (concrete l.machine) before.legal new enters;
+            along = subst (λ es. IsAlong p es new recorder) (sym (steps_next l.yielded next)) along;
             whole = sym c.is_whole.ensures ∙ c.if-not-is_whole.false;
           };
     }
@@ -78,9 +76,8 @@ loop-entry-preserved c =
 pub returns : goal.returns
 returns c = λ p w own begins.
     let l = c.loop-entry in
-    let log = c.args.log.now in
-    let past = c.loop-entry-test.false in
-    let all : take l.entry-index log ≡ log = take_all l.entry-index log (omega (arith, past)) in (
+    let starts = c.into_iter-entry-iterator.ensures.into_iter_gives in
+    let all = read_all c.args.log _ l.yielded l.entry-iterator starts l.yielded_by c.in-None.ensures.steps.0 in (
       subst (λ es. IsWhole p es (concrete l.machine) l.recorder) all (l.invariant.recorded p w own begins),
       l.invariant.program ∙ own,
     )

@@ -1,4 +1,4 @@
-use Rattle.std.proofs.Common.{◌≡◌, [], take}
+use Rattle.std.proofs.Common.{◌≡◌, [], length}
 use Rattle.lowering.specs.Pieces.{code_of}
 use Rattle.machine.specs.States.{opening_concrete}
 use Rattle.machine.specs.Views.{concrete}
@@ -10,8 +10,8 @@ use Rattle.log_simulation.proofs.walking.walk.Given as goal
 abbrev pub invariant-loop-entry : goal.invariant-loop-entry
 invariant-loop-entry l = record {
   program : l.machine.program ≡ l.image;
-  number : l.number ≡ l.entry-index;
+  number : l.number ≡ length l.yielded;
   recorded : (p : Program) → WellFormed p → l.image ≡ code_of p
       → IsAlong p [] (opening_concrete l.image) l.fn.recorder
-      → IsWhole p (take l.entry-index l.log) (concrete l.machine) l.recorder;
+      → IsWhole p l.yielded (concrete l.machine) l.recorder;
 }

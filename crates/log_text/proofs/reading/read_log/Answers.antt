@@ -1,7 +1,8 @@
 use Rattle.std.proofs.Common.{◌+◌, ◌++◌, ◌∙◌, [], ◌∷◌, ap, length, length-append, arith, sym}
 use Rattle.std.proofs.lemmas.Bool.{eqb-true}
 use Rattle.log_text.specs.LogLines.{log_lines}
-use Rattle.log_text.proofs.Logs.{line_more, no_bad_line, no_end, no_entry, pushed, read_back, sized_more, some_left}
+use Rattle.log_text.proofs.Logs.{line_more, line_shorter, no_bad_line, no_end, no_entry, pushed, read_back, sized_more}
+use Rattle.log_text.proofs.Logs.{some_left}
 use Rattle.log_text.proofs.reading.read_log.Goals as goal
 
 pub returns-then-is_empty-clause-read : goal.returns-then-is_empty-clause-read
@@ -54,7 +55,7 @@ loop-rest-preserved c =
     let cut = c.cut-line.ensures in
     let read = c.in-Some.ensures in
     let grows = pushed c.push.result c.is_err.result c.push.new.self.items l.entries.items c.in-Some.entry
-    c.is_err.ensures.value c.if-is_err.false c.push.ensures.items in
+    c.is_err.ensures.value c.if-is_err.false c.push.ensures in
     let many = ap length grows in
     let sum = length-append l.entries.items (c.in-Some.entry ∷ []) in
     record {
@@ -64,4 +65,9 @@ loop-rest-preserved c =
           ∙ ap (λ xs. log_lines c.push.new.self.items ++ xs) (sym c.past_first-rest.ensures);
       sized = sized_more l.entries.items c.push.new.self.items c.in-Some.entry l.invariant.sized read.0 grows;
       number = omega (arith, l.invariant.number, many, sum);
+      few =
+          let less = line_shorter l.rest.now c.cut-line.result.front.now c.cut-line.result.rest.now cut.whole
+          (some_left (length c.cut-line.result.rest.now) c.if-is_empty.ensures) in
+          let left = ap length c.past_first-rest.ensures in
+          omega (arith, l.invariant.few, less, left);
     }

@@ -15,7 +15,7 @@ returns-clause-explained c =
       run = run_explained c.logs_are_machine_runs.ensures.runs c.args.text.now c.in_ok-checked.lowered.image
           (outside_alone c.args.order) c.args.limit c.in_ok-report.report read.compiled small c.in_ok-report.ensures;
       explained = of_code (said_by c.in_ok-checked.checked) c.in_ok-checked.lowered.image _ _ _ read.code.image
-          c.as_slice.ensures.value c.in_ok-actions.ensures;
+          c.iter.ensures c.in_ok-actions.ensures;
     }
 
 pub returns-in_err-actions-clause-only : goal.returns-in_err-actions-clause-only

@@ -8,7 +8,7 @@ use Rattle.mesamon.proofs.explained_run.explain_schedule.Goals as goal
 
 pub explain_run-requires-clause-few : goal.explain_run-requires-clause-few
 explain_run-requires-clause-few c =
-    subst (λ (es : List Entry). cost es < 2 ^ 32) (sym c.as_slice.ensures.value)
+    subst (λ (es : List Entry). cost es < 2 ^ 32) (sym c.iter.ensures)
     (followed_few c.in_ok-checked.lowered.image c.args.schedule.now c.in_ok-report.report c.in_ok-report.ensures)
 
 pub returns-clause-explained : goal.returns-clause-explained
@@ -19,5 +19,5 @@ returns-clause-explained c =
       run = replay_explained c.args.text.now c.in_ok-checked.lowered.image c.args.schedule.now
           c.in_ok-report.report read.compiled c.in_ok-report.ensures;
       explained = of_code (said_by c.in_ok-checked.checked) c.in_ok-checked.lowered.image _ _ _ read.code.image
-          c.as_slice.ensures.value c.in-Ok.ensures;
+          c.iter.ensures c.in-Ok.ensures;
     }

@@ -11,7 +11,7 @@ returns-in_err-explained-clause-fault c =
     passes_on c.from_residual-in_err-explained.result c.in_err-explained.field-0.0
     (λ f. IsRefusedLog c.args.text.now c.args.lines.now f) c.from_residual-in_err-explained.ensures
     (stopped c.args.text.now c.args.lines.now (said_by c.in_ok-checked.checked) c.in_ok-checked.lowered.image
-    c.in_ok-entries.entries.items _ read.accepts read.code.image c.in_ok-entries.ensures c.as_slice.ensures.value
+    c.in_ok-entries.entries.items _ read.accepts read.code.image c.in_ok-entries.ensures c.iter.ensures
     c.in_err-explained.field-0.0 c.in_err-explained.ensures).0
 
 pub returns-in_err-report-clause-only : goal.returns-in_err-report-clause-only
@@ -28,7 +28,7 @@ returns-clause-explained c =
       accepts = read.accepts;
       entries = c.in_ok-entries.entries.items;
       reads = c.in_ok-entries.ensures;
-      explained = of_code p c.in_ok-checked.lowered.image _ _ _ read.code.image c.as_slice.ensures.value e.explained;
+      explained = of_code p c.in_ok-checked.lowered.image _ _ _ read.code.image c.iter.ensures e.explained;
       report = reported p c.in_ok-checked.lowered.image _ _ c.in_ok-explained.explained.last c.in_ok-report.report
-          read.code.image c.as_slice.ensures.value e.last report.log report.last report.output report.verdict;
+          read.code.image c.iter.ensures e.last report.log report.last report.output report.verdict;
     }

@@ -6,20 +6,20 @@ use Rattle.mesamon.proofs.source_log.replay_log_text.Goals as goal
 pub returns-clause-report : goal.returns-clause-report
 returns-clause-report c =
     answers_ok c.follow_entries.result
-    (λ report. IsFollowedLog c.in_ok-image.image c.as_slice.result.now report)
+    (λ report. IsFollowedLog c.in_ok-image.image c.iter.result report)
     (λ report. IsReplayOfLog c.args.text.now c.args.lines.now report)
-    (λ fault. FollowsNot c.in_ok-image.image c.as_slice.result.now fault) c.follow_entries.ensures
+    (λ fault. FollowsNot c.in_ok-image.image c.iter.result fault) c.follow_entries.ensures
     (λ report followed. followed_log c.args.text.now c.args.lines.now c.in_ok-image.image
     c.in_ok-entries.entries.items _ report c.in_ok-image.ensures.accepted c.in_ok-entries.ensures
-    c.as_slice.ensures.value followed)
+    c.iter.ensures followed)
 
 pub returns-clause-fault : goal.returns-clause-fault
 returns-clause-fault c =
     let compiled = c.in_ok-image.ensures.accepted in
     answers_err c.follow_entries.result
-    (λ report. IsFollowedLog c.in_ok-image.image c.as_slice.result.now report)
-    (λ fault. FollowsNot c.in_ok-image.image c.as_slice.result.now fault)
+    (λ report. IsFollowedLog c.in_ok-image.image c.iter.result report)
+    (λ fault. FollowsNot c.in_ok-image.image c.iter.result fault)
     (λ fault. IsUnfollowedLog c.args.text.now c.args.lines.now fault) c.follow_entries.ensures
     (λ fault not. (not_followed c.args.text.now c.args.lines.now compiled.program c.in_ok-image.image
-    c.in_ok-entries.entries.items _ compiled.accepts compiled.code c.in_ok-entries.ensures c.as_slice.ensures.value
+    c.in_ok-entries.entries.items _ compiled.accepts compiled.code c.in_ok-entries.ensures c.iter.ensures
     fault not).0)

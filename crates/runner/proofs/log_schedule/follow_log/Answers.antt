@@ -1,4 +1,6 @@
-use Rattle.std.proofs.Common.{◌+◌, ◌∙◌, get_or, refl, inl, arith, subst, None}
+use Rattle.std.proofs.Common.{◌+◌, ◌∙◌, List, length, sym, inl, inr, arith, subst}
+use Rattle.std.proofs.lemmas.Iterator.Consumers.{YieldsList-from_first, YieldsList-turn, YieldsList-end}
+use Rattle.std.proofs.lemmas.List.{length_push}
 use Rattle.machine.specs.declared.event.Entry.{Entry}
 use Rattle.machine.specs.States.{ConcreteState}
 use Rattle.machine.specs.Views.{concrete}
@@ -8,45 +10,73 @@ use Rattle.runner.proofs.Scheduling.{pushed}
 use Rattle.runner.proofs.Turning.{bad_entry, followed_log, shapes_more}
 use Rattle.runner.proofs.log_schedule.follow_log.Goals as goal
 
-abbrev no_entry : Entry
-no_entry = record { thread = 0; local = 0; event = None }
+pub overflow_add-number : goal.overflow_add-number
+overflow_add-number c =
+    let l = c.loop-entry in
+    let turn = YieldsList-turn (YieldsList-from_first (λ (x : Entry). x) (λ (rest : List Entry). rest) c.args.entries
+    c.into_iter-entry-iterator.ensures.into_iter_gives)
+    l.yielded _ l.yielded_by _ _ c.in-Some.entry c.in-Some.is c.next.ensures.steps in
+    omega (arith, turn.0, c.len.ensures, l.invariant.number)
+
+pub returns-then-steps-from-clause-err : goal.returns-then-steps-from-clause-err
+returns-then-steps-from-clause-err c =
+    let l = c.loop-entry in
+    let entry = c.in-Some.entry in
+    let turn = YieldsList-turn (YieldsList-from_first (λ (x : Entry). x) (λ (rest : List Entry). rest) c.args.entries
+    c.into_iter-entry-iterator.ensures.into_iter_gives)
+    l.yielded _ l.yielded_by _ _ entry c.in-Some.is c.next.ensures.steps in
+    bad_entry c.args.image.now l.machine.program c.args.entries (length l.yielded) (l.number + 1) entry entry l.log.items
+    (concrete l.machine) turn.0 (sym turn.1) (omega (arith, l.invariant.number)) l.invariant.program
+    l.invariant.follows
+    (inr (omega (arith, c.if-steps-from.true, c.from.ensures, l.invariant.steps, c.steps_of.ensures.value)))
 
 pub returns-in_default-clause-err : goal.returns-in_default-clause-err
 returns-in_default-clause-err c =
     let l = c.loop-entry in
+    let entry = c.in-Some.entry in
+    let turn = YieldsList-turn (YieldsList-from_first (λ (x : Entry). x) (λ (rest : List Entry). rest) c.args.entries
+    c.into_iter-entry-iterator.ensures.into_iter_gives)
+    l.yielded _ l.yielded_by _ _ entry c.in-Some.is c.next.ensures.steps in
     let same = c.in_ok-make_room.ensures.same in
     let room = c.make_room.new.self in
-    bad_entry c.args.image.now room.program c.args.entries.now l.entry-index (l.number + 1) no_entry _ l.log.items
-    (concrete l.machine) c.loop-entry-test.true refl (omega (arith, l.invariant.number)) (same.0 ∙ l.invariant.program)
+    bad_entry c.args.image.now room.program c.args.entries (length l.yielded) (l.number + 1) entry entry l.log.items
+    (concrete l.machine) turn.0 (sym turn.1) (omega (arith, l.invariant.number)) (same.0 ∙ l.invariant.program)
     l.invariant.follows
-    (inl (subst (λ (k : ConcreteState). CannotTake room.program k
-    (shape_of (get_or c.args.entries.now l.entry-index no_entry))) same.1 c.in_default.ensures.none))
+    (inl (subst (λ (k : ConcreteState). CannotTake room.program k (shape_of entry)) same.1 c.in_default.ensures.none))
 
 pub loop-entry-preserved : goal.loop-entry-preserved
 loop-entry-preserved c =
     let l = c.loop-entry in
+    let entry = c.in-Some.entry in
+    let turn = YieldsList-turn (YieldsList-from_first (λ (x : Entry). x) (λ (rest : List Entry). rest) c.args.entries
+    c.into_iter-entry-iterator.ensures.into_iter_gives)
+    l.yielded _ l.yielded_by _ _ entry c.in-Some.is c.next.ensures.steps in
     let same = c.in_ok-make_room.ensures.same in
     let room = c.make_room.new.self in
-    let taken = c.in-Some.ensures.some in
+    let taken = c.in-Some-take_turn.ensures.some in
     let value = c.steps_of.ensures.value in
-    let more = shapes_more c.args.image.now room.program c.args.entries.now l.entry-index no_entry _ l.log.items
-    c.push.new.self.items (concrete l.machine) (concrete c.take_turn.new.machine) c.in-Some.taken c.loop-entry-test.true
-    refl (same.0 ∙ l.invariant.program) l.invariant.follows
-    (subst (λ (k : ConcreteState). Enters room.program k c.in-Some.taken (concrete c.take_turn.new.machine)) same.1
+    let one = length_push l.yielded entry in
+    let more = shapes_more c.args.image.now room.program c.args.entries (length l.yielded) entry entry l.log.items
+    c.push.new.self.items (concrete l.machine) (concrete c.take_turn.new.machine) c.in-Some-take_turn.taken turn.0
+    (sym turn.1) (same.0 ∙ l.invariant.program) l.invariant.follows
+    (subst (λ (k : ConcreteState). Enters room.program k c.in-Some-take_turn.taken (concrete c.take_turn.new.machine)) same.1
     taken.0) taken.1
-    (pushed c.push.result c.is_err.result c.push.new.self.items l.log.items c.in-Some.taken c.is_err.ensures.value
-    c.if-is_err.false c.push.ensures.items)
+    (pushed c.push.result c.is_err.result c.push.new.self.items l.log.items c.in-Some-take_turn.taken
+    c.is_err.ensures.value c.if-is_err.false c.push.ensures)
     (omega (arith, c.if-steps-from.false, c.from.ensures, l.invariant.steps, value)) in
     record {
-      follows = more.0;
+      follows = rw one more.0;
       steps = omega (arith, more.1, l.invariant.steps, value);
-      number = omega (arith, l.invariant.number);
-      program = c.in-Some.ensures.program ∙ same.0 ∙ l.invariant.program;
+      number = omega (arith, l.invariant.number, one);
+      program = c.in-Some-take_turn.ensures.program ∙ same.0 ∙ l.invariant.program;
     }
 
 pub returns-clause-ok : goal.returns-clause-ok
 returns-clause-ok c =
     let l = c.loop-entry in
+    let end = YieldsList-end (YieldsList-from_first (λ (x : Entry). x) (λ (rest : List Entry). rest) c.args.entries
+    c.into_iter-entry-iterator.ensures.into_iter_gives)
+    l.yielded _ l.yielded_by _ _ c.in-None.is c.next.ensures.steps in
     let e = c.in_ok-report_of.ensures in
-    followed_log c.args.image.now c.args.entries.now l.entry-index l.log.items l.machine c.in_ok-report_of.field-0
-    (omega (arith, c.loop-entry-test.false)) l.invariant.follows l.invariant.program e.log e.last e.output e.verdict
+    followed_log c.args.image.now c.args.entries (length l.yielded) l.log.items l.machine c.in_ok-report_of.field-0
+    (omega (arith, end.1)) l.invariant.follows l.invariant.program e.log e.last e.output e.verdict

@@ -24,7 +24,7 @@ loop-turn-preserved c =
           c.push.new.self.items (concrete l.machine) (concrete c.take_turn.new.machine) c.in_ok-entry.entry
           c.loop-turn-test.true refl l.invariant.program l.invariant.follows ok.0 ok.1 ok.2
           (pushed c.push.result c.is_err.result c.push.new.self.items l.log.items c.in_ok-entry.entry
-          c.is_err.ensures.value c.if-is_err.false c.push.ensures.items);
+          c.is_err.ensures.value c.if-is_err.false c.push.ensures);
       number = omega (arith, l.invariant.number);
       few = omega (arith, ok.3);
       program = c.in_ok-entry.ensures.program ∙ l.invariant.program;

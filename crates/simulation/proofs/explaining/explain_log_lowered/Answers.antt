@@ -8,13 +8,13 @@ use Rattle.simulation.proofs.explaining.explain_log_lowered.Goals as goal
 
 pub returns-in-StopsAt : goal.returns-in-StopsAt
 returns-in-StopsAt c =
-    let told = subst (λ (t : LogExplanation). ExplainsLog (said_by c.args.checked.now) c.args.log.now t)
+    let told = subst (λ (t : LogExplanation). ExplainsLog (said_by c.args.checked.now) c.args.log t)
     c.in-StopsAt.is c.in_ok-number.ensures in
-    subst (λ (i : Image). StopsAt i c.args.log.now c.in-StopsAt.number) (sym c.requires.image) told
+    subst (λ (i : Image). StopsAt i c.args.log c.in-StopsAt.number) (sym c.requires.image) told
 
 pub returns : goal.returns
 returns c =
-    explains_entries (said_by c.args.checked.now) c.args.lowered.image c.args.log.now c.in-Explained.explained
+    explains_entries (said_by c.args.checked.now) c.args.lowered.image c.args.log c.in-Explained.explained
     c.requires.image
-    (subst (λ (t : LogExplanation). ExplainsLog (said_by c.args.checked.now) c.args.log.now t) c.in-Explained.is
+    (subst (λ (t : LogExplanation). ExplainsLog (said_by c.args.checked.now) c.args.log t) c.in-Explained.is
     c.in_ok-number.ensures)

@@ -15,13 +15,13 @@ invariant_of-self-2 g c =
     let limit = g.J.RunName.limit in
     let room = subst (λ (x : SharedView). cost x.log + 257 ≤ limit) (sym c.self.view_is) c.requires.room in
     let counted = c.self.invariant.1 in
-    let grows = ap length c.push_reserved.ensures.items in (
+    let grows = ap length c.push_reserved.ensures.entries in (
       keeps_entry g.J.RunName.program g.J.RunName.outside s.machine.program m.new.machine.program
           e.new.machine.program limit (concrete s.machine) (concrete m.new.machine)
           (concrete e.new.machine) s.log.items m.new.log.items c.push_reserved.new.self.items e.result.0 s.steps
           s.limit s.kills c.from.result
           c.self.invariant.0 room m.ensures.program m.ensures.same.0 m.ensures.same.1 e.ensures.program e.ensures.enters
-          e.ensures.turn c.push_reserved.ensures.items (c.from.ensures ∙ ap bool_byte c.is_some.ensures),
+          e.ensures.turn c.push_reserved.ensures.entries (c.from.ensures ∙ ap bool_byte c.is_some.ensures),
       record {
         total = omega (
           arith,
