@@ -5,5 +5,5 @@
 mod law;
 
 pub use law::{
-    code_refines, piece_runs_explain, run_explains, source_follows, source_defers, traces_explain,
+    code_refines, piece_runs_explain, run_explains, source_defers, source_follows, traces_explain,
 };
