@@ -129,7 +129,7 @@ locally p n more t origin g r last h steps few follower raised deferred = record
   counted = steps;
   matches = subst (λ (f : Follower). Matches f (progress_locally p t more origin g)) (sym follower)
       (record { actions = h.matches.actions; source = h.matches.source });
-  deferred = waits;
+  deferred = deferred;
   raised = still_raised r last g.raised raised h.raised;
   bounded = bounded_put g.deferred t n more _ h.bounded
       (let long = few_deferred p t more origin (g.deferred t) in let less = h.bounded t in omega (arith, long, less));

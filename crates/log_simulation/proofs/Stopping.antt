@@ -91,7 +91,7 @@ front_more log done after next read =
     ap (λ es. take (length done + 1) es) (read ∙ sym (append_assoc done (next ∷ []) after))
     ∙ take_at (done ++ next ∷ []) after (length done + 1) (length-append done (next ∷ []))
 
-inside : (log done after : List Entry) (next : Entry) → log ≡ done ++ next ∷ after → length done < length log
+pub inside : (log done after : List Entry) (next : Entry) → log ≡ done ++ next ∷ after → length done < length log
 inside log done after next read =
     let lengths = ap length read in
     let sum = length-append done (next ∷ after) in

@@ -1,4 +1,4 @@
-ghost use Rattle.std.specs.Prelude.{[], ◌≡◌, ◌<◌, ◌≤◌, false, true, IfOk, MatchBool, Ok, OnOk, Some, length};
+ghost use Rattle.std.specs.Prelude.{[], ◌≡◌, ◌<◌, ◌≤◌, ◌^◌, false, true, IfOk, MatchBool, Ok, OnOk, Some, length};
 ghost use Rattle.lowering.specs.Pieces.{code_of};
 ghost use Rattle.locals.specs.Threads.{Thread};
 ghost use Rattle.machine.specs.States.{ConcreteState, opening_concrete, thread_of};
@@ -231,6 +231,13 @@ pub enum Walked {
     LeadsTo(Machine),
 }
 
+// A log has fewer than 2^64 entries. Nothing is done when it runs.
+fn log_is_counted(log: &LogReader<'_>)
+    ensures { length log.now < 2 ^ 64 }
+{
+    log.len();
+}
+
 /// Walks over a log of an image, and records its actions, as far as its first entry that isn't legal, or with which
 /// there are 2^32 steps or more.
 pub fn walk(
@@ -242,6 +249,7 @@ pub fn walk(
     ensures { IfOk result (λ w. (p : Program) → WellFormed p → image.now ≡ code_of p
         → IsAlong p [] (opening_concrete image.now) recorder.old → WalksTo p log.entry w recorder.new) }
 {
+    log_is_counted(&log);
     let mut machine = Machine::new(alloc, image, BUCKETS)?;
     let mut here = Local::exiting(ExitPhase::Ended);
     let mut number: u64 = 0;

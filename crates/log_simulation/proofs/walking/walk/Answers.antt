@@ -7,7 +7,7 @@ use Rattle.runner.specs.Logs.{Enters}
 use Rattle.lowering.specs.Pieces.{code_of}
 use Rattle.log_simulation.specs.Recording.{IsAlong, IsWhole}
 use Rattle.log_simulation.proofs.Records.{when_false, when_true}
-use Rattle.log_simulation.proofs.Stopping.{leads_next, read_all, read_next, steps_next, stops_illegal, stops_long}
+use Rattle.log_simulation.proofs.Stopping.{inside, leads_next, read_all, read_next, steps_next, stops_illegal, stops_long}
 use Rattle.log_simulation.proofs.Stopping.{whole_first}
 use Rattle.log_simulation.proofs.walking.walk.Goals as goal
 
@@ -21,6 +21,16 @@ loop-entry-init c = record {
     whole = whole_first p _ _ begins;
   };
 }
+
+pub overflow_add-number : goal.overflow_add-number
+overflow_add-number c =
+    let l = c.loop-entry in
+    let next = c.in-Some.entry in
+    let starts = c.into_iter-entry-iterator.ensures.into_iter_gives in
+    let read = read_next c.args.log _ l.yielded l.entry-iterator c.next.new.self next starts l.yielded_by
+    c.in-Some.ensures.steps in
+    let less = inside c.args.log l.yielded c.next.new.self next read in
+    omega (arith, less, l.invariant.number, c.log_is_counted.ensures)
 
 pub returns-then-not-branch : goal.returns-then-not-branch
 returns-then-not-branch c = λ p w own begins.
