@@ -101,5 +101,6 @@ fn steps_of(log: LogReader<'_>) -> u64 {
 
 // How many events of a name a log has.
 fn events_of(log: LogReader<'_>, name: EventName) -> usize {
-    log.filter(|entry| entry.event.is_some_and(|event| event.name == name)).count()
+    log.filter(|entry| entry.event.is_some_and(|event| event.name == name))
+        .count()
 }
