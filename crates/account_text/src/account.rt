@@ -28,7 +28,7 @@ pub fn append_account(text: &mut String, report: &Report, trace: bool) -> Result
         ≡ string_bytes text.old ++ account report.now trace) }
 {
     if trace {
-        append_log(text, report.log.as_slice())?;
+        append_log(text, report.log.iter())?;
     }
     match report.verdict {
         Verdict::Done => {}

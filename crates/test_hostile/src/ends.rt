@@ -1,7 +1,7 @@
 use crate::counting::count;
 use crate::failure::Failure;
 use isa::Image;
-use machine::Entry;
+use packed_log::LogReader;
 use runner::{Report, RunFault, Verdict, run_in_order};
 use std::alloc::Global;
 use std::io;
@@ -68,13 +68,13 @@ pub fn show_run<R: Print>(rt: &R, alloc: Global, image: &Image, limit: u32) -> R
 fn show_report<R: Print>(rt: &R, report: &Report) -> io::Result<()> {
     let verdict = report.verdict;
     let entries = report.log.len();
-    let steps = steps_of(report.log.as_slice());
+    let steps = steps_of(report.log.iter());
     let threads = report.last.threads();
     println!(rt; "  {verdict:?}, {steps} steps, {entries} entries, {threads} threads")
 }
 
 // How many steps a log has.
-fn steps_of(log: &[Entry]) -> u64 {
+fn steps_of(log: LogReader<'_>) -> u64 {
     let mut steps: u64 = 0;
     for entry in log {
         let shared = if entry.event.is_some() { 1 } else { 0 };

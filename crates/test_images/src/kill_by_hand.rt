@@ -217,8 +217,5 @@ fn show_new<J: RunName, R: Print>(
     };
     let log = shared.log();
     hand.printed = Some(log.len());
-    if printed < log.len() {
-        show_log(rt, &log[printed..])?;
-    }
-    Ok(())
+    show_log(rt, log, printed)
 }

@@ -1,4 +1,5 @@
-use machine::{Entry, EventName, MOST_THREADS, Machine, ThreadSet};
+use machine::{EventName, MOST_THREADS, Machine, ThreadSet};
+use packed_log::{LogReader, PackedLog};
 use runner::Report;
 use std::io;
 use words::{Cause, Outcome};
@@ -9,15 +10,15 @@ const SHORT: usize = 24;
 /// Prints what came of a run: how it ended and how long it was, its log where that is short, its output, and the
 /// threads that sleep or have aborted.
 pub fn show<R: Print>(rt: &R, report: &Report) -> io::Result<()> {
-    let log = report.log.as_slice();
+    let log = &report.log;
     let verdict = report.verdict;
     let entries = log.len();
-    let steps = steps_of(log);
-    let walked = events_of(log, EventName::Entry);
-    let forked = events_of(log, EventName::Fork);
+    let steps = steps_of(log.iter());
+    let walked = events_of(log.iter(), EventName::Entry);
+    let forked = events_of(log.iter(), EventName::Fork);
     println!(rt; "  {verdict:?}, {steps} steps, {entries} entries, {walked} ENTRY, {forked} FORK")?;
     if entries <= SHORT {
-        show_log(rt, log)?;
+        show_log(rt, log, 0)?;
     }
     show_output(rt, report)
 }
@@ -38,9 +39,9 @@ fn show_output<R: Print>(rt: &R, report: &Report) -> io::Result<()> {
     show_threads(rt, &report.last)
 }
 
-/// Prints the entries of a log.
-pub fn show_log<R: Print>(rt: &R, log: &[Entry]) -> io::Result<()> {
-    for entry in log {
+/// Prints the entries of a log but the first `before`.
+pub fn show_log<R: Print>(rt: &R, log: &PackedLog, before: usize) -> io::Result<()> {
+    for entry in log.iter().skip(before) {
         let thread = entry.thread;
         let local = entry.local;
         match entry.event {
@@ -89,7 +90,7 @@ fn show_threads<R: Print>(rt: &R, last: &Machine) -> io::Result<()> {
 }
 
 // How many steps a log has.
-fn steps_of(log: &[Entry]) -> u64 {
+fn steps_of(log: LogReader<'_>) -> u64 {
     let mut steps: u64 = 0;
     for entry in log {
         let shared = if entry.event.is_some() { 1 } else { 0 };
@@ -99,8 +100,7 @@ fn steps_of(log: &[Entry]) -> u64 {
 }
 
 // How many events of a name a log has.
-fn events_of(log: &[Entry], name: EventName) -> usize {
-    log.iter()
-        .filter(|entry| entry.event.is_some_and(|event| event.name == name))
+fn events_of(log: LogReader<'_>, name: EventName) -> usize {
+    log.filter(|entry| entry.event.is_some_and(|event| event.name == name))
         .count()
 }
