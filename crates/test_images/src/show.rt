@@ -101,6 +101,11 @@ fn steps_of(log: LogReader<'_>) -> u64 {
 
 // How many events of a name a log has.
 fn events_of(log: LogReader<'_>, name: EventName) -> usize {
-    log.filter(|entry| entry.event.is_some_and(|event| event.name == name))
-        .count()
+    let mut events: usize = 0;
+    for entry in log {
+        if entry.event.is_some_and(|event| event.name == name) {
+            events = events.saturating_add(1);
+        }
+    }
+    events
 }
