@@ -80,6 +80,7 @@ impl Event {
     }
 
     /// An event that wakes and moves these threads.
+    #[tactic(auto, using(crate::proofs::Sets::threads_members))]
     pub fn with_threads(name: EventName, value: u32, woken: &[u32], moved: &[u32]) -> Event
         requires woken { All IsThread woken.now }
         requires moved { All IsThread moved.now }
