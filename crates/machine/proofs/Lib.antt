@@ -8,6 +8,7 @@ pub mod Leaving
 pub mod Stepping
 pub mod Refusing
 pub mod Sets
+pub mod Leasts
 pub mod Words
 pub mod Queues
 pub mod Determines

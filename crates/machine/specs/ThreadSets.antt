@@ -1,7 +1,7 @@
 -- A set of threads, in a form that takes no memory: nobody, one thread, or of two and more a bit for each number, in 16
 -- words of 64 bits. Each set has one form.
-use Rattle.std.specs.Prelude.{ℕ, ◌≡◌, ◌-◌, ◌/◌, ◌%◌, ◌^◌, ◌≤◌, ◌==◌, if◌then◌else◌, Bool, false, ⊤, List}
-use Rattle.std.specs.Prelude.{replicate, slice_index, slice_set}
+use Rattle.std.specs.Prelude.{ℕ, ◌≡◌, ◌-◌, ◌/◌, ◌%◌, ◌^◌, ◌<◌, ◌≤◌, ◌==◌, if◌then◌else◌, Bool, true, false, ⊤, List}
+use Rattle.std.specs.Prelude.{replicate, slice_index, slice_set, Option, Some, None}
 use Rattle.std.specs.List.{All, fold}
 use Rattle.std.specs.Int.{bit_at}
 use Rattle.std.specs.Int.Bits.{bit_or}
@@ -34,6 +34,11 @@ abbrev pub has : ThreadSet → ℕ → Bool
 has Nobody t = false
 has (Single u) t = t == u
 has (Several words) t = bit_at (slice_index words ((t - 1) / 64)) ((t - 1) % 64) == 1
+
+-- the least number from t on that passes a test, or none
+abbrev pub IsLeastFrom : (ℕ → Bool) → ℕ → Option ℕ → Type 0
+IsLeastFrom test t None = (u : ℕ) → t ≤ u → test u ≡ false
+IsLeastFrom test t (Some u) = (t ≤ u) × (test u ≡ true) × ((v : ℕ) → t ≤ v → v < u → test v ≡ false)
 
 -- the number of a thread
 abbrev pub IsThread : ℕ → Type 0

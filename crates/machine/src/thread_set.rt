@@ -1,5 +1,7 @@
-ghost use Rattle.std.specs.Prelude.{◌≡◌, ◌≢◌, [], MatchBool, replicate};
+ghost use Rattle.std.specs.Prelude.{◌≡◌, ◌≢◌, ◌<◌, ◌≤◌, ◌+◌, ◌==◌, [], MatchBool, IfSome, replicate};
 ghost use Rattle.std.specs.List.{All};
+ghost use Rattle.std.specs.Int.{bit_at};
+ghost use Rattle.machine.specs.ThreadSets.{IsLeastFrom, most_members};
 ghost use Rattle.machine.specs.ThreadSets.{set_of, has, with_bit, with_thread, IsMember, HasMember, SetsSo, OneForm};
 
 // The words of a set of several threads, with a bit for each number from 1 to 1,024.
@@ -67,6 +69,19 @@ impl ThreadSet {
         }
     }
 
+    /// The least thread of the set from `t` on, if there is one.
+    #[tactic(auto, using(crate::proofs::Leasts::single_from, crate::proofs::Leasts::single_past))]
+    pub fn next_from(&self, t: u32) -> Option<u32>
+        requires { (1 ≤ t) × (t ≤ most_members + 1) }
+        ensures { IsLeastFrom (has self.now) t result }
+    {
+        match self {
+            ThreadSet::Nobody => None,
+            ThreadSet::Single(u) => { if t <= *u { Some(*u) } else { None } }
+            ThreadSet::Several(words) => least_from(words, t),
+        }
+    }
+
     /// Whether there is none.
     pub fn is_empty(&self) -> bool
         ensures { MatchBool result (self.now ≡ set_of []) (self.now ≢ set_of []) }
@@ -102,6 +117,35 @@ fn has_bit(words: &[u64; WORDS], t: u32) -> bool
     ensures { result ≡ has (ThreadSet.Several words.now) t }
 {
     words[(t as usize - 1) / 64] >> ((t - 1) % 64) & 1 == 1
+}
+
+// The place of the lowest bit of a word from `low` on, if one is set there.
+#[tactic(auto, using(crate::proofs::Leasts::none_from, crate::proofs::Leasts::some_from, crate::proofs::Leasts::some_inside))]
+fn lowest_from(word: u64, low: u32) -> Option<u32>
+    requires { low < 64 }
+    ensures least { IsLeastFrom (λ i. bit_at word i == 1) low result }
+    ensures inside { IfSome result (λ k. k < 64) }
+{
+    let left = word >> low;
+    if left == 0 {
+        return None;
+    }
+    Some(low + left.trailing_zeros())
+}
+
+// The least thread from `t` on whose bit is set.
+fn least_from(words: &[u64; WORDS], t: u32) -> Option<u32>
+    requires { (1 ≤ t) × (t ≤ most_members + 1) }
+    ensures { IsLeastFrom (has (ThreadSet.Several words.now)) t result }
+{
+    let mut low = (t - 1) % 64;
+    for place in (t as usize - 1) / 64..WORDS {
+        if let Some(k) = lowest_from(words[place], low) {
+            return Some(64 * place as u32 + k + 1);
+        }
+        low = 0;
+    }
+    None
 }
 
 /// The set of a list has the threads of the list and no others, and lists of the same threads have one set.
