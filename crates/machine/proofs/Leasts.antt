@@ -7,8 +7,8 @@ use Rattle.std.proofs.lemmas.Bool.{cases_lt, eq-eqb, ne_eqb, both_ways}
 use Rattle.std.proofs.lemmas.Nat.{pow_pos}
 use Rattle.std.specs.Int.{bit_at, trailing_zeros, w64}
 use Rattle.std.proofs.lemmas.Nat.Bits.{bit_at-zero, bit_at_above, bit_at_cat_high, bit_at-trailing_zeros}
-use Rattle.machine.specs.declared.thread_set.ThreadSet.TheVariants.{Nobody, Single, Several}
-use Rattle.machine.specs.ThreadSets.{has, IsLeastFrom, IsMember}
+use Rattle.machine.specs.declared.thread_set.ThreadSet.TheVariants.{Single, Several}
+use Rattle.machine.specs.ThreadSets.{has, IsLeastFrom}
 
 -- the bits of a number without its lowest ones
 shifted : (n low j : ℕ) → bit_at n (low + j) ≡ bit_at (n / 2 ^ low) j
