@@ -5,6 +5,7 @@
 //! TxN     up to N steps of thread T, local or shared, as long as none is refused
 //! sT      a wake of thread T from outside
 //! kT      a kill of thread T
+//! rT      prints what a step of thread T would be refused for, or that it can go on
 //! movers  prints the threads that can take a step, or that none can
 //! ```
 //!
@@ -69,6 +70,9 @@ fn take_word<R: Print>(rt: &R, machine: &mut PieceMachine, word: &str) -> Result
         let thread = number(killed)?;
         return show_outside(rt, thread, machine.kill(thread));
     }
+    if let Some(asked) = word.strip_prefix('r') {
+        return show_next(rt, machine, number(asked)?);
+    }
     let (thread, steps) = word.split_once('x').ok_or(Failure::Row)?;
     let steps = number(steps)?.min(MOST_STEPS);
     take_steps(rt, machine, number(thread)?, steps)
@@ -83,6 +87,19 @@ fn show_outside<R: Print>(
     match outcome {
         Ok(event) => show_step(rt, thread, PieceEvent::Event(event))?,
         Err(fault) => show_refusal(rt, thread, fault)?,
+    }
+    Ok(())
+}
+
+// Prints what the next step of a thread, from where it stands, would be refused for.
+fn show_next<R: Print>(rt: &R, machine: &PieceMachine, thread: u32) -> Result<(), Failure> {
+    let whole = machine.machine();
+    if thread == 0 || thread > whole.threads() {
+        return Err(Failure::Row);
+    }
+    match machine.refusal_at(thread, whole.local(thread)) {
+        Some(fault) => show_refusal(rt, thread, fault)?,
+        None => println!(rt; "  {thread} can go on")?,
     }
     Ok(())
 }
