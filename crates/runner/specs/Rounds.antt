@@ -63,8 +63,9 @@ IsAsleep k t = (state_of k).asleep t ≢ None
 abbrev pub IsUnrefused : ConcreteState → List Bool → ℕ → Type 0
 IsUnrefused k refused t = (thread_of k t ≢ None) × (slice_get refused t ≡ Some false)
 
--- what may be drawn: a thread that can move, wasn't refused and isn't passed over; or, where the limit leaves room for a step more, one that
--- sleeps, where there may be wakes from outside, and one that was made and wasn't refused, where there may be more kills
+-- what may be drawn: a thread that can move, wasn't refused and isn't passed over; or, where the limit leaves room for a
+-- step more, one that sleeps, where there may be wakes from outside, and one that was made and wasn't refused, where there
+-- may be more kills
 abbrev pub MayBeDrawn : Outside → ℕ → LogState → List Bool → List Bool → Drawn → Type 0
 MayBeDrawn may limit h refused passed (Mover t) = IsDrawn h.concrete refused passed t
 MayBeDrawn may limit h refused passed (Sleeper t) =
