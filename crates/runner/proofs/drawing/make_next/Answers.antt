@@ -12,4 +12,4 @@ loop-drawn-init g c = record {
 
 pub returns-clause-none : goal.returns-clause-none
 returns-clause-none g c = λ still. idle_so g.J.RunName.program g.J.RunName.limit (log_state c.loop-drawn.shared)
-    c.loop-drawn.refused c.loop-drawn.passed c.loop-drawn.invariant.past c.loop-drawn.invariant.stopped ?
+    c.loop-drawn.refused c.loop-drawn.passed c.loop-drawn.invariant.past c.loop-drawn.invariant.stopped c.in_default.ensures.drawn
