@@ -3,8 +3,9 @@ use Rattle.std.proofs.Common.{◌≡◌, ◌<◌, ◌+◌, ◌*◌, ◌==◌, �
 use Rattle.std.proofs.Common.{codes, cond, ltb, refl, ap, sym, ◌∙◌, arith}
 use Rattle.machine.specs.declared.event.EventName.{EventName}
 use Rattle.machine.specs.declared.event.EventName.TheVariants.{Local, Load, Store, Swap, CompareSwap, FetchOr, FetchAdd}
-use Rattle.machine.specs.declared.event.EventName.TheVariants.{Fork, Print, Wait, Wake, Requeue, Ret, RetValue, Die}
-use Rattle.machine.specs.declared.event.EventName.TheVariants.{Entry, Pending, Clear, Last, Stray, Kill}
+use Rattle.machine.specs.declared.event.EventName.TheVariants.{Fork, Print, Wait, Wake, Requeue, FutexLock, FutexCompare}
+use Rattle.machine.specs.declared.event.EventName.TheVariants.{Ret, RetValue, Die, Entry, Pending, Clear, Last}
+use Rattle.machine.specs.declared.event.EventName.TheVariants.{Stray, Kill}
 use Rattle.log_text.specs.LogLines.{name_text}
 use Rattle.log_text.specs.Places.{place_of}
 use Rattle.std.proofs.lemmas.Bool.{ltb-true}
@@ -40,7 +41,9 @@ named n =
     (cond (n == packed 0 (codes "CLEAR")) Clear
     (cond (n == packed 0 (codes "LAST")) Last
     (cond (n == packed 0 (codes "STRAY")) Stray
-    (cond (n == packed 0 (codes "KILL")) Kill Local)))))))))))))))))))
+    (cond (n == packed 0 (codes "KILL")) Kill
+    (cond (n == packed 0 (codes "FLOCK")) FutexLock
+    (cond (n == packed 0 (codes "FCMP")) FutexCompare Local)))))))))))))))))))))
 
 back : (name : EventName) → named (word_number name) ≡ name
 unfolding named word_number packed
@@ -65,6 +68,8 @@ back Clear = refl
 back Last = refl
 back Stray = refl
 back Kill = refl
+back FutexLock = refl
+back FutexCompare = refl
 
 pub name_once : (a b : EventName) → name_text a ≡ name_text b → a ≡ b
 unfolding word_number
@@ -91,7 +96,9 @@ at_place n =
     (cond (n == 16) Clear
     (cond (n == 17) Last
     (cond (n == 18) Stray
-    (cond (n == 19) Kill Local)))))))))))))))))))
+    (cond (n == 19) Kill
+    (cond (n == 20) FutexLock
+    (cond (n == 21) FutexCompare Local)))))))))))))))))))))
 
 placed : (name : EventName) → at_place (place_of name) ≡ name
 unfolding at_place
@@ -116,11 +123,13 @@ placed Clear = refl
 placed Last = refl
 placed Stray = refl
 placed Kill = refl
+placed FutexLock = refl
+placed FutexCompare = refl
 
 pub place_once : (a b : EventName) → place_of a ≡ place_of b → a ≡ b
 place_once a b same = sym (placed a) ∙ ap at_place same ∙ placed b
 
-pub few_places : (name : EventName) → place_of name < 21
+pub few_places : (name : EventName) → place_of name < 23
 few_places Local = omega arith
 few_places Load = omega arith
 few_places Store = omega arith
@@ -142,6 +151,8 @@ few_places Clear = omega arith
 few_places Last = omega arith
 few_places Stray = omega arith
 few_places Kill = omega arith
+few_places FutexLock = omega arith
+few_places FutexCompare = omega arith
 
 all_above : List ℕ → Bool
 all_above [] = true
@@ -180,3 +191,5 @@ plain_name Clear = plain_by (codes "CLEAR") refl
 plain_name Last = plain_by (codes "LAST") refl
 plain_name Stray = plain_by (codes "STRAY") refl
 plain_name Kill = plain_by (codes "KILL") refl
+plain_name FutexLock = plain_by (codes "FLOCK") refl
+plain_name FutexCompare = plain_by (codes "FCMP") refl

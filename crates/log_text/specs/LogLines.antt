@@ -8,8 +8,9 @@ use Rattle.machine.specs.declared.event.Entry.{Entry}
 use Rattle.machine.specs.declared.event.Event.{Event}
 use Rattle.machine.specs.declared.event.EventName.{EventName}
 use Rattle.machine.specs.declared.event.EventName.TheVariants.{Local, Load, Store, Swap, CompareSwap, FetchOr, FetchAdd}
-use Rattle.machine.specs.declared.event.EventName.TheVariants.{Fork, Print, Wait, Wake, Requeue, Ret, RetValue, Die}
-use Rattle.machine.specs.declared.event.EventName.TheVariants.{Entry as Entry', Pending, Clear, Last, Stray, Kill}
+use Rattle.machine.specs.declared.event.EventName.TheVariants.{Fork, Print, Wait, Wake, Requeue, FutexLock, FutexCompare}
+use Rattle.machine.specs.declared.event.EventName.TheVariants.{Ret, RetValue, Die, Entry as Entry', Pending, Clear, Last}
+use Rattle.machine.specs.declared.event.EventName.TheVariants.{Stray, Kill}
 use Rattle.machine.specs.ThreadSets.{has}
 use Rattle.machine.specs.declared.thread_set.ThreadSet.{ThreadSet}
 
@@ -31,6 +32,8 @@ name_text Print = codes "PRINT"
 name_text Wait = codes "FWAIT"
 name_text Wake = codes "FWAKE"
 name_text Requeue = codes "FREQ"
+name_text FutexLock = codes "FLOCK"
+name_text FutexCompare = codes "FCMP"
 name_text Ret = codes "RET"
 name_text RetValue = codes "RETV"
 name_text Die = codes "DIE"

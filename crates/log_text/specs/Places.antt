@@ -2,12 +2,13 @@
 use Rattle.std.specs.Prelude.{ℕ}
 use Rattle.machine.specs.declared.event.EventName.{EventName}
 use Rattle.machine.specs.declared.event.EventName.TheVariants.{Local, Load, Store, Swap, CompareSwap, FetchOr, FetchAdd}
-use Rattle.machine.specs.declared.event.EventName.TheVariants.{Fork, Print, Wait, Wake, Requeue, Ret, RetValue, Die}
-use Rattle.machine.specs.declared.event.EventName.TheVariants.{Entry, Pending, Clear, Last, Stray, Kill}
+use Rattle.machine.specs.declared.event.EventName.TheVariants.{Fork, Print, Wait, Wake, Requeue, FutexLock, FutexCompare}
+use Rattle.machine.specs.declared.event.EventName.TheVariants.{Ret, RetValue, Die, Entry, Pending, Clear, Last}
+use Rattle.machine.specs.declared.event.EventName.TheVariants.{Stray, Kill}
 
 -- a name's place, from 0; Local has the last
 abbrev pub place_of : EventName → ℕ
-place_of Local = 20
+place_of Local = 22
 place_of Load = 0
 place_of Store = 1
 place_of Swap = 2
@@ -28,3 +29,5 @@ place_of Clear = 16
 place_of Last = 17
 place_of Stray = 18
 place_of Kill = 19
+place_of FutexLock = 20
+place_of FutexCompare = 21

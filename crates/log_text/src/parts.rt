@@ -9,7 +9,7 @@ use machine::EventName;
 use memchr::memchr;
 
 // How many names of steps there are.
-const NAMES: u32 = 21;
+const NAMES: u32 = 23;
 
 /// A text in two parts.
 #[derive(Clone, Copy, Drop)]
@@ -103,7 +103,7 @@ pub fn name_called(text: &[u8]) -> Option<EventName>
 
 // The names of steps in the order in which they are tried.
 fn name_at(place: u32) -> EventName
-    requires { place < 21 }
+    requires { place < 23 }
     ensures { place_of result ≡ place }
 {
     match place {
@@ -127,6 +127,8 @@ fn name_at(place: u32) -> EventName
         17 => EventName::Last,
         18 => EventName::Stray,
         19 => EventName::Kill,
+        20 => EventName::FutexLock,
+        21 => EventName::FutexCompare,
         _ => EventName::Local,
     }
 }

@@ -118,6 +118,8 @@ pub fn name_of(name: EventName) -> &'static str
         EventName::Wait => "FWAIT",
         EventName::Wake => "FWAKE",
         EventName::Requeue => "FREQ",
+        EventName::FutexLock => "FLOCK",
+        EventName::FutexCompare => "FCMP",
         EventName::Ret => "RET",
         EventName::RetValue => "RETV",
         EventName::Die => "DIE",

@@ -1,4 +1,4 @@
--- No step of a thread's own is a wake from outside.
+-- No step of a thread's own is a wake from outside, and none of whole calls is a piece of one.
 use Rattle.std.proofs.Common.{◌≡◌, ℕ, Bool, true, false, ◌||◌, not, cond, eqb, ltb, Option, Some, None, Result, Ok, Err}
 use Rattle.std.proofs.Common.{◌+◌, length, refl, subst}
 use Rattle.words.specs.Process.{process_word}
@@ -19,11 +19,12 @@ use Rattle.machine.specs.ConcreteServing.{Served, serve, load}
 use Rattle.machine.specs.ConcreteExits.{Left, leave, is_entry}
 use Rattle.machine.specs.ConcreteSteps.{Stepped, thread_step, go_on_with, on_machine, step_awake, step_thread}
 use Rattle.machine.specs.ConcreteSteps.{step_of}
+use Rattle.machine.specs.ConcretePieces.{is_piece}
 use Rattle.machine.specs.FrontRuns.{doing_of}
 
--- an event of a thread's own step
+-- an event of a thread's own step, which is none of a piece
 abbrev IsOwn : Event → Type 0
-IsOwn e = doing_of e.name e.value ≡ Own
+IsOwn e = (doing_of e.name e.value ≡ Own) × (is_piece e.name ≡ false)
 
 Serves : Result Served StepFault → Type 0
 Serves (Ok x) = IsOwn x.event
@@ -42,26 +43,26 @@ unfolding Serves
 serves_err f = tt
 
 served : (made t : ℕ) (r : Request) (c : Common) → Serves (serve made t r c)
-served made t (AskLoad a) c = serves_if _ _ _ (serves_ok _ refl) (serves_err _)
-served made t (AskStore a v) c = serves_if _ _ _ (serves_ok _ refl) (serves_err _)
-served made t (AskSwap a v) c = serves_if _ _ _ (serves_ok _ refl) (serves_err _)
-served made t (AskCompareSwap a expected new) c = serves_if _ _ _ (serves_ok _ refl) (serves_err _)
-served made t (AskOr a v) c = serves_if _ _ _ (serves_ok _ refl) (serves_err _)
-served made t (AskAdd a v) c = serves_if _ _ _ (serves_ok _ refl) (serves_err _)
+served made t (AskLoad a) c = serves_if _ _ _ (serves_ok _ (refl, refl)) (serves_err _)
+served made t (AskStore a v) c = serves_if _ _ _ (serves_ok _ (refl, refl)) (serves_err _)
+served made t (AskSwap a v) c = serves_if _ _ _ (serves_ok _ (refl, refl)) (serves_err _)
+served made t (AskCompareSwap a expected new) c = serves_if _ _ _ (serves_ok _ (refl, refl)) (serves_err _)
+served made t (AskOr a v) c = serves_if _ _ _ (serves_ok _ (refl, refl)) (serves_err _)
+served made t (AskAdd a v) c = serves_if _ _ _ (serves_ok _ (refl, refl)) (serves_err _)
 served made t (AskFork entry arguments has_room) c =
-    serves_if (eqb made c.most) _ _ (serves_ok _ refl) (serves_if has_room _ _ (serves_ok _ refl) (serves_err Broken))
-served made t (AskPrint number) c = serves_ok _ refl
+    serves_if (eqb made c.most) _ _ (serves_ok _ (refl, refl)) (serves_if has_room _ _ (serves_ok _ (refl, refl)) (serves_err Broken))
+served made t (AskPrint number) c = serves_ok _ (refl, refl)
 served made t (AskWait a expected) c =
-    serves_if _ _ _ (serves_if _ _ _ (serves_ok _ refl) (serves_ok _ refl)) (serves_err _)
-served made t (AskWake a n) c = serves_if _ _ _ (serves_ok _ refl) (serves_err _)
+    serves_if _ _ _ (serves_if _ _ _ (serves_ok _ (refl, refl)) (serves_ok _ (refl, refl))) (serves_err _)
+served made t (AskWake a n) c = serves_if _ _ _ (serves_ok _ (refl, refl)) (serves_err _)
 served made t (AskRequeue a b n m expected) c =
     serves_if (ltb a (length c.words)) _ _
     (serves_if (ltb b (length c.words)) _ _
-    (serves_if (eqb (load c a) expected) _ _ (serves_ok _ refl) (serves_ok _ refl)) (serves_err Broken))
+    (serves_if (eqb (load c a) expected) _ _ (serves_ok _ (refl, refl)) (serves_ok _ (refl, refl))) (serves_err Broken))
     (serves_err Broken)
-served made t AskReturn c = serves_ok _ refl
-served made t (AskReturnValue v) c = serves_ok _ refl
-served made t (AskFault cause) c = serves_ok _ refl
+served made t AskReturn c = serves_ok _ (refl, refl)
+served made t (AskReturnValue v) c = serves_ok _ (refl, refl)
+served made t (AskFault cause) c = serves_ok _ (refl, refl)
 
 Exits : Left → Type 0
 Exits l = IsOwn l.event
@@ -76,16 +77,16 @@ exits_so l h = h
 
 left : (t : ℕ) (phase : ExitPhase) (c : Common) → Exits (leave t phase c)
 left t (Entry e seen) c =
-    exits_if (not (is_entry c e.0)) _ _ (exits_so _ refl)
+    exits_if (not (is_entry c e.0)) _ _ (exits_so _ (refl, refl))
     (exits_if (eqb (load c (process_word t 1)) e.0 || not (eqb (owner_of (load c (e.0 + 1))) t)) _ _
-    (exits_so _ refl) (exits_so _ refl))
+    (exits_so _ (refl, refl)) (exits_so _ (refl, refl)))
 left t Pending c =
     let e : ℕ = load c (process_word t 1) in
-    exits_if (not (is_entry c e)) _ _ (exits_so _ refl)
-    (exits_if (eqb (owner_of (load c (e + 1))) t) _ _ (exits_so _ refl) (exits_so _ refl))
-left t ClearId c = exits_so _ refl
-left t LastWake c = exits_so _ refl
-left t Ended c = exits_so _ refl
+    exits_if (not (is_entry c e)) _ _ (exits_so _ (refl, refl))
+    (exits_if (eqb (owner_of (load c (e + 1))) t) _ _ (exits_so _ (refl, refl)) (exits_so _ (refl, refl)))
+left t ClearId c = exits_so _ (refl, refl)
+left t LastWake c = exits_so _ (refl, refl)
+left t Ended c = exits_so _ (refl, refl)
 
 Steps : Result Stepped StepFault → Type 0
 Steps (Ok x) = IsOwn x.event
@@ -98,7 +99,7 @@ went go (Err f) h = tt
 
 stepped : (made t : ℕ) (c : Common) (l : Look) → Steps (thread_step made t c l)
 unfolding Steps Exits
-stepped made t c (Goes x) = refl
+stepped made t c (Goes x) = (refl, refl)
 stepped made t c (Asks request go) = went go _ (served made t request c)
 stepped made t c (Leaves phase) = left t phase c
 stepped made t c Breaks = tt
@@ -123,8 +124,16 @@ unfolding Moves
 moves_thread p k t None = tt
 moves_thread p k t (Some x) = moves_awake p k t x (k.common.asleep t)
 
+owns : (p : Program) (k k' : ConcreteState) (t : ℕ) (e : Event) → step_of p k t ≡ Ok (k', e) → IsOwn e
+unfolding Moves
+owns p k k' t e h = subst Moves h (moves_thread p k t (thread_of k t))
+
 -- the event of a thread's own step tells so
 pub own_so : (p : Program) (k k' : ConcreteState) (t : ℕ) (e : Event) → step_of p k t ≡ Ok (k', e)
     → doing_of e.name e.value ≡ Own
-unfolding Moves
-own_so p k k' t e h = subst Moves h (moves_thread p k t (thread_of k t))
+own_so p k k' t e h = (owns p k k' t e h).0
+
+-- and tells of no piece
+pub whole_so : (p : Program) (k k' : ConcreteState) (t : ℕ) (e : Event) → step_of p k t ≡ Ok (k', e)
+    → is_piece e.name ≡ false
+whole_so p k k' t e h = (owns p k k' t e h).1

@@ -1,5 +1,5 @@
 -- What a machine and the phases of its threads stand for, and what its piece of a futex call does.
-use Rattle.std.specs.Prelude.{ℕ, ◌≡◌, ◌≢◌, ◌%◌, ◌+◌, List, [], Some, length}
+use Rattle.std.specs.Prelude.{ℕ, ◌≡◌, ◌≢◌, ◌%◌, ◌+◌, Bool, true, false, List, [], Some, length}
 use Rattle.words.specs.Updates.{put}
 use Rattle.buckets.specs.Sleepers.{Sleepers, queue, bucket_count, holder_of}
 use Rattle.futexcalls.specs.Answers.{word_of}
@@ -50,6 +50,12 @@ abbrev pub call_name : FutexCall → EventName
 call_name (Wait a expected) = name.Wait
 call_name (Wake a wakes) = name.Wake
 call_name (Requeue a b wakes moves expected) = name.Requeue
+
+-- whether an event of this name is told of a piece behind which its call goes on
+abbrev pub is_piece : EventName → Bool
+is_piece name.FutexLock = true
+is_piece name.FutexCompare = true
+is_piece _ = false
 
 -- whom an answered call woke, and whom it moved
 abbrev pub woken_in : FutexAnswer → List ℕ

@@ -33,6 +33,10 @@ pub enum EventName {
     Wake,
     /// A compare-requeue: how many were woken or moved, or 4294967295 for Again (futex(2), FUTEX_CMP_REQUEUE).
     Requeue,
+    /// The piece of a futex call that takes a bucket: the bucket's number.
+    FutexLock,
+    /// The piece of a wait or a compare-requeue that finds its word as expected: the word.
+    FutexCompare,
     /// The return of the last frame: 16, the outcome word of a process that ended.
     Ret,
     /// The return of the last frame with a value: the value.

@@ -32,6 +32,8 @@ name_of n =
     else if n == 19 then Some name.Last
     else if n == 20 then Some name.Stray
     else if n == 21 then Some name.Kill
+    else if n == 22 then Some name.FutexLock
+    else if n == 23 then Some name.FutexCompare
     else None
 
 -- the parts of a head

@@ -14,7 +14,7 @@
 //! | 28 to 59 | 32 | the step's value |
 //! | 60 to 63 | 4 | 0 |
 //!
-//! The numbers of 1,000 threads have room, and so have 10 kinds more. Sets of so many threads will want two forms, one
+//! The numbers of 1,000 threads have room, and so have 8 kinds more. Sets of so many threads will want two forms, one
 //! thread in 8 bytes and several as bits in 128: the numbers 2 and 3 of bits 24 to 27 are free for that.
 //!
 //! An entry of a thread above 1,023, or of more than 511 local steps, has no head. From the first such entry on a log's

@@ -31,6 +31,8 @@ pub fn number_of(name: EventName) -> u64
         EventName::Last => 19,
         EventName::Stray => 20,
         EventName::Kill => 21,
+        EventName::FutexLock => 22,
+        EventName::FutexCompare => 23,
     }
 }
 
@@ -60,6 +62,8 @@ pub fn name_at(number: u64) -> Option<EventName>
         19 => Some(EventName::Last),
         20 => Some(EventName::Stray),
         21 => Some(EventName::Kill),
+        22 => Some(EventName::FutexLock),
+        23 => Some(EventName::FutexCompare),
         _ => None,
     }
 }
