@@ -2,43 +2,39 @@
 use Rattle.std.proofs.Common.{◌≡◌, ℕ, Result, Ok, Err, refl, ap}
 use Rattle.std.proofs.Common.{subst}
 use Rattle.isa.specs.Programs.{Program}
-use Rattle.machine.specs.declared.event.Event.{Event as Told}
+use Rattle.machine.specs.declared.event.Event.{Event}
 use Rattle.machine.specs.declared.event.StepFault.{StepFault}
 use Rattle.machine.specs.declared.event.StepFault.TheVariants.{CannotMove}
 use Rattle.machine.specs.States.{ConcreteState}
 use Rattle.machine.specs.ConcreteOutside.{stray_of, kill_of}
 use Rattle.machine.specs.PieceStates.{opening_pieces}
 use Rattle.machine.proofs.Killing.{kill_refused_so}
-use Rattle.machine.proofs.Outside.{strays_so, stray_refused_so}
+use Rattle.machine.proofs.Outside.{strays_so, stray_refused_so, stray_told}
 use Rattle.machine.proofs.Stepping.{opens_so}
 use Rattle.proof_pieces.proofs.Runs.{held_kept}
 use Rattle.piece_machine.specs.PieceViews.{Strays, Kills, stray_step}
-use Rattle.piece_machine.specs.PieceConcrete.{PieceConcrete, OutsideOutcome, pieces_at, strayed_at, killed_at}
+use Rattle.piece_machine.specs.PieceConcrete.{PieceConcrete, Outcome, pieces_at, whole_at, killed_at}
 use Rattle.piece_machine.specs.PieceDetermined.{IsFit, PieceStraysSo, PieceStrayRefusedSo, PieceKillsSo}
 use Rattle.piece_machine.specs.PieceDetermined.{PieceKillRefusedSo, PiecesOpenSo}
 use Rattle.piece_machine.proofs.Killed.{kill_done}
+use Rattle.piece_machine.proofs.Refused.{whole_err}
 
-inside : (x y : PieceConcrete × Told) → (let a : OutsideOutcome = Ok x in a) ≡ (let b : OutsideOutcome = Ok y in b) → x ≡ y
+inside : (x y : PieceConcrete × Event) → (let a : Outcome = Ok x in a) ≡ (let b : Outcome = Ok y in b) → x ≡ y
 inside x y h = cc
 
-strayed_err : (k : PieceConcrete) (r : Result (ConcreteState × Told) StepFault) (f : StepFault) → strayed_at k r ≡ Err f
-    → r ≡ Err f
-strayed_err k (Ok q) f h = absurd cc
-strayed_err k (Err g) f h = let e : g ≡ f = cc in ap (λ x. Err x) e
-
-killed_err : (p : Program) (k : PieceConcrete) (t : ℕ) (r : Result (ConcreteState × Told) StepFault) (f : StepFault)
+killed_err : (p : Program) (k : PieceConcrete) (t : ℕ) (r : Result (ConcreteState × Event) StepFault) (f : StepFault)
     → killed_at p k t r ≡ Err f → r ≡ Err f
 killed_err p k t (Ok q) f h = absurd cc
 killed_err p k t (Err g) f h = let e : g ≡ f = cc in ap (λ x. Err x) e
 
 -- a wake from outside
-pub stray_done : (p : Program) (k : PieceConcrete) (c : ConcreteState) (t : ℕ) (e : Told) → IsFit p k
+pub stray_done : (p : Program) (k : PieceConcrete) (c : ConcreteState) (t : ℕ) (e : Event) → IsFit p k
     → stray_of k.concrete t ≡ Ok (c, e)
     → Strays p (pieces_at k) t e (pieces_at (record k { concrete = c })) × IsFit p (record k { concrete = c })
 stray_done p k c t e fit done =
     let r = strays_so p k.concrete c t e fit.well done in
     let s : Strays p (pieces_at k) t e (pieces_at (record k { concrete = c })) =
-    record { step = record { strays = r.1; others = refl }; told = r.0 } in (
+    record { step = record { strays = r.1; others = refl }; doing = stray_told k.concrete c t e done; told = r.0 } in (
       s,
       record {
         well = r.2;
@@ -46,11 +42,11 @@ stray_done p k c t e fit done =
       },
     )
 
-strays_by : (p : Program) (k k' : PieceConcrete) (t : ℕ) (e : Told) (r : Result (ConcreteState × Told) StepFault)
-    → IsFit p k → stray_of k.concrete t ≡ r → strayed_at k r ≡ Ok (k', e)
+strays_by : (p : Program) (k k' : PieceConcrete) (t : ℕ) (e : Event) (r : Result (ConcreteState × Event) StepFault)
+    → IsFit p k → stray_of k.concrete t ≡ r → whole_at k r ≡ Ok (k', e)
     → Strays p (pieces_at k) t e (pieces_at k') × IsFit p k'
 strays_by p k k' t e (Ok q) fit done h =
-    subst (λ (z : PieceConcrete × Told). Strays p (pieces_at k) t z.1 (pieces_at z.0) × IsFit p z.0)
+    subst (λ (z : PieceConcrete × Event). Strays p (pieces_at k) t z.1 (pieces_at z.0) × IsFit p z.0)
     (inside _ (k', e) h) (stray_done p k q.0 t q.1 fit done)
 strays_by p k k' t e (Err f) fit done h = absurd cc
 
@@ -59,16 +55,16 @@ piece_strays_so p k k' t e fit h = strays_by p k k' t e (stray_of k.concrete t) 
 
 pub piece_stray_refused_so : PieceStrayRefusedSo
 piece_stray_refused_so k t = (
-  λ h. (stray_refused_so k.concrete t).0 (strayed_err k (stray_of k.concrete t) CannotMove h),
-  λ h. ap (strayed_at k) ((stray_refused_so k.concrete t).1 h),
+  λ h. (stray_refused_so k.concrete t).0 (whole_err k (stray_of k.concrete t) CannotMove h),
+  λ h. ap (whole_at k) ((stray_refused_so k.concrete t).1 h),
 )
 
 -- a kill
-kills_by : (p : Program) (k k' : PieceConcrete) (t : ℕ) (e : Told) (r : Result (ConcreteState × Told) StepFault)
+kills_by : (p : Program) (k k' : PieceConcrete) (t : ℕ) (e : Event) (r : Result (ConcreteState × Event) StepFault)
     → IsFit p k → kill_of k.concrete t ≡ r → killed_at p k t r ≡ Ok (k', e)
     → Kills p (pieces_at k) t e (pieces_at k') × IsFit p k'
 kills_by p k k' t e (Ok q) fit done h =
-    subst (λ (z : PieceConcrete × Told). Kills p (pieces_at k) t z.1 (pieces_at z.0) × IsFit p z.0)
+    subst (λ (z : PieceConcrete × Event). Kills p (pieces_at k) t z.1 (pieces_at z.0) × IsFit p z.0)
     (inside _ (k', e) h) (kill_done p k q.0 t q.1 fit done)
 kills_by p k k' t e (Err f) fit done h = absurd cc
 

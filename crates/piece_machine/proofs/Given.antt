@@ -6,7 +6,7 @@ use Rattle.isa.specs.Programs.{Program}
 use Rattle.futexcalls.specs.declared.pieces.FutexCall.{FutexCall}
 use Rattle.locals.specs.Threads.{Thread}
 use Rattle.locals.specs.Looks.{Look, Goes, Asks, Leaves, Breaks, Rests, look}
-use Rattle.machine.specs.declared.event.Event.{Event as Told}
+use Rattle.machine.specs.declared.event.Event.{Event}
 use Rattle.machine.specs.declared.event.StepFault.{StepFault}
 use Rattle.machine.specs.declared.event.StepFault.TheVariants.{CannotMove, Broken}
 use Rattle.machine.specs.States.{ConcreteState}
@@ -22,7 +22,8 @@ use Rattle.piece_machine.specs.PieceConcrete.{piece_fault_at}
 use Rattle.piece_machine.specs.PieceDetermined.{IsFit}
 use Rattle.piece_machine.proofs.OwnCalls.{call_back, call_blocks, in_the_way, breaks}
 use Rattle.piece_machine.proofs.Wanted.{lies_test, blocks_so}
-use Rattle.piece_machine.proofs.Determined.{Calls, Stands, apart}
+use Rattle.piece_machine.specs.PieceTaken.{Calls}
+use Rattle.piece_machine.proofs.Cases.{Stands, apart}
 use Rattle.piece_machine.proofs.Refused.{piece_not, piece_held, there_of, piece_breaks_so, piece_refuses_so}
 
 -- the step of a thread that is awake, by what it looks like
@@ -104,7 +105,7 @@ led_refuses k t here call (Some CannotMove) h = h
 led_refuses k t here call (Some Broken) h = h
 
 -- and where it is none
-whole_fault : (k : PieceConcrete) (r : Result (ConcreteState × Told) StepFault) → fault_of (whole_at k r) ≡ fault_of r
+whole_fault : (k : PieceConcrete) (r : Result (ConcreteState × Event) StepFault) → fault_of (whole_at k r) ≡ fault_of r
 whole_fault k (Ok q) = refl
 whole_fault k (Err f) = refl
 

@@ -22,7 +22,7 @@ use Rattle.machine.specs.ConcretePieces.{pieces_of}
 use Rattle.machine.specs.PieceStates.{PieceState, held, called, IsHeldRight}
 use Rattle.machine.specs.PieceSteps.{killed_piece}
 use Rattle.machine.specs.Views.{View, concrete}
-use Rattle.machine.proofs.Killing.{kills_so}
+use Rattle.machine.proofs.Killing.{kills_so, kill_told}
 use Rattle.machine.proofs.Placing.{put-here, put-there}
 use Rattle.proof_pieces.proofs.Calls.{asks_alive}
 use Rattle.proof_pieces.proofs.Runs.{held_kept}
@@ -84,6 +84,7 @@ kill_done p k c t e fit done =
         kills = r.1;
         after = killed_is p k c t r.1.thread (e.value == 1) fit.right r.1.stands r.1.begins_so r.1.after;
       };
+      doing = kill_told k.concrete c t e done;
       told = r.0;
     } in (
       s,

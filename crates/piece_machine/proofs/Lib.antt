@@ -4,6 +4,7 @@ pub mod Blocked
 pub mod Killed
 pub mod Wanted
 pub mod Acted
+pub mod Cases
 pub mod Determined
 pub mod Refused
 pub mod Given
@@ -11,3 +12,4 @@ pub mod Chosen
 pub mod Taken
 pub mod Beyond
 pub mod Locally
+pub mod Fronts

@@ -20,7 +20,8 @@ use Rattle.machine.proofs.Refusing.{moves_so}
 use Rattle.piece_machine.specs.PieceConcrete.{PieceConcrete, pieces_at, with_local}
 use Rattle.piece_machine.specs.PieceDetermined.{IsFit}
 use Rattle.piece_machine.specs.PieceViews.{parts, own_step, IsKept, IsComeTo, GoesTo}
-use Rattle.piece_machine.proofs.Determined.{Stands, apart, whole_done}
+use Rattle.piece_machine.proofs.Cases.{Stands, apart}
+use Rattle.piece_machine.proofs.Determined.{whole_done}
 use Rattle.piece_machine.proofs.Owns.{goes_more, kept_fit}
 
 set_twice : {A : Type 0} → (xs : List A) (i : ℕ) (x y : A) → slice_set (slice_set xs i x) i y ≡ slice_set xs i y

@@ -12,7 +12,7 @@ use Rattle.futexcalls.specs.Pieces.{takes_at, after_lock, IsPhase, LiesIn}
 use Rattle.robustexit.specs.declared.phase.ExitPhase.TheVariants.{Entry, Pending, ClearId, LastWake, Ended}
 use Rattle.locals.specs.Threads.{Thread, Runs, Dies, Exits}
 use Rattle.locals.specs.Looks.{Request, Look, Goes, Asks, Leaves, Breaks, Rests, look}
-use Rattle.machine.specs.declared.event.Event.{Event as Told}
+use Rattle.machine.specs.declared.event.Event.{Event}
 use Rattle.machine.specs.declared.event.StepFault.{StepFault}
 use Rattle.machine.specs.declared.event.StepFault.TheVariants.{CannotMove, Broken}
 use Rattle.machine.specs.States.{ConcreteState, thread_of, state_of}
@@ -22,7 +22,6 @@ use Rattle.machine.specs.ConcreteSteps.{step_of}
 use Rattle.machine.specs.PieceStates.{request_of, call_of, call_at}
 use Rattle.machine.specs.PieceSteps.{BlocksAt, BlocksCall, CanTakePiece, NextPieceIsBroken}
 use Rattle.machine.proofs.Refusing.{breaks_so, refuses_so}
-use Rattle.piece_machine.specs.declared.piece_event.PieceEvent.{PieceEvent}
 use Rattle.piece_machine.specs.PieceConcrete.{PieceConcrete, Outcome, pieces_at, lies_in, wanted, is_held, whole_at}
 use Rattle.piece_machine.specs.PieceConcrete.{lock_at, take_at, compare_at, piece_at, call_step, look_step}
 use Rattle.piece_machine.specs.PieceConcrete.{awake_step, thread_step}
@@ -30,13 +29,13 @@ use Rattle.piece_machine.specs.PieceDetermined.{IsFit, PieceBreaksSo, PieceRefus
 use Rattle.piece_machine.proofs.OwnCalls.{one_thread, stands_in, told_call, breaks}
 use Rattle.piece_machine.proofs.Owns.{apart_first}
 use Rattle.piece_machine.proofs.Wanted.{lies_so, lies_test, lies_not, blocks_so, blocks_test}
-use Rattle.piece_machine.proofs.Determined.{Stands}
+use Rattle.piece_machine.proofs.Cases.{Stands}
 
 apart_faults : (let a : Outcome = Err CannotMove in a) ≡ (let b : Outcome = Err Broken in b) → ⊥
 apart_faults h = cc
 
 -- a step of the whole machine that is refused
-whole_err : (k : PieceConcrete) (r : Result (ConcreteState × Told) StepFault) (f : StepFault) → whole_at k r ≡ Err f → r ≡ Err f
+pub whole_err : (k : PieceConcrete) (r : Result (ConcreteState × Event) StepFault) (f : StepFault) → whole_at k r ≡ Err f → r ≡ Err f
 whole_err k (Ok q) f h = absurd cc
 whole_err k (Err g) f h = let e : g ≡ f = cc in ap (λ x. Err x) e
 
@@ -49,7 +48,7 @@ take_not : (k : PieceConcrete) (t : ℕ) (next : FutexPhase) (o : Option ℕ) �
 take_not k t next None h = cc
 take_not k t next (Some b) h = lock_not k t next b (k.holder b) h
 
-never_err : (b : Bool) (x y : PieceConcrete × PieceEvent) (f : StepFault)
+never_err : (b : Bool) (x y : PieceConcrete × Event) (f : StepFault)
     → (let r : Outcome = if b then Ok x else Ok y in r) ≡ Err f → ⊥
 never_err true x y f h = cc
 never_err false x y f h = cc

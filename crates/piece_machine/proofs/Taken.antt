@@ -18,18 +18,17 @@ use Rattle.futexcalls.specs.PieceResults.{woken_by, moved_by, queue_by}
 use Rattle.locals.specs.Threads.{Thread}
 use Rattle.locals.specs.Looks.{Request, Look, Asks, look}
 use Rattle.machine.specs.declared.call_step.CallStep.TheVariants.{Next, Done}
-use Rattle.machine.specs.declared.event.Event.{Event as Told}
+use Rattle.machine.specs.declared.event.Event.{Event}
+use Rattle.machine.specs.declared.event.EventName.TheVariants as name
 use Rattle.machine.specs.States.{thread_at, state_of, with_sleepers}
-use Rattle.machine.specs.ConcreteServing.{load, event_of}
+use Rattle.machine.specs.ConcreteServing.{load, event_of, plain}
 use Rattle.machine.specs.ConcreteSteps.{step_of}
 use Rattle.machine.specs.ConcretePieces.{call_name, MakesCall, DoesPiece, QueuesSo}
 use Rattle.machine.specs.PieceStates.{PieceState, request_of, call_of}
 use Rattle.machine.specs.PieceSteps.{Piece, IsLocal, IsPlain, IsExit, IsLock, IsEqual, IsAgain, IsAct, goes_outside}
 use Rattle.machine.specs.Views.{View, concrete, IsWellFormed}
 use Rattle.machine.proofs.Placing.{put-here}
-use Rattle.piece_machine.specs.declared.piece_event.PieceEvent.{PieceEvent}
-use Rattle.piece_machine.specs.declared.piece_event.PieceEvent.TheVariants as told
-use Rattle.piece_machine.specs.PieceViews.{IsApart, phase_in, parts, own_step, expected_of, IsKept}
+use Rattle.piece_machine.specs.PieceViews.{IsApart, phase_in, parts, own_step, expected_of, told_next, IsKept}
 use Rattle.piece_machine.specs.PieceConcrete.{PieceConcrete, pieces_at, lock_at, over, compare_at}
 use Rattle.piece_machine.specs.PieceConcrete.{places_by, acted, piece_at, piece_of, whole_at}
 use Rattle.piece_machine.specs.PieceDetermined.{IsFit}
@@ -37,7 +36,8 @@ use Rattle.piece_machine.proofs.OwnCalls.{call_back, one_call, one_thread}
 use Rattle.piece_machine.proofs.Owns.{phase_put, has_phase, same_parts, kept_fit, kept_by}
 use Rattle.piece_machine.proofs.Acted.{acted_so}
 use Rattle.piece_machine.proofs.Chosen.{one_asleep, as_many}
-use Rattle.piece_machine.proofs.Determined.{Calls, over_state, act_done, compares_none, piece_steps_so}
+use Rattle.piece_machine.specs.PieceTaken.{Calls}
+use Rattle.piece_machine.proofs.Determined.{over_state, act_done, compares_none, piece_steps_so}
 use Rattle.piece_machine.proofs.Refused.{lock_is}
 use Rattle.piece_machine.proofs.Given.{call_is, whole_is}
 
@@ -89,7 +89,7 @@ other_ask r call f g l at there none =
 -- the word is as expected, or differs
 equal_is : (k : PieceConcrete) (t : ℕ) (call : FutexCall) (go : ℕ → Thread) (a v : ℕ) → Compares call a v
     → load k.concrete.common a ≡ v
-    → compare_at k t call go ≡ Ok (record k { phase = put k.phase t Act }, told.Compare (expected_of call))
+    → compare_at k t call go ≡ Ok (record k { phase = put k.phase t Act }, plain name.FutexCompare (expected_of call))
 equal_is k t (Wait at expected) go a v is equal =
     cond-true _ _ _ (eq-eqb _ _ (ap (load k.concrete.common) is.0 ∙ equal ∙ sym is.1))
 equal_is k t (Wake at wakes) go a v is equal = absurd is
@@ -106,10 +106,6 @@ again_is k t (Requeue at b wakes moves expected) go a v is differs = cond-false 
     (sym (ap (load k.concrete.common) is.0) ∙ e ∙ is.1)))
 
 -- a piece behind which the call goes on
-abbrev pub told_next : Option ℕ → FutexCall → PieceEvent
-told_next (Some b) call = told.Lock b
-told_next None call = told.Compare (expected_of call)
-
 next_gives : (p : Program) (k k' : PieceConcrete) (t : ℕ) (call : FutexCall) (go : ℕ → Thread)
     → (calls : Calls p k t call go) → (k'.phase t ≡ First → ⊥)
     → k.concrete.common.queue ≡ k'.concrete.common.queue → Piece p (pieces_at k) t calls.thread [] (pieces_at k')
@@ -150,9 +146,9 @@ next_gives p k k' t call go calls later queue (IsAct other f moved after asks at
 
 -- the comparison by which it is over
 again_gives : (p : Program) (k k' : PieceConcrete) (t : ℕ) (call : FutexCall) (go : ℕ → Thread) (woken : List ℕ)
-    (event : Told) → (calls : Calls p k t call go) → k.phase t ≡ Compare → k'.phase t ≡ First
+    (event : Event) → (calls : Calls p k t call go) → k.phase t ≡ Compare → k'.phase t ≡ First
     → k.concrete.common.queue ≡ k'.concrete.common.queue → event ≡ event_of (call_name call) (again_of call) [] []
-    → Piece p (pieces_at k) t calls.thread woken (pieces_at k') → piece_of p k t ≡ Ok (k', told.Event event)
+    → Piece p (pieces_at k) t calls.thread woken (pieces_at k') → piece_of p k t ≡ Ok (k', event)
 again_gives p k k' t call go woken event calls at out queue is (IsLocal y looks first none to) =
     absurd (let e = sym looks ∙ calls.asks in cc)
 again_gives p k k' t call go woken event calls at out queue is (IsPlain request f answer mid asks none first serves to) =
@@ -180,18 +176,18 @@ again_gives p k k' t call go woken event calls at out queue is (IsAgain other f 
     (sym same.1 i (again_of (sym same.0 i)))) ∙ sym to in
     call_is p k t call go calls ∙ ap (piece_at k t call go) at
     ∙ again_is k t call go a v (subst (λ (c : FutexCall). Compares c a v) same.0 compares) differs
-    ∙ (λ i. Ok (one_concrete k1 k' ends queue i, told.Event (sym is i)))
+    ∙ (λ i. Ok (one_concrete k1 k' ends queue i, sym is i))
 again_gives p k k' t call go woken event calls at out queue is (IsAct other f moved after asks there acts to) =
     absurd (let e : Compare ≡ Act = sym at ∙ there in cc)
 
 -- the act
 act_gives : (p : Program) (k k' : PieceConcrete) (t : ℕ) (call : FutexCall) (go : ℕ → Thread) (woken : List ℕ)
-    (event : Told) → IsFit p k → IsWellFormed p k'.concrete → (calls : Calls p k t call go) → k.phase t ≡ Act
+    (event : Event) → IsFit p k → IsWellFormed p k'.concrete → (calls : Calls p k t call go) → k.phase t ≡ Act
     → queue_by t call k.concrete.common.queue ≡ k'.concrete.common.queue
     → event ≡ event_of (call_name call)
     (length (woken_by call k.concrete.common.queue) + length (moved_by call k.concrete.common.queue))
     (woken_by call k.concrete.common.queue) (moved_by call k.concrete.common.queue)
-    → Piece p (pieces_at k) t calls.thread woken (pieces_at k') → piece_of p k t ≡ Ok (k', told.Event event)
+    → Piece p (pieces_at k) t calls.thread woken (pieces_at k') → piece_of p k t ≡ Ok (k', event)
 act_gives p k k' t call go woken event fit well calls at queue is (IsLocal y looks first none to) =
     absurd (let e = sym looks ∙ calls.asks in cc)
 act_gives p k k' t call go woken event fit well calls at queue is (IsPlain request f answer mid asks none first serves to) =
@@ -215,8 +211,7 @@ act_gives p k k' t call go woken event fit well calls at queue is (IsAct other f
       phase = put k.phase t First;
       holder = with_place k.holder (buckets_of k.buckets call) None;
     } in
-    let fit1 : IsFit p k1 = (act_done p k t call go fit calls at
-    (k1, told.Event (event_of (call_name call) (length first + length rest) first rest)) refl).1 in
+    let fit1 : IsFit p k1 = (act_done p k t call go fit calls at).1 in
     let left : k'.concrete.common.asleep ≡ after = ap (λ (s : PieceState). s.base.asleep) to in
     let places : places_by t call c.queue c.asleep ≡ after =
     one_asleep k'.concrete.common.queue (places_by t call c.queue c.asleep) k'.concrete.common.asleep
@@ -230,7 +225,7 @@ act_gives p k k' t call go woken event fit well calls at queue is (IsAct other f
     ∙ (λ i. goes_outside (pieces_at k) t (with_sleepers (state_of k.concrete) (places i))
     (buckets_of k.buckets (sym same.0 i)) (sym same.1 i (counts i))) ∙ sym to in
     call_is p k t call go calls ∙ ap (piece_at k t call go) at
-    ∙ (λ i. Ok (one_concrete k1 k' ends queue i, told.Event (sym is i)))
+    ∙ (λ i. Ok (one_concrete k1 k' ends queue i, sym is i))
 
 -- the same of a machine and its phases
 abbrev makes_so : (v : View) (phases : List FutexPhase) (t : ℕ) (call : FutexCall) → (m : MakesCall v t call)
@@ -268,13 +263,13 @@ taken_next v v' phases t call phase next kept m lies awake at order piece =
       told_next (takes_at (bucket_count v.sleepers) (at i) call) call,
     ))
 
-taken_at : (v v' : View) (phases : List FutexPhase) (t : ℕ) (call : FutexCall) (phase : FutexPhase) (event : Told)
+taken_at : (v v' : View) (phases : List FutexPhase) (t : ℕ) (call : FutexCall) (phase : FutexPhase) (event : Event)
     → IsKept v phases → (m : MakesCall v t call) → LiesIn (length v.words) call
     → (state_of (concrete v)).asleep t ≡ None → phase_in phases t ≡ phase → IsWellFormed v.program (concrete v')
     → QueuesSo v.sleepers t call phase (Done event) v'.sleepers
     → DoesPiece v (phase_in phases) t call m.thread (Done event) v'
     → piece_of v.program (parts (record { view = v; phases = phases })) t
-    ≡ Ok (at_phase v' phases t First, told.Event event)
+    ≡ Ok (at_phase v' phases t First, event)
 taken_at v v' phases t call First event kept m lies awake at well order piece = absurd order
 taken_at v v' phases t call Second event kept m lies awake at well order piece = absurd order
 taken_at v v' phases t call Compare event kept m lies awake at well order piece =
@@ -285,30 +280,30 @@ taken_at v v' phases t call Act event kept m lies awake at well order piece =
     act_gives v.program (parts (record { view = v; phases = phases })) (at_phase v' phases t First) t call m.go
     piece.0 event (kept_fit v phases kept) well (makes_so v phases t call m lies awake) at (sym order.0) order.1 piece.4
 
-pub taken_done : (v v' : View) (phases : List FutexPhase) (t : ℕ) (call : FutexCall) (phase : FutexPhase) (event : Told)
+pub taken_done : (v v' : View) (phases : List FutexPhase) (t : ℕ) (call : FutexCall) (phase : FutexPhase) (event : Event)
     → IsKept v phases → (m : MakesCall v t call) → LiesIn (length v.words) call
     → (state_of (concrete v)).asleep t ≡ None → phase_in phases t ≡ phase → IsWellFormed v.program (concrete v')
     → QueuesSo v.sleepers t call phase (Done event) v'.sleepers
     → DoesPiece v (phase_in phases) t call m.thread (Done event) v'
     → piece_of v.program (parts (record { view = v; phases = phases })) t
-    ≡ Ok (parts (record { view = v'; phases = slice_set phases t First }), told.Event event)
+    ≡ Ok (parts (record { view = v'; phases = slice_set phases t First }), event)
 taken_done v v' phases t call phase event kept m lies awake at well order piece =
     taken_at v v' phases t call phase event kept m lies awake at well order piece
-    ∙ (λ i. Ok (parts_put v v' phases t call First kept m i, told.Event event))
+    ∙ (λ i. Ok (parts_put v v' phases t call First kept m i, event))
 
 -- a step that is none of a call
-pub whole_gives : (v v' : View) (phases : List FutexPhase) (t : ℕ) (event : Told)
+pub whole_gives : (v v' : View) (phases : List FutexPhase) (t : ℕ) (event : Event)
     → IsApart v.program (pieces_at (parts (record { view = v; phases = phases }))) t
     → v'.sleepers.holders ≡ v.sleepers.holders → step_of v.program (concrete v) t ≡ Ok (concrete v', event)
     → piece_of v.program (parts (record { view = v; phases = phases })) t
-    ≡ Ok (parts (record { view = v'; phases = phases }), told.Event event)
+    ≡ Ok (parts (record { view = v'; phases = phases }), event)
 whole_gives v v' phases t event apart holders done =
     let k = parts (record { view = v; phases = phases }) in
     whole_is v.program k t apart ∙ ap (whole_at k) done
-    ∙ (λ i. Ok (sym (same_parts v v' phases holders) i, told.Event event))
+    ∙ (λ i. Ok (sym (same_parts v v' phases holders) i, event))
 
 -- a step keeps what always holds
-pub kept_step : (v v' : View) (phases phases' : List FutexPhase) (t : ℕ) (e : PieceEvent) → IsKept v phases
+pub kept_step : (v v' : View) (phases phases' : List FutexPhase) (t : ℕ) (e : Event) → IsKept v phases
     → v'.program ≡ v.program → length phases' ≡ length phases
     → piece_of v.program (parts (record { view = v; phases = phases })) t
     ≡ Ok (parts (record { view = v'; phases = phases' }), e) → IsKept v' phases'

@@ -1,3 +1,5 @@
 pub mod PieceConcrete
 pub mod PieceViews
 pub mod PieceDetermined
+pub mod PieceTaken
+pub mod PieceFronts

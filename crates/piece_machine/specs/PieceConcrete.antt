@@ -17,18 +17,17 @@ use Rattle.robustexit.specs.declared.phase.ExitPhase.{ExitPhase}
 use Rattle.robustexit.specs.declared.phase.ExitPhase.TheVariants.{Entry, Pending, ClearId, LastWake, Ended}
 use Rattle.locals.specs.Threads.{Thread}
 use Rattle.locals.specs.Looks.{Look, Goes, Asks, Leaves, Breaks, Rests, look}
-use Rattle.machine.specs.declared.event.Event.{Event as Told}
+use Rattle.machine.specs.declared.event.Event.{Event}
+use Rattle.machine.specs.declared.event.EventName.TheVariants as name
 use Rattle.machine.specs.declared.event.StepFault.{StepFault}
 use Rattle.machine.specs.declared.event.StepFault.TheVariants.{CannotMove, Broken}
 use Rattle.machine.specs.States.{Common, ConcreteState, thread_of, state_of, opening_concrete}
-use Rattle.machine.specs.ConcreteServing.{event_of, load}
+use Rattle.machine.specs.ConcreteServing.{event_of, plain, load}
 use Rattle.machine.specs.ConcreteExits.{is_entry}
 use Rattle.machine.specs.ConcreteSteps.{step_of, can_move, put_thread, fault_of}
 use Rattle.machine.specs.ConcreteOutside.{stray_of, kill_of}
 use Rattle.machine.specs.ConcretePieces.{call_name}
 use Rattle.machine.specs.PieceStates.{PieceState, call_of, held}
-use Rattle.piece_machine.specs.declared.piece_event.PieceEvent.{PieceEvent}
-use Rattle.piece_machine.specs.declared.piece_event.PieceEvent.TheVariants as told
 
 -- what a machine keeps; the phase of each thread, which is the first for a thread outside calls; the holder of each
 -- bucket, if it has one; and how many buckets there are
@@ -54,10 +53,7 @@ opening_at p n = record {
 
 -- what comes of a step, and of what comes from outside
 abbrev pub Outcome : Type 0
-Outcome = Result (PieceConcrete × PieceEvent) StepFault
-
-abbrev pub OutsideOutcome : Type 0
-OutsideOutcome = Result (PieceConcrete × Told) StepFault
+Outcome = Result (PieceConcrete × Event) StepFault
 
 -- whether the words of a call lie in a memory of this size
 abbrev pub lies_in : ℕ → FutexCall → Bool
@@ -115,16 +111,16 @@ is_blocked p k t (Some x) = is_held k (wanted k t (look p t x))
 abbrev pub can_take : Program → PieceConcrete → ℕ → Bool
 can_take p k t = can_move k.concrete t && not (is_blocked p k t (thread_of k.concrete t))
 
--- a step that is none of a call
-abbrev pub whole_at : PieceConcrete → Result (ConcreteState × Told) StepFault → Outcome
-whole_at k (Ok r) = Ok (record k { concrete = r.0 }, told.Event r.1)
+-- a step that is none of a call, and changes no phase and no holder
+abbrev pub whole_at : PieceConcrete → Result (ConcreteState × Event) StepFault → Outcome
+whole_at k (Ok r) = Ok (record k { concrete = r.0 }, r.1)
 whole_at k (Err fault) = Err fault
 
 -- thread t takes a bucket, unless a thread holds it
 abbrev pub lock_at : PieceConcrete → ℕ → FutexPhase → ℕ → Option ℕ → Outcome
 lock_at k t next b None = Ok (
   record k { phase = put k.phase t next; holder = put k.holder b (Some t) },
-  told.Lock b,
+  plain name.FutexLock b,
 )
 lock_at k t next b (Some u) = Err CannotMove
 
@@ -133,21 +129,22 @@ take_at k t next None = Err CannotMove
 take_at k t next (Some b) = lock_at k t next b (k.holder b)
 
 -- the call of thread t is over: it goes on with the answer, and has given its buckets up
+abbrev pub over_at : PieceConcrete → ℕ → FutexCall → (ℕ → Thread) → Common → ℕ → PieceConcrete
+over_at k t call go c answer = record k {
+  concrete = record { common = c; threads = slice_set k.concrete.threads (t - 1) (go answer) };
+  phase = put k.phase t First;
+  holder = with_place k.holder (buckets_of k.buckets call) None;
+}
+
 abbrev pub over : PieceConcrete → ℕ → FutexCall → (ℕ → Thread) → Common → ℕ → List ℕ → List ℕ → Outcome
-over k t call go c answer woken moved = Ok (
-  record k {
-    concrete = record { common = c; threads = slice_set k.concrete.threads (t - 1) (go answer) };
-    phase = put k.phase t First;
-    holder = with_place k.holder (buckets_of k.buckets call) None;
-  },
-  told.Event (event_of (call_name call) answer woken moved),
-)
+over k t call go c answer woken moved =
+    Ok (over_at k t call go c answer, event_of (call_name call) answer woken moved)
 
 -- the word is compared
 abbrev pub compare_word : PieceConcrete → ℕ → FutexCall → (ℕ → Thread) → ℕ → ℕ → Outcome
 compare_word k t call go a expected =
     if load k.concrete.common a == expected
-    then Ok (record k { phase = put k.phase t Act }, told.Compare expected)
+    then Ok (record k { phase = put k.phase t Act }, plain name.FutexCompare expected)
     else over k t call go k.concrete.common (again_of call) [] []
 
 abbrev pub compare_at : PieceConcrete → ℕ → FutexCall → (ℕ → Thread) → Outcome
@@ -219,12 +216,8 @@ abbrev pub piece_fault_at : Program → PieceConcrete → ℕ → Thread → Opt
 piece_fault_at p k t x = fault_of (piece_of p (with_local k t x) t)
 
 -- a wake of thread t from outside
-abbrev pub strayed_at : PieceConcrete → Result (ConcreteState × Told) StepFault → OutsideOutcome
-strayed_at k (Ok r) = Ok (record k { concrete = r.0 }, r.1)
-strayed_at k (Err fault) = Err fault
-
-abbrev pub stray_piece : PieceConcrete → ℕ → OutsideOutcome
-stray_piece k t = strayed_at k (stray_of k.concrete t)
+abbrev pub stray_piece : PieceConcrete → ℕ → Outcome
+stray_piece k t = whole_at k (stray_of k.concrete t)
 
 -- thread t stands outside calls, and holds no bucket
 abbrev pub killed : Program → PieceConcrete → ℕ → ConcreteState → PieceConcrete
@@ -235,9 +228,9 @@ killed p k t c = record k {
 }
 
 -- a kill of thread t from outside
-abbrev pub killed_at : Program → PieceConcrete → ℕ → Result (ConcreteState × Told) StepFault → OutsideOutcome
+abbrev pub killed_at : Program → PieceConcrete → ℕ → Result (ConcreteState × Event) StepFault → Outcome
 killed_at p k t (Ok r) = Ok (killed p k t r.0, r.1)
 killed_at p k t (Err fault) = Err fault
 
-abbrev pub kill_piece : Program → PieceConcrete → ℕ → OutsideOutcome
+abbrev pub kill_piece : Program → PieceConcrete → ℕ → Outcome
 kill_piece p k t = killed_at p k t (kill_of k.concrete t)

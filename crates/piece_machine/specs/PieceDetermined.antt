@@ -1,12 +1,11 @@
 -- The steps of the machine with pieces, as functions, are those of the relation.
 use Rattle.std.specs.Prelude.{ℕ, ◌≡◌, ◌↔◌, true, Ok, Err}
 use Rattle.isa.specs.Programs.{Program}
-use Rattle.machine.specs.declared.event.Event.{Event as Told}
+use Rattle.machine.specs.declared.event.Event.{Event}
 use Rattle.machine.specs.declared.event.StepFault.TheVariants.{CannotMove, Broken}
 use Rattle.machine.specs.PieceStates.{IsHeldRight, opening_pieces}
 use Rattle.machine.specs.PieceSteps.{CanTakePiece, NextPieceIsBroken}
 use Rattle.machine.specs.Views.{IsWellFormed}
-use Rattle.piece_machine.specs.declared.piece_event.PieceEvent.{PieceEvent}
 use Rattle.piece_machine.specs.PieceViews.{Steps, Strays, Kills, RefusesStray, RefusesPieceKill}
 use Rattle.piece_machine.specs.PieceConcrete.{PieceConcrete, pieces_at, opening_at, piece_of, can_take, stray_piece}
 use Rattle.piece_machine.specs.PieceConcrete.{kill_piece}
@@ -19,7 +18,7 @@ pub record IsFit (p : Program) (k : PieceConcrete) : Type 0 where
 -- a step that is done is one of the relation, told so, and keeps what always holds
 abbrev pub PieceStepsSo : Type 0
 PieceStepsSo =
-    (p : Program) (k k' : PieceConcrete) (t : ℕ) (e : PieceEvent) → IsFit p k → piece_of p k t ≡ Ok (k', e)
+    (p : Program) (k k' : PieceConcrete) (t : ℕ) (e : Event) → IsFit p k → piece_of p k t ≡ Ok (k', e)
     → Steps p (pieces_at k) t e (pieces_at k') × IsFit p k'
 
 -- a step is Broken exactly where the thread's next step may not be
@@ -39,7 +38,7 @@ TakesSo = (p : Program) (k : PieceConcrete) (t : ℕ) → (can_take p k t ≡ tr
 -- a wake from outside is one of the relation, and is refused exactly where the thread doesn't sleep
 abbrev pub PieceStraysSo : Type 0
 PieceStraysSo =
-    (p : Program) (k k' : PieceConcrete) (t : ℕ) (e : Told) → IsFit p k → stray_piece k t ≡ Ok (k', e)
+    (p : Program) (k k' : PieceConcrete) (t : ℕ) (e : Event) → IsFit p k → stray_piece k t ≡ Ok (k', e)
     → Strays p (pieces_at k) t e (pieces_at k') × IsFit p k'
 
 abbrev pub PieceStrayRefusedSo : Type 0
@@ -49,7 +48,7 @@ PieceStrayRefusedSo = (k : PieceConcrete) (t : ℕ)
 -- a kill is one of the relation, and is refused exactly where no such thread was made
 abbrev pub PieceKillsSo : Type 0
 PieceKillsSo =
-    (p : Program) (k k' : PieceConcrete) (t : ℕ) (e : Told) → IsFit p k → kill_piece p k t ≡ Ok (k', e)
+    (p : Program) (k k' : PieceConcrete) (t : ℕ) (e : Event) → IsFit p k → kill_piece p k t ≡ Ok (k', e)
     → Kills p (pieces_at k) t e (pieces_at k') × IsFit p k'
 
 abbrev pub PieceKillRefusedSo : Type 0

@@ -6,7 +6,7 @@ use Rattle.isa.specs.Programs.{Program}
 use Rattle.futexcalls.specs.declared.pieces.FutexCall.{FutexCall}
 use Rattle.futexcalls.specs.declared.pieces.FutexCall.TheVariants.{Wait, Wake, Requeue}
 use Rattle.futexcalls.specs.declared.pieces.FutexPhase.{FutexPhase}
-use Rattle.futexcalls.specs.declared.pieces.FutexPhase.TheVariants.{First}
+use Rattle.futexcalls.specs.declared.pieces.FutexPhase.TheVariants.{First, Compare, Act}
 use Rattle.futexcalls.specs.Pieces.{takes_at, LiesIn}
 use Rattle.locals.specs.Threads.{Thread}
 use Rattle.locals.specs.Looks.{look}
@@ -14,7 +14,11 @@ use Rattle.locals.specs.Steps.{local_after}
 use Rattle.machine.specs.States.{thread_of}
 use Rattle.machine.specs.Views.{View, concrete, IsWellFormed}
 use Rattle.machine.specs.ConcretePieces.{pieces_of}
-use Rattle.machine.specs.declared.event.Event.{Event as Told}
+use Rattle.machine.specs.ConcreteServing.{plain}
+use Rattle.machine.specs.FrontRuns.{doing_of}
+use Rattle.machine.specs.declared.event.Event.{Event}
+use Rattle.machine.specs.declared.event.EventName.{EventName}
+use Rattle.machine.specs.declared.event.EventName.TheVariants as name
 use Rattle.machine.specs.declared.event.StepFault.{StepFault}
 use Rattle.machine.specs.declared.event.StepFault.TheVariants.{CannotMove, Broken}
 use Rattle.machine.specs.PieceStates.{PieceState, IsHeldRight, call_at, called}
@@ -22,8 +26,6 @@ use Rattle.machine.specs.PieceSteps.{IsPieceStep, PieceRun, BlocksAt, BlocksCall
 use Rattle.machine.specs.Runs.{Own, Strayed, Killed, Step, is_paused}
 use Rattle.machine.specs.ThreadSets.{set_of}
 use Rattle.piece_machine.specs.PieceConcrete.{PieceConcrete}
-use Rattle.piece_machine.specs.declared.piece_event.PieceEvent.{PieceEvent}
-use Rattle.piece_machine.specs.declared.piece_event.PieceEvent.TheVariants.{Lock, Compare, Event}
 
 -- the machine, and for each thread from 0 the phase of its call
 pub record PieceView : Type 0 where
@@ -71,21 +73,29 @@ expected_of (Wait a expected) = expected
 expected_of (Wake a wakes) = 0
 expected_of (Requeue a b wakes moves expected) = expected
 
--- what is told of a step: which bucket its thread took, or the word that it compared, or what others see
-abbrev pub Tells : Program → PieceState → ℕ → List ℕ → PieceEvent → Type 0
-Tells p s t woken (Lock b) =
+-- how a piece is told that takes this bucket, or else compares the word, and behind which its call goes on
+abbrev pub told_next : Option ℕ → FutexCall → Event
+told_next (Some b) call = plain name.FutexLock b
+told_next None call = plain name.FutexCompare (expected_of call)
+
+-- what an event tells of a step, by its name: which bucket the thread took, or which word it found as expected; any other
+-- is of a step behind which the thread stands outside calls
+abbrev pub Tells : Program → PieceState → ℕ → List ℕ → PieceState → EventName → ℕ → Type 0
+Tells p s t woken s' name.FutexLock b =
     (woken ≡ []) × (call : FutexCall) × (called p t (s.base.thread t) ≡ Some call)
     × (takes_at s.buckets (s.phase t) call ≡ Some b)
-Tells p s t woken (Compare v) =
+Tells p s t woken s' name.FutexCompare v =
     (woken ≡ []) × (call : FutexCall) × (called p t (s.base.thread t) ≡ Some call)
-    × (takes_at s.buckets (s.phase t) call ≡ None) × (v ≡ expected_of call)
-Tells p s t woken (Event e) = e.woken ≡ set_of woken
+    × (s.phase t ≡ Compare) × (s'.phase t ≡ Act) × (v ≡ expected_of call)
+Tells p s t woken s' _ v = s'.phase t ≡ First
 
 -- one step of thread t, told so
-pub record Steps (p : Program) (s : PieceState) (t : ℕ) (e : PieceEvent) (s' : PieceState) : Type 0 where
+pub record Steps (p : Program) (s : PieceState) (t : ℕ) (e : Event) (s' : PieceState) : Type 0 where
   pub woken : List ℕ
   pub step : IsPieceStep p s (own_step s' t woken) s'
-  pub told : Tells p s t woken e
+  pub wakes : e.woken ≡ set_of woken
+  pub doing : doing_of e.name e.value ≡ Own
+  pub told : Tells p s t woken s' e.name e.value
 
 -- thread t was made and is awake, makes no futex call, and no held bucket is in its way
 pub record IsApart (p : Program) (s : PieceState) (t : ℕ) : Type 0 where
@@ -117,8 +127,9 @@ abbrev pub stray_step : ℕ → ℕ → Step
 stray_step t a = record { thread = t; woken = t ∷ []; pauses = false; doing = Strayed a }
 
 -- one is a step of the machine with pieces, and is told with the address where the thread slept
-pub record Strays (p : Program) (s : PieceState) (t : ℕ) (e : Told) (s' : PieceState) : Type 0 where
+pub record Strays (p : Program) (s : PieceState) (t : ℕ) (e : Event) (s' : PieceState) : Type 0 where
   pub step : IsPieceStep p s (stray_step t e.value) s'
+  pub doing : doing_of e.name e.value ≡ Strayed e.value
   pub told : e.woken ≡ set_of (t ∷ [])
 
 -- why it is refused: the thread doesn't sleep
@@ -131,8 +142,9 @@ abbrev pub kill_step : ℕ → Bool → Step
 kill_step t begins = record { thread = t; woken = []; pauses = false; doing = Killed begins }
 
 -- one is a step of the machine with pieces, by which the thread begins to die just where the event's value is 1
-pub record Kills (p : Program) (s : PieceState) (t : ℕ) (e : Told) (s' : PieceState) : Type 0 where
+pub record Kills (p : Program) (s : PieceState) (t : ℕ) (e : Event) (s' : PieceState) : Type 0 where
   pub step : IsPieceStep p s (kill_step t (e.value == 1)) s'
+  pub doing : doing_of e.name e.value ≡ Killed (e.value == 1)
   pub told : e.woken ≡ set_of []
 
 -- why it is refused: no such thread was made

@@ -6,9 +6,7 @@ mod laws;
 mod local_steps;
 mod movers;
 mod outside;
-mod piece_event;
 mod piece_machine;
 
 pub use laws::functions_are_steps;
-pub use piece_event::PieceEvent;
 pub use piece_machine::PieceMachine;

@@ -5,13 +5,12 @@ ghost use Rattle.machine.specs.PieceStates.{opening_pieces, call_of};
 ghost use Rattle.machine.specs.RequestMeanings.{asked_of};
 ghost use Rattle.piece_machine.specs.PieceConcrete.{opening_at, piece_of};
 ghost use Rattle.piece_machine.specs.PieceDetermined.{IsFit};
-ghost use Rattle.piece_machine.specs.PieceViews.{pieces, parts, IsComeTo, IsApart, expected_of};
+ghost use Rattle.piece_machine.specs.PieceViews.{pieces, parts, IsComeTo, IsApart, expected_of, told_next};
 
-use crate::piece_event::PieceEvent;
 use futexcalls::{FutexCall, FutexPhase};
 use isa::Image;
 use locals::{NextStep, Request};
-use machine::{CallStep, Machine, StepFault};
+use machine::{CallStep, Event, EventName, Machine, StepFault};
 use std::alloc::{AllocError, Global};
 use std::marker::Model;
 use words::MOST_THREADS;
@@ -80,6 +79,16 @@ fn expected_word(call: FutexCall) -> u32
     }
 }
 
+// How a piece is told that takes this bucket, or else compares the word, and behind which its call goes on.
+fn told(bucket: Option<u32>, call: FutexCall) -> Event
+    ensures { result ≡ told_next bucket call }
+{
+    match bucket {
+        Some(bucket) => Event::new(EventName::FutexLock, bucket),
+        None => Event::new(EventName::FutexCompare, expected_word(call)),
+    }
+}
+
 impl PieceMachine {
     /// The machine at the start of an image, over so many buckets, which nobody holds. It keeps a copy of the image. From
     /// then on no step takes memory.
@@ -100,6 +109,7 @@ impl PieceMachine {
         ensures room { OnOk result (n ≤ self.new.view.room) }
         ensures same { (self.new.view.program ≡ self.old.view.program)
             × (pieces self.new ≡ pieces self.old) }
+        ensures parts { parts self.new ≡ parts self.old }
     {
         self.machine.make_room(n)
     }
@@ -114,11 +124,19 @@ impl PieceMachine {
         &self.machine
     }
 
+    /// The machine alone, as what a run leaves shows it.
+    pub fn into_machine(self) -> Machine
+        ensures { result ≡ self.view }
+    {
+        let PieceMachine { machine, .. } = self;
+        machine
+    }
+
     /// One step of thread `t`: a local one, a shared one, or a piece of its futex call.
     ///
     /// Refuses with `CannotMove` where there is no such thread, it sleeps, it has ended, or a held bucket is in its way,
     /// and with `Broken` where its step may not be; then nothing has changed.
-    pub fn step(&mut self, t: u32) -> Result<PieceEvent, StepFault>
+    pub fn step(&mut self, t: u32) -> Result<Event, StepFault>
         requires { 1 ≤ self.old.view.room }
         ensures done { IfOk result (λ e. piece_of self.old.view.program (parts self.old) t
             ≡ Ok (parts self.new, e)) }
@@ -147,7 +165,7 @@ impl PieceMachine {
     }
 
     // A step of thread `t`, which is awake, that is none of a futex call, and that no held bucket is in the way of.
-    fn whole_step(&mut self, t: u32) -> Result<PieceEvent, StepFault>
+    fn whole_step(&mut self, t: u32) -> Result<Event, StepFault>
         requires room { 1 ≤ self.old.view.room }
         requires apart { IsApart self.old.view.program (pieces self.old) t }
         ensures done { IfOk result (λ e. piece_of self.old.view.program (parts self.old) t
@@ -159,11 +177,11 @@ impl PieceMachine {
         ensures room { self.old.view.room ≤ self.new.view.room + 1 }
     {
         let event = self.machine.step(t)?;
-        Ok(PieceEvent::Event(event))
+        Ok(event)
     }
 
     // A piece of the futex call that thread `t` makes, which is awake.
-    fn call_step(&mut self, t: u32, call: FutexCall) -> Result<PieceEvent, StepFault>
+    fn call_step(&mut self, t: u32, call: FutexCall) -> Result<Event, StepFault>
         requires makes { MakesCall self.old.view t call }
         requires awake { (pieces self.old).base.asleep t ≡ None }
         ensures done { IfOk result (λ e. piece_of self.old.view.program (parts self.old) t
@@ -182,15 +200,12 @@ impl PieceMachine {
         match self.machine.take_piece(t, call, phase) {
             CallStep::Next(next) => {
                 self.phases[t as usize] = next;
-                Ok(match bucket {
-                    Some(bucket) => PieceEvent::Lock(bucket),
-                    None => PieceEvent::Compare(expected_word(call)),
-                })
+                Ok(told(bucket, call))
             }
             CallStep::Blocked => Err(StepFault::CannotMove),
             CallStep::Done(event) => {
                 self.phases[t as usize] = FutexPhase::First;
-                Ok(PieceEvent::Event(event))
+                Ok(event)
             }
         }
     }

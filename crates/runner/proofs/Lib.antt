@@ -8,6 +8,7 @@ pub mod OneByOne
 pub mod Passing
 pub mod Lives
 pub mod Waiting
+pub mod Resting
 pub mod InPlace
 pub mod Scheduling
 pub mod Locally

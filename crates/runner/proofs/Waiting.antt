@@ -108,3 +108,26 @@ some_passes p limit h t fit idle moves = elim (idle t moves) [
         | inr holder ↦ absurd (takes_on p k g.0 g.1.thread fit g.1.stands (ap local_next g.1.asks) g.2 holder)
       ]
 ]
+
+none_or_some : (o : Option ℕ) (u : ℕ) → o ≡ None → o ≡ Some u → ⊥
+none_or_some o u none some = absurd (cc (sym none ∙ some))
+
+-- where nobody holds a bucket none is in a thread's way
+pub none_free : (p q : Program) (k : PieceConcrete) (t : ℕ) → q ≡ p → IsFit q k → ((b : ℕ) → k.holder b ≡ None)
+    → IsHeldUp p k t → ⊥
+none_free p q k t same fit none w =
+    let taken = held_up_taken p k t (subst (λ (x : Program). IsFit x k) same fit) w in
+    none_or_some (k.holder taken.bucket) taken.holder (none taken.bucket) taken.holds
+
+no_local : (o : Option Thread) → false ≡ is_some o → o ≡ None
+no_local None h = refl
+no_local (Some x) h = absurd cc
+
+-- nor where it can take the step that it stands before
+pub takes_free : (p q : Program) (k : PieceConcrete) (t : ℕ) (x : Thread) → q ≡ p → IsFit q k
+    → thread_of k.concrete t ≡ Some x → false ≡ is_some (local_step q t x) → CanTakePiece q (pieces_at k) t
+    → IsHeldUp p k t → ⊥
+takes_free p q k t x same fit stands shared can w =
+    takes_on p k t x (subst (λ (z : Program). IsFit z k) same fit) stands
+    (ap (λ (z : Program). local_step z t x) (sym same) ∙ no_local (local_step q t x) shared)
+    (subst (λ (z : Program). CanTakePiece z (pieces_at k) t) same can) w

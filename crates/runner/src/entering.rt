@@ -73,7 +73,11 @@ pub fn enter_outside(
 }
 
 /// Takes in a kill of thread `t`, which was made, from outside, as one entry of the log.
-pub fn enter_kill(machine: &mut PieceMachine, log: &mut PackedLog, t: u32) -> Result<Event, AllocError>
+pub fn enter_kill(
+    machine: &mut PieceMachine,
+    log: &mut PackedLog,
+    t: u32,
+) -> Result<Event, AllocError>
     requires made { thread_of (concrete machine.old.view) t ≢ None }
     ensures gives { IfOk result
         (λ event. kill_piece machine.old.view.program (parts machine.old) t ≡ Ok (parts machine.new, event)) }

@@ -33,7 +33,10 @@ pub fn take_entry(machine: &mut PieceMachine, t: u32) -> (Entry, Result<(), RunF
         local: machine.run_local(t, MOST_LOCAL_STEPS),
         event: None,
     };
-    if machine.machine().is_before_local(t, machine.machine().local(t)) {
+    if machine
+        .machine()
+        .is_before_local(t, machine.machine().local(t))
+    {
         return (entry, Ok(()));
     }
     match machine.step(t) {

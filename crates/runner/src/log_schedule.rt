@@ -187,7 +187,10 @@ fn take_shared(machine: &mut PieceMachine, t: u32) -> Option<Event>
         → ⊥) }
     ensures program { machine.new.view.program ≡ machine.old.view.program }
 {
-    if machine.machine().is_before_local(t, machine.machine().local(t)) {
+    if machine
+        .machine()
+        .is_before_local(t, machine.machine().local(t))
+    {
         return None;
     }
     match machine.step(t) {

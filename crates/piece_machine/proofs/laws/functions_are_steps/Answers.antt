@@ -3,6 +3,8 @@ use Rattle.piece_machine.proofs.Determined.{piece_steps_so}
 use Rattle.piece_machine.proofs.Refused.{piece_breaks_so, piece_refuses_so}
 use Rattle.piece_machine.proofs.Beyond.{piece_strays_so, piece_stray_refused_so, piece_kills_so, piece_kill_refused_so}
 use Rattle.piece_machine.proofs.Beyond.{pieces_open_so}
+use Rattle.piece_machine.proofs.Cases.{taken_so}
+use Rattle.piece_machine.proofs.Fronts.{pieces_run_so}
 use Rattle.piece_machine.proofs.laws.functions_are_steps.Goals as goal
 
 pub returns-clause-opening : goal.returns-clause-opening
@@ -31,3 +33,9 @@ returns-clause-kill c = piece_kills_so
 
 pub returns-clause-no_kill : goal.returns-clause-no_kill
 returns-clause-no_kill c = piece_kill_refused_so
+
+pub returns-clause-runs : goal.returns-clause-runs
+returns-clause-runs c = pieces_run_so
+
+pub returns-clause-cases : goal.returns-clause-cases
+returns-clause-cases c = taken_so

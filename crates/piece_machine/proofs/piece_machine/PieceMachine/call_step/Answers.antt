@@ -13,13 +13,12 @@ use Rattle.machine.specs.declared.event.StepFault.TheVariants.{CannotMove}
 use Rattle.machine.specs.States.{state_of}
 use Rattle.machine.specs.Views.{View, concrete, IsWellFormed}
 use Rattle.isa.specs.Programs.{Program}
-use Rattle.piece_machine.specs.declared.piece_event.PieceEvent.TheVariants.{Compare, Event}
 use Rattle.piece_machine.specs.PieceConcrete.{Outcome, pieces_at, piece_of}
-use Rattle.piece_machine.specs.PieceViews.{PieceView, pieces, parts, phase_in, IsKept}
+use Rattle.piece_machine.specs.PieceViews.{PieceView, pieces, parts, phase_in, told_next, IsKept}
 use Rattle.piece_machine.proofs.Given.{held_up}
 use Rattle.piece_machine.proofs.OwnCalls.{stands_in, holds, call_blocks}
 use Rattle.piece_machine.proofs.Owns.{phase_at, kept_fit}
-use Rattle.piece_machine.proofs.Taken.{told_next, taken_next, taken_done, kept_step}
+use Rattle.piece_machine.proofs.Taken.{taken_next, taken_done, kept_step}
 use Rattle.piece_machine.proofs.piece_machine.PieceMachine.call_step.Goals.{in-Some, in-None}
 use Rattle.piece_machine.proofs.piece_machine.PieceMachine.call_step.Goals as goal
 
@@ -72,17 +71,12 @@ returns-after-bucket-clause-done c =
     subst (λ (q : PieceView). (pieces q).base.asleep c.args.t ≡ None) (sym c.self.view_is) c.requires.awake in
     let at = phase_at v ph c.args.t m.thread c.index-phase.result.now c.self.invariant m.stands c.index-phase.ensures in
     let e = c.in-Next.ensures in
-    let bucket = takes_at (bucket_count v.sleepers) c.index-phase.result.now c.args.call in
-    let told : told_next bucket c.args.call ≡ c.match-bucket.result =
-    elim c.match-bucket.branch [
-      | in-Some w ↦ ap (λ o. told_next o c.args.call) (sym c.next_bucket-bucket.ensures ∙ w.in-Some.is) ∙ sym w.result-is
-      | in-None w ↦ ap (λ o. told_next o c.args.call) (sym c.next_bucket-bucket.ensures ∙ w.in-None.is)
-          ∙ ap Compare (sym w.expected_word.ensures) ∙ sym w.result-is
-    ] in
+    let told : told_next (takes_at (bucket_count v.sleepers) c.index-phase.result.now c.args.call) c.args.call ≡ c.told.result =
+    ap (λ o. told_next o c.args.call) (sym c.next_bucket-bucket.ensures) ∙ sym c.told.ensures in
     subst (λ (q : PieceView). piece_of q.view.program (parts q) c.args.t
     ≡ (let o : Outcome = Ok (
       parts (record { view = v'; phases = slice_set ph c.args.t c.in-Next.next }),
-      c.match-bucket.result,
+      c.told.result,
     ) in o)) c.self.view_is
     (taken_next v v' ph c.args.t c.args.call c.index-phase.result.now c.in-Next.next c.self.invariant m
     c.if-not-has_words.ensures awake at e.order (e.piece (phase_in ph) m.thread at m.stands)
@@ -124,7 +118,7 @@ invariant_of-self-in-Done c =
     subst (λ (q : PieceView). (pieces q).base.asleep c.args.t ≡ None) (sym c.self.view_is) c.requires.awake in
     let at = phase_at v ph c.args.t m.thread c.index-phase.result.now c.self.invariant m.stands c.index-phase.ensures in
     let e = c.in-Done.ensures in
-    kept_step v v' ph (slice_set ph c.args.t First) c.args.t (Event c.in-Done.event) c.self.invariant e.program
+    kept_step v v' ph (slice_set ph c.args.t First) c.args.t c.in-Done.event c.self.invariant e.program
     (length-set ph c.args.t First)
     (taken_done v v' ph c.args.t c.args.call c.index-phase.result.now c.in-Done.event c.self.invariant m
     c.if-not-has_words.ensures awake at (subst (λ (p : Program). IsWellFormed p (concrete v')) e.program e.holds) e.order
@@ -141,7 +135,7 @@ returns-in-Done-clause-done c =
     let at = phase_at v ph c.args.t m.thread c.index-phase.result.now c.self.invariant m.stands c.index-phase.ensures in
     let e = c.in-Done.ensures in
     subst (λ (q : PieceView). piece_of q.view.program (parts q) c.args.t
-    ≡ (let o : Outcome = Ok (parts (record { view = v'; phases = slice_set ph c.args.t First }), Event c.in-Done.event)
+    ≡ (let o : Outcome = Ok (parts (record { view = v'; phases = slice_set ph c.args.t First }), c.in-Done.event)
     in o)) c.self.view_is
     (taken_done v v' ph c.args.t c.args.call c.index-phase.result.now c.in-Done.event c.self.invariant m
     c.if-not-has_words.ensures awake at (subst (λ (p : Program). IsWellFormed p (concrete v')) e.program e.holds) e.order

@@ -5,7 +5,7 @@ use Rattle.machine.specs.PieceStates.{called}
 use Rattle.machine.specs.States.{ConcreteState, thread_of}
 use Rattle.machine.specs.ConcreteOutside.{kill_of}
 use Rattle.machine.specs.Views.{concrete}
-use Rattle.piece_machine.specs.PieceConcrete.{PieceConcrete, OutsideOutcome, pieces_at, kill_piece, killed_at}
+use Rattle.piece_machine.specs.PieceConcrete.{PieceConcrete, Outcome, pieces_at, kill_piece, killed_at}
 use Rattle.piece_machine.specs.PieceViews.{PieceView, pieces, parts, kill_step, Kills}
 use Rattle.piece_machine.proofs.Killed.{kill_done, killed_parts}
 use Rattle.piece_machine.proofs.Owns.{kept_by, kept_fit}
@@ -49,7 +49,7 @@ returns-clause-done c =
     let same = killed_parts v v1 v' ph t c.call_at-call.result c.index.result.now c.self.invariant
     c.if-not-is_made.ensures calls c.index.ensures gave.holders gave.count e.holders in
     subst (λ (q : PieceView). kill_piece q.view.program (parts q) t
-    ≡ (let o : OutsideOutcome = Ok (parts (record { view = v'; phases = slice_set ph t First }), event) in o))
+    ≡ (let o : Outcome = Ok (parts (record { view = v'; phases = slice_set ph t First }), event) in o))
     c.self.view_is
     (ap (killed_at v.program k t) (ap (λ (q : ConcreteState). kill_of q t) (sym gave.same.1) ∙ e.done)
     ∙ (λ i. Ok (sym same i, event)))

@@ -3,7 +3,7 @@ use Rattle.std.proofs.Common.{◌≡◌, ap, ◌∙◌}
 use Rattle.buckets.specs.Sleepers.{bucket_count, holder_of}
 use Rattle.machine.specs.ConcretePieces.{pieces_of}
 use Rattle.machine.specs.States.{state_of}
-use Rattle.piece_machine.specs.PieceViews.{PieceView, pieces, phase_in}
+use Rattle.piece_machine.specs.PieceViews.{PieceView, pieces, parts, phase_in}
 use Rattle.piece_machine.proofs.piece_machine.PieceMachine.make_room.Goals as goal
 
 pub invariant_of-self : goal.invariant_of-self
@@ -37,3 +37,14 @@ returns-clause-same c =
         buckets = bucket_count (e.sleepers i);
       }) ∙ ap (λ (q : PieceView). pieces q) c.self.view_is,
     )
+
+pub returns-clause-parts : goal.returns-clause-parts
+returns-clause-parts c =
+    let ph = phase_in c.self.inside.phases.items in
+    let e = c.make_room.ensures in
+    (λ i. record {
+      concrete = e.same.1 i;
+      phase = ph;
+      holder = holder_of (e.sleepers i);
+      buckets = bucket_count (e.sleepers i);
+    }) ∙ ap (λ (q : PieceView). parts q) c.self.view_is

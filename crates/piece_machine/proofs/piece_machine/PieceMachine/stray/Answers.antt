@@ -2,7 +2,7 @@
 use Rattle.std.proofs.Common.{◌≡◌, Ok, Err, refl, sym, ap, ◌∙◌, subst}
 use Rattle.machine.specs.Views.{concrete}
 use Rattle.machine.proofs.Steps.{hand_on}
-use Rattle.piece_machine.specs.PieceConcrete.{PieceConcrete, OutsideOutcome, pieces_at, stray_piece, strayed_at}
+use Rattle.piece_machine.specs.PieceConcrete.{PieceConcrete, Outcome, pieces_at, stray_piece, whole_at}
 use Rattle.piece_machine.specs.PieceViews.{PieceView, pieces, parts, stray_step, Strays}
 use Rattle.piece_machine.proofs.Beyond.{stray_done}
 use Rattle.piece_machine.proofs.Owns.{kept_by, kept_fit, same_parts}
@@ -29,9 +29,9 @@ returns-clause-done c =
     let e = c.in_ok-event.ensures in
     let k = parts (record { view = v; phases = ph }) in
     subst (λ (q : PieceView). stray_piece (parts q) c.args.t
-    ≡ (let o : OutsideOutcome = Ok (parts (record { view = v'; phases = ph }), c.in_ok-event.event) in o))
+    ≡ (let o : Outcome = Ok (parts (record { view = v'; phases = ph }), c.in_ok-event.event) in o))
     c.self.view_is
-    (ap (strayed_at k) e.done ∙ (λ i. Ok (sym (same_parts v v' ph e.holders) i, c.in_ok-event.event)))
+    (ap (whole_at k) e.done ∙ (λ i. Ok (sym (same_parts v v' ph e.holders) i, c.in_ok-event.event)))
 
 pub returns-in_err-event-clause-err : goal.returns-in_err-event-clause-err
 returns-in_err-event-clause-err c =
@@ -40,7 +40,7 @@ returns-in_err-event-clause-err c =
     let f = c.in_err-event.field-0.0 in
     let err = c.in_err-event.ensures.err in
     hand_on c.from_residual.result f _ c.from_residual.ensures.1 (
-      subst (λ (q : PieceView). stray_piece (parts q) c.args.t ≡ (let o : OutsideOutcome = Err f in o)) c.self.view_is
-          (ap (strayed_at (parts (record { view = v; phases = ph }))) err.0),
+      subst (λ (q : PieceView). stray_piece (parts q) c.args.t ≡ (let o : Outcome = Err f in o)) c.self.view_is
+          (ap (whole_at (parts (record { view = v; phases = ph }))) err.0),
       (λ i. record { view = err.1 i; phases = ph }) ∙ c.self.view_is,
     )

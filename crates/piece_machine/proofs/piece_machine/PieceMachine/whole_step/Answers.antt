@@ -1,7 +1,6 @@
 -- A step that is none of a call is one of the machine, and changes no holder.
 use Rattle.std.proofs.Common.{◌≡◌, Ok, Err, refl, sym, ap, ◌∙◌, subst}
 use Rattle.machine.proofs.Steps.{hand_on}
-use Rattle.piece_machine.specs.declared.piece_event.PieceEvent.TheVariants.{Event}
 use Rattle.piece_machine.specs.PieceConcrete.{Outcome, pieces_at, whole_at, piece_of}
 use Rattle.piece_machine.specs.PieceViews.{PieceView, pieces, parts, IsApart}
 use Rattle.piece_machine.proofs.Given.{whole_is}
@@ -17,7 +16,7 @@ returns-clause-done c =
     let apart : IsApart v.program (pieces (record { view = v; phases = ph })) c.args.t =
     subst (λ (q : PieceView). IsApart q.view.program (pieces q) c.args.t) (sym c.self.view_is) c.requires.apart in
     subst (λ (q : PieceView). piece_of q.view.program (parts q) c.args.t
-    ≡ (let o : Outcome = Ok (parts (record { view = v'; phases = ph }), Event c.in_ok-event.event) in o)) c.self.view_is
+    ≡ (let o : Outcome = Ok (parts (record { view = v'; phases = ph }), c.in_ok-event.event) in o)) c.self.view_is
     (whole_gives v v' ph c.args.t c.in_ok-event.event apart e.holders e.done)
 
 pub invariant_of-self-2 : goal.invariant_of-self-2
@@ -28,7 +27,7 @@ invariant_of-self-2 c =
     let e = c.in_ok-event.ensures in
     let apart : IsApart v.program (pieces (record { view = v; phases = ph })) c.args.t =
     subst (λ (q : PieceView). IsApart q.view.program (pieces q) c.args.t) (sym c.self.view_is) c.requires.apart in
-    kept_step v v' ph ph c.args.t (Event c.in_ok-event.event) c.self.invariant e.program refl
+    kept_step v v' ph ph c.args.t c.in_ok-event.event c.self.invariant e.program refl
     (whole_gives v v' ph c.args.t c.in_ok-event.event apart e.holders e.done)
 
 pub returns-in_err-event-clause-err : goal.returns-in_err-event-clause-err
