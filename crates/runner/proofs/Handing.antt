@@ -6,7 +6,7 @@ use mir.Val.{bool_byte}
 use Rattle.isa.specs.Programs.{Program}
 use Rattle.locals.specs.Threads.{Thread}
 use Rattle.locals.specs.Looks.{Look, Goes, Asks, Leaves, Breaks, Rests, look}
-use Rattle.locals.specs.Steps.{local_step, local_next}
+use Rattle.locals.specs.Steps.{local_step, local_after, local_next}
 use Rattle.machine.specs.declared.event.Event.{Event}
 use Rattle.machine.specs.declared.event.EventName.TheVariants as name
 use Rattle.machine.specs.declared.event.StepFault.{StepFault}
@@ -15,9 +15,11 @@ use Rattle.machine.specs.Runs.{has_ended}
 use Rattle.machine.specs.ConcreteServing.{plain}
 use Rattle.machine.specs.ConcreteSteps.{thread_step, on_machine, fault_of, step_of, step_awake}
 use Rattle.machine.specs.ConcreteSteps.{step_thread, put_thread, can_move, thread_can_move}
+use Rattle.machine.specs.Views.{View, concrete}
 use Rattle.machine.proofs.Placing.{thread_at-put}
 use Rattle.piece_machine.specs.PieceConcrete.{PieceConcrete, Outcome, look_step, awake_step, whole_at}
 use Rattle.piece_machine.specs.PieceConcrete.{thread_step as piece_at_thread, piece_of, with_local, piece_fault_at}
+use Rattle.piece_machine.specs.PieceViews.{GoesTo}
 use Rattle.runner.specs.declared.fault.RunFault.TheVariants.{Limit}
 use Rattle.runner.specs.Views.{PieceView, LogState}
 use Rattle.runner.specs.Logs.{event_cost, cost}
@@ -209,3 +211,14 @@ in_limit p q limit h a t steps limited extra b same stands moves none is_b is_ex
       within =
           omega (arith, r.3, is_extra);
     }
+
+-- a piece of a thread that stands where it began
+pub goes_to : (p : Program) (v : View) (t : ℕ) (a : PieceView) → v.program ≡ p
+    → (a.thread ≡ t) × (thread_of (concrete v) t ≡ Some a.origin) → local_after p a.thread a.count a.origin ≡ Some a.here
+    → GoesTo v t a.here
+goes_to p v t a same stands goes = record {
+  origin = a.origin;
+  count = a.count;
+  stands = stands.1;
+  goes = (λ i. local_after (same i) (sym stands.0 i) a.count a.origin) ∙ goes;
+}
