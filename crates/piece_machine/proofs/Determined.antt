@@ -98,6 +98,7 @@ whole_done p k c t e fit apart done =
             apart.none apart.free first;
         pauses = refl;
       };
+      wakes = r.1;
       doing = own_so p k.concrete c t e done;
       told = tells_outside p (pieces_at k) t r.0 (pieces_at (record k { concrete = c })) e.name e.value
           (whole_so p k.concrete c t e done) first;
@@ -221,7 +222,8 @@ again_done p k t call go a v fit calls compares at differs =
       };
       wakes = refl;
       doing = call_own call (again_of call);
-      told = call_tells p (pieces_at k) t [] _ call (again_of call) (put-here k.phase t First t refl);
+      told = call_tells p (pieces_at k) t [] (pieces_at (over_at k t call go k.concrete.common (again_of call))) call
+          (again_of call) (put-here k.phase t First t refl);
     })
 
 -- the call acts
@@ -255,7 +257,8 @@ act_done p k t call go fit calls at =
       };
       wakes = refl;
       doing = call_own call (touched k call);
-      told = call_tells p (pieces_at k) t woken _ call (touched k call) (put-here k.phase t First t refl);
+      told = call_tells p (pieces_at k) t woken (pieces_at (over_at k t call go (acted t call c) (touched k call))) call
+          (touched k call) (put-here k.phase t First t refl);
     })
 
 -- each of them, as it is told

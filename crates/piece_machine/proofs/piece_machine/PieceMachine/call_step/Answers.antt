@@ -19,7 +19,6 @@ use Rattle.piece_machine.proofs.Given.{held_up}
 use Rattle.piece_machine.proofs.OwnCalls.{stands_in, holds, call_blocks}
 use Rattle.piece_machine.proofs.Owns.{phase_at, kept_fit}
 use Rattle.piece_machine.proofs.Taken.{taken_next, taken_done, kept_step}
-use Rattle.piece_machine.proofs.piece_machine.PieceMachine.call_step.Goals.{in-Some, in-None}
 use Rattle.piece_machine.proofs.piece_machine.PieceMachine.call_step.Goals as goal
 
 pub take_piece-requires-clause-stands : goal.take_piece-requires-clause-stands
@@ -61,8 +60,8 @@ invariant_of-self c =
     (taken_next v v' ph c.args.t c.args.call c.index-phase.result.now c.in-Next.next c.self.invariant m
     c.if-not-has_words.ensures awake at e.order (e.piece (phase_in ph) m.thread at m.stands))
 
-pub returns-after-bucket-clause-done : goal.returns-after-bucket-clause-done
-returns-after-bucket-clause-done c =
+pub returns-in-Next-clause-done : goal.returns-in-Next-clause-done
+returns-in-Next-clause-done c =
     let v = c.self.inside.machine in
     let v' = c.take_piece.new.self in
     let ph = c.self.inside.phases.items in
