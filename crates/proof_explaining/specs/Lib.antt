@@ -1,1 +1,2 @@
 pub mod PieceProgress
+pub mod Events

@@ -4,4 +4,4 @@
 
 mod law;
 
-pub use law::pieces_explain;
+pub use law::{events_explain, pieces_explain};
