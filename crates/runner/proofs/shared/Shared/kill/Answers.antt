@@ -1,6 +1,6 @@
 -- The log has one entry more, which is the kill.
 use Rattle.std.proofs.Common.{[], ◌∷◌, ◌+◌, ◌<◌, Some, length, length-append, ap, sym, subst, arith, inr, refl}
-use Rattle.machine.specs.Views.{concrete}
+use Rattle.piece_machine.specs.PieceViews.{parts}
 use Rattle.runner.specs.Logs.{kills_in}
 use Rattle.runner.specs.Views.{SharedView}
 use Rattle.runner.proofs.Growing.{entered, entry, keeps_outside}
@@ -16,13 +16,13 @@ invariant_of-self-2 g c =
     e.ensures.log in
     let fewer = subst (λ (x : SharedView). kills_in x.log < g.J.RunName.outside.kills) (sym c.self.view_is)
     c.requires.kills in
-    let has = only_kill (concrete s.machine) (concrete e.new.machine) g.J.RunName.outside s.log.items e.new.log.items
+    let has = only_kill s.machine.view.program (parts s.machine) (parts e.new.machine) g.J.RunName.outside s.log.items e.new.log.items
     (entry c.args.t 0 (Some took.0)) took.0 fewer refl took.1 took.2 c.self.invariant.0.own in
     let grows = ap length took.2 in (
-      keeps_outside g.J.RunName.program g.J.RunName.outside s.machine.program e.new.machine.program g.J.RunName.limit
-          (concrete s.machine) (concrete e.new.machine) s.log.items e.new.log.items c.args.t s.steps s.limit s.kills
+      keeps_outside g.J.RunName.program g.J.RunName.outside s.machine.view.program e.new.machine.view.program g.J.RunName.limit
+          (parts s.machine) (parts e.new.machine) s.log.items e.new.log.items c.args.t s.steps s.limit s.kills
           (s.kills + 1) took.0 c.self.invariant.0 e.ensures.program (λ e. c.if-self.false (sym e)) (inr took.1) took.2
-          (omega (arith, one_kill (concrete s.machine) (concrete e.new.machine) c.args.t took.0 took.1)) has,
+          (omega (arith, one_kill s.machine.view.program (parts s.machine) (parts e.new.machine) c.args.t took.0 took.1)) has,
       record {
         total = omega (
           arith,
@@ -45,9 +45,9 @@ returns-clause-legal g c =
     e.ensures.log in
     let fewer = subst (λ (x : SharedView). kills_in x.log < g.J.RunName.outside.kills) (sym c.self.view_is)
     c.requires.kills in
-    let has = only_kill (concrete s.machine) (concrete e.new.machine) g.J.RunName.outside s.log.items e.new.log.items
+    let has = only_kill s.machine.view.program (parts s.machine) (parts e.new.machine) g.J.RunName.outside s.log.items e.new.log.items
     (entry c.args.t 0 (Some took.0)) took.0 fewer refl took.1 took.2 c.self.invariant.0.own in
-    (keeps_outside g.J.RunName.program g.J.RunName.outside s.machine.program e.new.machine.program g.J.RunName.limit
-    (concrete s.machine) (concrete e.new.machine) s.log.items e.new.log.items c.args.t s.steps s.limit s.kills
+    (keeps_outside g.J.RunName.program g.J.RunName.outside s.machine.view.program e.new.machine.view.program g.J.RunName.limit
+    (parts s.machine) (parts e.new.machine) s.log.items e.new.log.items c.args.t s.steps s.limit s.kills
     (s.kills + 1) took.0 c.self.invariant.0 e.ensures.program (λ e. c.if-self.false (sym e)) (inr took.1) took.2
-    (omega (arith, one_kill (concrete s.machine) (concrete e.new.machine) c.args.t took.0 took.1)) has).legal
+    (omega (arith, one_kill s.machine.view.program (parts s.machine) (parts e.new.machine) c.args.t took.0 took.1)) has).legal

@@ -1,6 +1,6 @@
 use Rattle.std.proofs.Common.{◌≡◌, true, sym, subst}
 use Rattle.machine.specs.ConcreteSteps.{can_move}
-use Rattle.machine.specs.Views.{concrete}
+use Rattle.piece_machine.specs.PieceViews.{parts}
 use Rattle.runner.specs.declared.fault.RunFault.TheVariants.{Limit}
 use Rattle.runner.specs.Views.{PieceView, LogState, SharedView, log_state}
 use Rattle.runner.specs.Entries.{RefusesEntry, IsFine, Stands}
@@ -13,17 +13,17 @@ returns-then-self-piece-clause-some g c =
     let p = g.J.RunName.program in
     let limit = g.J.RunName.limit in
     let v = c.self.invariant.0 in
-    let h : LogState = record { log = s.log.items; concrete = concrete s.machine } in
+    let h : LogState = record { log = s.log.items; concrete = parts s.machine } in
     let i = c.piece.inside in
     let a : PieceView = record { thread = i.thread; origin = i.origin; here = i.here; count = i.count } in
     let stands : Stands h c.args.t a =
     subst (λ (x : PieceView). Stands h c.args.t x) (sym c.piece.view_is)
     (subst (λ (x : SharedView). Stands (log_state x) c.args.t c.args.piece.now)
     (sym c.self.view_is) c.if-not-stands.ensures) in
-    let moves : can_move h.concrete c.args.t ≡ true = cc in
+    let moves : can_move h.concrete.concrete c.args.t ≡ true = cc in
     subst (λ (x : SharedView). RefusesEntry p limit (log_state x) c.args.t c.args.piece.now Limit) c.self.view_is
     (subst (λ (x : PieceView). RefusesEntry p limit h c.args.t x Limit) c.piece.view_is
-    (past_limit p s.machine.program limit h a c.args.t s.steps s.limit c.from.result
+    (past_limit p s.machine.view.program limit h a c.args.t s.steps s.limit c.from.result
     c.is_before_local-shared.result v.program stands moves c.in-None.ensures c.is_before_local-shared.ensures
     c.from.ensures v.counted v.limit_is v.within c.if-self-piece.true))
 
@@ -33,16 +33,16 @@ returns-clause-none g c =
     let p = g.J.RunName.program in
     let limit = g.J.RunName.limit in
     let v = c.self.invariant.0 in
-    let h : LogState = record { log = s.log.items; concrete = concrete s.machine } in
+    let h : LogState = record { log = s.log.items; concrete = parts s.machine } in
     let i = c.piece.inside in
     let a : PieceView = record { thread = i.thread; origin = i.origin; here = i.here; count = i.count } in
     let stands : Stands h c.args.t a =
     subst (λ (x : PieceView). Stands h c.args.t x) (sym c.piece.view_is)
     (subst (λ (x : SharedView). Stands (log_state x) c.args.t c.args.piece.now)
     (sym c.self.view_is) c.if-not-stands.ensures) in
-    let moves : can_move h.concrete c.args.t ≡ true = cc in
+    let moves : can_move h.concrete.concrete c.args.t ≡ true = cc in
     subst (λ (x : SharedView). IsFine p limit (log_state x) c.args.t c.args.piece.now) c.self.view_is
     (subst (λ (x : PieceView). IsFine p limit h c.args.t x) c.piece.view_is
-    (in_limit p s.machine.program limit h a c.args.t s.steps s.limit c.from.result
+    (in_limit p s.machine.view.program limit h a c.args.t s.steps s.limit c.from.result
     c.is_before_local-shared.result v.program stands moves c.in-None.ensures c.is_before_local-shared.ensures
     c.from.ensures v.counted v.limit_is v.within c.if-self-piece.false))
