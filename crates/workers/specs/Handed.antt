@@ -9,7 +9,7 @@ use Rattle.runner.specs.declared.next.After.TheVariants.{Goes, Sleeps, Ends}
 use Rattle.runner.specs.Afters.{IsAfter}
 use Rattle.runner.specs.Entries.{Takes, RefusesEntry}
 use Rattle.runner.specs.Views.{PieceView, LogState, ShareView, log_state}
-use Rattle.workers.specs.SharedRuns.{SharedRunView, state_of}
+use Rattle.workers.specs.SharedRuns.{SharedRunView}
 
 -- the piece came in as an entry, which the share counts
 pub record ComesIn (p : Program) (limit : ℕ) (old : SharedRunView) (t : ℕ) (piece : PieceView) (new : SharedRunView)
@@ -59,7 +59,7 @@ pub record StopsAt (p : Program) (limit : ℕ) (old : SharedRunView) (t : ℕ) (
 
 -- how the worker goes on from a piece: as its thread does, and it ends where the run ends before its time
 abbrev pub IsNextOf : SharedRunView → ℕ → PieceView → After → Type 0
-IsNextOf d t piece after = MatchOption d.fault (IsAfter (state_of d) t piece after) (λ _. after ≡ Ends)
+IsNextOf d t piece after = MatchOption d.fault (IsAfter (log_state d.shared).concrete t piece after) (λ _. after ≡ Ends)
 
 -- the same from the first of its pieces
 abbrev pub IsNextOfFirst : SharedRunView → ℕ → List PieceView → After → Type 0

@@ -15,9 +15,9 @@ pub record SharedRunView : Type 0 where
   pub started : ℕ
   pub kept : ShareView
 
--- where the log leads
+-- where the log leads, but for the phases of the threads
 abbrev pub state_of : SharedRunView → ConcreteState
-state_of d = (log_state d.shared).concrete
+state_of d = (log_state d.shared).concrete.concrete
 
 -- a fault has its cause
 abbrev pub HasCause : Program → Outside → ℕ → Option RunFault → Type 0
