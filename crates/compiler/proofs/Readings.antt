@@ -10,6 +10,7 @@ use Rattle.backend.specs.Refusals as backend
 use Rattle.backend.specs.Lowered.{IsLowered}
 use Rattle.backend.specs.declared.lowered.Lowered.{Lowered}
 use Rattle.refinement.specs.Refines.{Refines}
+use Rattle.refinement.specs.Pieces.{RefinesInPieces}
 use Rattle.compiler.specs.Accepts.{AcceptsText, RefusesProgram, RefusesText}
 use Rattle.compiler.specs.Compiles.{IsRead, IsReadLowered}
 
@@ -28,8 +29,9 @@ not_fitting text p e a (inr long) =
 
 -- a program whose code fits
 pub read_whole : (text : List ℕ) (c : CheckedProgram) (lowered : Lowered) → IsRead text c
-    → Refines (said_by c) (code_of (said_by c)) → IsLowered (said_by c) lowered → IsReadLowered text c lowered
-read_whole text c lowered read refines is = record {
+    → Refines (said_by c) (code_of (said_by c)) → RefinesInPieces (said_by c) (code_of (said_by c))
+    → IsLowered (said_by c) lowered → IsReadLowered text c lowered
+read_whole text c lowered read refines pieces is = record {
   accepts = read.accepts;
   code = is;
   compiled = record {
@@ -38,6 +40,7 @@ read_whole text c lowered read refines is = record {
     fits = is.fits;
     code = is.image;
     refines = subst (λ (i : Image). Refines (said_by c) i) (sym is.image) refines;
+    pieces = subst (λ (i : Image). RefinesInPieces (said_by c) i) (sym is.image) pieces;
   };
 }
 

@@ -6,6 +6,7 @@ use Rattle.program.specs.Trees.{Program}
 use Rattle.program.specs.WellFormed.{WellFormed}
 use Rattle.lowering.specs.Pieces.{code_of}
 use Rattle.refinement.specs.Refines.{Refines}
+use Rattle.refinement.specs.Pieces.{RefinesInPieces}
 use Rattle.backend.specs.Lowered.{IsLowered}
 use Rattle.backend.specs.Refusals.{CodeFits}
 use Rattle.backend.specs.declared.lowered.Lowered.{Lowered}
@@ -16,13 +17,15 @@ pub record IsRead (text : List ℕ) (c : CheckedProgram) : Type 0 where
   pub accepts : AcceptsText text (said_by c)
   pub well_formed : WellFormed (said_by c)
 
--- the text is a program; the image is its code, no longer than an image may have, and refines it
+-- the text is a program; the image is its code, no longer than an image may have, and refines it, on a machine whose
+-- futex calls are one step each, and on one that takes them in pieces, over any number of buckets
 pub record IsCompiled (text : List ℕ) (image : Image) : Type 0 where
   pub program : Program
   pub accepts : AcceptsText text program
   pub fits : CodeFits program
   pub code : image ≡ code_of program
   pub refines : Refines program image
+  pub pieces : RefinesInPieces program image
 
 -- the text's checked program, and what it is lowered to
 pub record IsReadLowered (text : List ℕ) (c : CheckedProgram) (lowered : Lowered) : Type 0 where

@@ -5,16 +5,21 @@ use Rattle.std.proofs.Common.{Option, ap, arith, subst}
 use Rattle.std.proofs.Common.{Some, None, refl, sym, ◌∙◌, inl, inr}
 use Rattle.words.specs.declared.outcome.Outcome.TheVariants as outcome
 use Rattle.isa.specs.Programs.{Program as Image}
+use Rattle.machine.specs.PieceStates.{PieceState}
+use Rattle.machine.specs.PieceSteps.{PieceRun}
 use Rattle.machine.specs.Runs.{CanStep, MachineRun, Step}
 use Rattle.machine.specs.States.{State}
 use Rattle.program.specs.Trees.{Program}
 use Rattle.words.specs.declared.outcome.Cause.{Cause}
 use Rattle.meaning.specs.Labels.{Aborted, Action, Ended, Kill, Kind, Stray}
 use Rattle.meaning.specs.Processes.{Over, Process}
+use Rattle.meaning.specs.Runs.{CanMove, IsRun}
 use Rattle.meaning.specs.States.{SourceState}
 use Rattle.proof_exploration.specs.Exploring.{IsOver, IsStuck}
 use Rattle.refinement.specs.Refines.{Explained, Refines, is_kill_kind, is_stray_kind, processes_of}
-use Rattle.refinement.specs.Seen.{machine_end, process_end}
+use Rattle.refinement.specs.Outside.{killed_threads, stray_threads}
+use Rattle.refinement.specs.Pieces.{ExplainedInPieces, RefinesInPieces, RestsInPieces}
+use Rattle.refinement.specs.Seen.{machine_end, process_end, source_end}
 use Rattle.source_search.specs.Found.{AreFrom, AreNamed, HasFailed, IsCounted, IsNamed, LeadsNowhere, kills_of, one_kill}
 use Rattle.source_search.specs.declared.outside.Outside.{Outside}
 use Rattle.image_ends.specs.Ending.{AllOver, IsSearched}
@@ -82,41 +87,74 @@ has_failed may s q cause (Some (Over (Aborted c))) is e counted =
 has_failed may s q cause (Some (Over (Ended z))) is e counted = absurd (cc)
 has_failed may s q cause (Some other) is e counted = absurd (cc)
 
+-- a run of the program that explains a run of its image, by what came from outside in both
+module _ (p : Program) (may : Outside) (steps : List Step) (actions : List Action) (source : SourceState)
+    (is_run : IsRun p actions source) (strays : processes_of is_stray_kind actions ≡ stray_threads p steps)
+    (kills : processes_of is_kill_kind actions ≡ killed_threads steps) (calm : IsSearched p may steps) where
+  from : AreFrom may actions
+  from = (
+    are_named may actions (λ e. strays ∙ calm.called_for e),
+    omega (arith, kills_are actions, ap length kills, calm.killed),
+  )
+
+  over_at : LeadsNowhere p may (IsStuck p) → ((q : ℕ) → CanMove p source q → ⊥) → (q : ℕ) (at : Process)
+      → source.process q ≡ Some at → IsOver at ⊎ (IsOver at → ⊥) → IsOver at
+  over_at nowhere rests q at stands (inl is) = is
+  over_at nowhere rests q at stands (inr not) =
+      absurd (nowhere actions source is_run from
+      (record { rests = rests; process = q; at = at; stands = stands; goes_on = not }))
+
+  -- where no run gets stuck, and no process can move, each is over
+  pub each_over : (s : State) → s.output ≡ source.printed → ((q : ℕ) → machine_end s q ≡ source_end source q)
+      → LeadsNowhere p may (IsStuck p) → ((q : ℕ) → CanMove p source q → ⊥) → AllOver p s
+  each_over s output ends nowhere rests = record {
+    actions = actions;
+    source = source;
+    run = is_run;
+    output = output;
+    ends = ends;
+    over = λ q at stands. over_at nowhere rests q at stands (is_over at);
+  }
+
+  -- where none aborts in any run, none has
+  pub nobody_aborted : LeadsNowhere p may (HasFailed may) → (q : ℕ) (cause : Cause)
+      → source_end source q ≡ Some (outcome.Aborted cause) → IsCounted may cause → ⊥
+  nobody_aborted nowhere q cause e counted =
+      nowhere actions source is_run from (has_failed may source q cause (source.process q) refl e counted)
+
 module _ (p : Program) (image : Image) (may : Outside) (steps : List Step) (s : State) (refines : Refines p image)
     (run : MachineRun image steps s) (few : length steps < 2 ^ 32)
     (calm : IsSearched p may steps) where
   explained : Explained p image steps s
   explained = refines.follows steps s run few
 
-  from : AreFrom may explained.actions
-  from = (
-    are_named may explained.actions (λ e. explained.strays ∙ calm.called_for e),
-    omega (arith, kills_are explained.actions, ap length explained.kills, calm.killed),
-  )
-
   pub all_over : LeadsNowhere p may (IsStuck p) → ((t : ℕ) → CanStep s t → ⊥) → AllOver p s
-  all_over nowhere rests = record {
-    actions = explained.actions;
-    source = explained.source;
-    run = explained.run;
-    output = explained.output;
-    ends = explained.ends;
-    over = λ q at stands. over q at stands (is_over at);
-  }
-    where
-      over : (q : ℕ) (at : Process) → explained.source.process q ≡ Some at → IsOver at ⊎ (IsOver at → ⊥) → IsOver at
-      over q at stands (inl is) = is
-      over q at stands (inr not) =
-          absurd (nowhere explained.actions explained.source explained.run from (record {
-            rests = explained.at_rest rests;
-            process = q;
-            at = at;
-            stands = stands;
-            goes_on = not;
-          }))
+  all_over nowhere rests =
+      each_over p may steps explained.actions explained.source explained.run explained.strays explained.kills calm s
+      explained.output explained.ends nowhere (explained.at_rest rests)
 
   pub none_aborted : LeadsNowhere p may (HasFailed may) → (q : ℕ) (cause : Cause)
       → machine_end s q ≡ Some (outcome.Aborted cause) → IsCounted may cause → ⊥
   none_aborted nowhere q cause e counted =
-      nowhere explained.actions explained.source explained.run from
-      (has_failed may explained.source q cause (explained.source.process q) refl (sym (explained.ends q) ∙ e) counted)
+      nobody_aborted p may steps explained.actions explained.source explained.run explained.strays explained.kills calm
+      nowhere q cause (sym (explained.ends q) ∙ e) counted
+
+-- the same of a run in pieces
+module _ (p : Program) (image : Image) (may : Outside) (buckets : ℕ) (steps : List Step) (s : PieceState)
+    (refines : RefinesInPieces p image) (some : 0 < buckets) (run : PieceRun image buckets steps s)
+    (few : length steps < 2 ^ 32) (calm : IsSearched p may steps) where
+  explained_in_pieces : ExplainedInPieces p image steps s
+  explained_in_pieces = refines.follows buckets steps s some run few
+
+  pub all_over_in_pieces : LeadsNowhere p may (IsStuck p) → RestsInPieces image s → AllOver p s.base
+  all_over_in_pieces nowhere rests =
+      let e = explained_in_pieces in
+      each_over p may steps e.actions e.source e.run e.strays e.kills calm s.base e.output e.ends nowhere
+      (e.at_rest rests)
+
+  pub none_aborted_in_pieces : LeadsNowhere p may (HasFailed may) → (q : ℕ) (cause : Cause)
+      → machine_end s.base q ≡ Some (outcome.Aborted cause) → IsCounted may cause → ⊥
+  none_aborted_in_pieces nowhere q cause is counted =
+      let e = explained_in_pieces in
+      nobody_aborted p may steps e.actions e.source e.run e.strays e.kills calm nowhere q cause (sym (e.ends q) ∙ is)
+      counted

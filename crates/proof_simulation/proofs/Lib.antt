@@ -41,3 +41,5 @@ pub mod Tracking
 pub mod Counting
 pub mod Finishing
 pub mod Explaining
+pub mod InPieces
+pub mod Refining

@@ -542,7 +542,7 @@ module _ (p : Program) (w : WellFormed p) where
         kills = r.kills;
       }
 
-  fine_locally : (steps : List Step) (s : State)
+  pub fine_locally : (steps : List Step) (s : State)
       → Trace (code_of p) (opening_state (code_of p)) none_taken steps s → length steps < 2 ^ 32
       → (t n : ℕ) (x y : Thread) → s.thread t ≡ Some x → s.asleep t ≡ None → local_after (code_of p) t n x ≡ Some y
       → NextIsBroken (code_of p) (with_thread s t y) t → ⊥

@@ -11,4 +11,3 @@ pub mod Progress
 pub mod Explaining
 pub mod Serving
 pub mod Strays
-pub mod PieceRuns

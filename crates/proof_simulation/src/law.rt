@@ -4,8 +4,7 @@ ghost use Rattle.proof_commutation.specs.Deferring.{is_internal};
 ghost use Rattle.proof_thread.specs.Variables.{IsVariable, variable_address};
 ghost use Rattle.locals.specs.Looks.{look};
 ghost use Rattle.locals.specs.Threads.{Thread, is_dying};
-ghost use Rattle.machine.specs.PieceStates.{PieceState};
-ghost use Rattle.machine.specs.PieceSteps.{PieceRun};
+ghost use Rattle.machine.specs.PieceStates.{IsHeldRight, PieceState};
 ghost use Rattle.machine.specs.Runs.{IsOwnStep, MachineRun, Step};
 ghost use Rattle.machine.specs.States.{State, opening_state};
 ghost use Rattle.meaning.specs.Labels.{Kind, Label, kind_of};
@@ -17,9 +16,9 @@ ghost use Rattle.proof_simulation.specs.Corresponding.{Corresponds};
 ghost use Rattle.proof_commutation.specs.Placed.{actions_up_to};
 ghost use Rattle.proof_thread.specs.Deferrals.{mark_of};
 ghost use Rattle.proof_simulation.specs.Explaining.{IsDue, IsReached, explanation, explanation_of_trace};
-ghost use Rattle.proof_simulation.specs.PieceRuns.{ExplainedPieces};
 ghost use Rattle.proof_simulation.specs.Progress.{Progress, answer_in, visible_step, progress, progress_of_trace};
 ghost use Rattle.proof_pieces.specs.Traces.{Trace, none_taken};
+ghost use Rattle.proof_pieces.specs.Whole.{whole};
 ghost use Rattle.words.specs.Updates.{put};
 ghost use Rattle.proof_simulation.specs.Tracking.{CanTake, HasDeferred, RaisedSo, Tracks, TracksKill, TracksStray};
 ghost use Rattle.proof_simulation.specs.Strays.{stray_condition};
@@ -27,15 +26,19 @@ ghost use Rattle.program.specs.Trees.{Program};
 ghost use Rattle.program.specs.WellFormed.{WellFormed};
 ghost use Rattle.program.specs.declared.kinds.Member.{Member};
 ghost use Rattle.refinement.specs.Refines.{Explained, Refines};
+ghost use Rattle.refinement.specs.Pieces.{ExplainedInPieces, RefinesInPieces};
 ghost use Rattle.refinement.specs.Seen.{machine_end, source_end};
 ghost use Rattle.words.specs.Signed.{word_of};
 
 /// The code of each checked program refines it, in the whole language: locals, expressions, IF, WHILE, procedures with
 /// arguments and results, PRINT, ABORT, faults, FORK, and JOIN with INTO and ABORTED; monitors with ENTRY and INTERNAL
 /// procedures, nested calls and re-entry; WAIT, NOTIFY and BROADCAST; abandoned monitors and RECOVER parts; over every
-/// schedule of the machine, with wakes that nobody called for, and kills between any two steps.
+/// schedule of the machine, with wakes that nobody called for, and kills between any two steps. It does so where a futex
+/// call is one step, and where it takes the buckets of its words, compares and acts in steps of its own, between which
+/// steps of other threads, such wakes and kills come, over any number of buckets.
 pub fn code_refines()
-    ensures { (p : Program) → WellFormed p → Refines p (code_of p) }
+    ensures whole { (p : Program) → WellFormed p → Refines p (code_of p) }
+    ensures pieces { (p : Program) → WellFormed p → RefinesInPieces p (code_of p) }
 {}
 
 /// The source follows the machine, step by step. It tracks the machine's opening state; a step of the machine that is
@@ -174,11 +177,15 @@ pub fn traces_explain()
         × (e.actions ≡ explanation_of_trace p steps s trace) }
 {}
 
-/// Each run whose futex calls are taken in pieces, with any number of buckets, of fewer than 2^32 steps, is explained by
-/// a run of the program, in all that `Refines` says: a call takes the buckets of its words, compares and acts in steps
-/// of its own, and steps of other threads, wakes that nobody called for and kills come between. No code takes such
-/// steps yet.
+/// A state that a run in pieces has come to is explained by the explanation of the run's trace (`pieces_are_whole_calls`
+/// of `proof_pieces` gives it), in all that `RefinesInPieces` says: what is seen there is what is seen of its state with
+/// whole calls, and where no thread can take a piece no bucket is held, and the two are one.
 pub fn piece_runs_explain()
-    ensures { (p : Program) → WellFormed p → (n : ℕ) (steps : List Step) (s : PieceState) → 0 < n
-        → PieceRun (code_of p) n steps s → length steps < 2 ^ 32 → ExplainedPieces p steps s }
+    ensures { (p : Program) → WellFormed p → (steps : List Step) (s : PieceState)
+        → IsHeldRight (code_of p) s
+        → (trace : Trace (code_of p) (opening_state (code_of p)) none_taken steps
+        (whole (code_of p) s))
+        → length steps < 2 ^ 32
+        → (e : ExplainedInPieces p (code_of p) steps s)
+        × (e.actions ≡ explanation_of_trace p steps (whole (code_of p) s) trace) }
 {}

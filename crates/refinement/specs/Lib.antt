@@ -2,4 +2,5 @@ pub mod Outside
 pub mod Seen
 pub mod Pace
 pub mod Refines
+pub mod Pieces
 pub mod Built

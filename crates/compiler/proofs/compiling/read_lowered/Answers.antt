@@ -17,5 +17,6 @@ returns-in_err-lowered c =
 pub returns : goal.returns
 returns c =
     read_whole c.args.text.now c.in_ok-checked.checked c.in_ok-lowered.lowered c.in_ok-checked.ensures
-    (c.code_refines.ensures (said_by c.in_ok-checked.checked) c.in_ok-checked.ensures.well_formed)
+    (c.code_refines.ensures.whole (said_by c.in_ok-checked.checked) c.in_ok-checked.ensures.well_formed)
+    (c.code_refines.ensures.pieces (said_by c.in_ok-checked.checked) c.in_ok-checked.ensures.well_formed)
     c.in_ok-lowered.ensures
