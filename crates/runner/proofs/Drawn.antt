@@ -1,60 +1,66 @@
 -- What comes of an entry that was drawn: a run of such entries comes to its end.
-use Rattle.std.proofs.Common.{◌≡◌, ◌≢◌, ◌≤◌, ◌<◌, ◌+◌, ◌-◌, ℕ, zero, suc, Bool, true, false, List, [], ◌∷◌}
-use Rattle.std.proofs.Common.{Some, None, Result, Ok, Err, OnOk, IfErr, slice_get, slice_set, refl, ap, arith, ◌∙◌}
+use Rattle.std.proofs.Common.{◌≡◌, ◌≢◌, ◌≤◌, ◌<◌, ◌+◌, ℕ, zero, suc, Bool, true, false, List, [], ◌∷◌, replicate}
+use Rattle.std.proofs.Common.{Some, None, Result, Ok, Err, OnOk, IfErr, slice_get, slice_set, ap, sym, subst, arith, ◌∙◌}
+use Rattle.std.proofs.Common.{inl, inr}
+use Rattle.std.proofs.lemmas.Bool.{cases_eq}
 use Rattle.isa.specs.Programs.{Program}
+use Rattle.machine.specs.States.{thread_of}
+use Rattle.machine.proofs.Placing.{get_set_other}
 use Rattle.runner.specs.declared.fault.RunFault.{RunFault}
 use Rattle.runner.specs.declared.fault.RunFault.TheVariants.{Stray, CannotMove, Broken, Limit, Memory}
-use Rattle.machine.specs.States.{thread_of}
 use Rattle.runner.specs.Entries.{RefusesKill, RefusesOutside, TakesKill, TakesOutside}
 use Rattle.runner.specs.Logs.{Outside, cost}
-use Rattle.runner.specs.Reports.{CanFail}
-use Rattle.runner.specs.Rounds.{IsAsleep, unrefused}
+use Rattle.runner.specs.Reports.{CanFail, IsStopped}
+use Rattle.runner.specs.Rounds.{AllPast, AllStopped, Idle, IsAsleep, NoneLeft, left}
 use Rattle.runner.specs.Views.{LogState}
 use Rattle.runner.proofs.Growing.{cost_more}
+use Rattle.runner.proofs.Passing.{none_true, stops}
 
 -- one fewer
-pub one_fewer : (xs : List Bool) (t : ℕ) → slice_get xs t ≡ Some false
-    → suc (unrefused (slice_set xs t true)) ≡ unrefused xs
+pub one_fewer : (xs : List Bool) (t : ℕ) → slice_get xs t ≡ Some false → suc (left (slice_set xs t true)) ≡ left xs
 one_fewer [] t is = absurd cc
 one_fewer (true ∷ xs) zero is = absurd cc
 one_fewer (false ∷ xs) zero is = omega arith
 one_fewer (true ∷ xs) (suc t) is = one_fewer xs t is
 one_fewer (false ∷ xs) (suc t) is = let less = one_fewer xs t is in omega (arith, less)
 
--- an entry was made, or one thread more was refused
-pub draws_end : (limit old new : ℕ) (made : Bool) (xs ys : List Bool) (t : ℕ)
-    → slice_get xs t ≡ Some false → (made ≡ true → (old < new) × (new ≤ limit)) → (made ≡ false → new ≡ old)
-    → (made ≡ true → ys ≡ xs) → (made ≡ false → ys ≡ slice_set xs t true)
-    → (limit - new) + unrefused ys < (limit - old) + unrefused xs
-draws_end limit old new true xs ys t free more same kept refused =
-    let m = more refl in
-    let a = m.0 in
-    let b = m.1 in
-    let is : unrefused ys ≡ unrefused xs = ap unrefused (kept refl) in
-    omega (arith, a, b, is)
-draws_end limit old new false xs ys t free more same kept refused =
-    let e = same refl in
-    let fewer = one_fewer xs t free in
-    let is : unrefused ys ≡ unrefused (slice_set xs t true) = ap unrefused (refused refl) in
-    omega (arith, e, fewer, is)
+-- a thread that was drawn and can make no entry is passed over
+pub one_stopped : (p : Program) (limit : ℕ) (h : LogState) (t : ℕ) (passed : List Bool)
+    → IsStopped p limit h.log h.concrete t → AllStopped p limit h passed → AllStopped p limit h (slice_set passed t true)
+one_stopped p limit h t passed now stopped u is =
+    elim (cases_eq u t) [
+      | inl e ↦ subst (λ (v : ℕ). IsStopped p limit h.log h.concrete v) (sym e) now
+      | inr other ↦ stopped u (sym (get_set_other passed t u true other) ∙ is)
+    ]
+
+-- nobody is passed over at the start
+pub none_stopped : (p : Program) (limit : ℕ) (h : LogState) → AllStopped p limit h (replicate 65 false)
+none_stopped p limit h t is = absurd (none_true 65 t is)
+
+-- where each thread that can move was refused or is passed over, none can make its next entry
+pub idle_so : (p : Program) (limit : ℕ) (h : LogState) (refused passed : List Bool) → AllPast p limit h refused
+    → AllStopped p limit h passed → NoneLeft h.concrete refused passed → Idle p limit h
+idle_so p limit h refused passed past stopped none t moves =
+    elim (none t moves) [
+      | inl was ↦ stops p limit h t (past t was)
+      | inr is ↦ stopped t is
+    ]
 
 -- a wake from outside was made
-pub wake_ends : (limit : ℕ) (old new : LogState) (t n : ℕ) → TakesOutside limit old t new
-    → (limit - cost new.log) + n < (limit - cost old.log) + n
-wake_ends limit old new t n takes =
+pub wake_more : (limit : ℕ) (old new : LogState) (t : ℕ) → TakesOutside limit old t new
+    → (cost old.log < cost new.log) × (cost new.log ≤ limit)
+wake_more limit old new t takes =
     let more : cost new.log ≡ cost old.log + (0 + 1) = ap cost takes.log
     ∙ cost_more old.log t 0 (Some takes.event) in
-    let within = takes.within in
-    omega (arith, more, within)
+    (omega (arith, more), takes.within)
 
 -- a kill was made
-pub kill_ends : (limit : ℕ) (old new : LogState) (t n : ℕ) → TakesKill limit old t new
-    → (limit - cost new.log) + n < (limit - cost old.log) + n
-kill_ends limit old new t n takes =
+pub kill_more : (limit : ℕ) (old new : LogState) (t : ℕ) → TakesKill limit old t new
+    → (cost old.log < cost new.log) × (cost new.log ≤ limit)
+kill_more limit old new t takes =
     let more : cost new.log ≡ cost old.log + (0 + 1) = ap cost takes.log
     ∙ cost_more old.log t 0 (Some takes.event) in
-    let within = takes.within in
-    omega (arith, more, within)
+    (omega (arith, more), takes.within)
 
 -- what comes of a thing that was done comes of it where it was done
 pub if_made : {T E P Q : Type 0} → (r : Result T E) → (P → Q) → OnOk r P → OnOk r Q

@@ -5,19 +5,22 @@ use Rattle.std.specs.Prelude.{if◌then◌else◌}
 use mir.Val.{bool_byte}
 use Rattle.isa.specs.Programs.{Program}
 use Rattle.locals.specs.Threads.{Thread}
-use Rattle.locals.specs.Looks.{look}
-use Rattle.locals.specs.Steps.{local_step}
+use Rattle.locals.specs.Looks.{Look, Goes, Asks, Leaves, Breaks, Rests, look}
+use Rattle.locals.specs.Steps.{local_step, local_next}
 use Rattle.machine.specs.declared.event.Event.{Event}
 use Rattle.machine.specs.declared.event.StepFault.{StepFault}
-use Rattle.machine.specs.States.{ConcreteState, thread_of}
+use Rattle.machine.specs.States.{Common, ConcreteState, thread_of}
 use Rattle.machine.specs.Runs.{has_ended}
+use Rattle.machine.specs.ConcreteServing.{serve}
 use Rattle.machine.specs.ConcreteSteps.{Stepped, thread_step, on_machine, fault_of, fault_at, step_of, step_awake}
-use Rattle.machine.specs.ConcreteSteps.{step_thread, put_thread, can_move, thread_can_move}
+use Rattle.machine.specs.ConcreteSteps.{go_on_with, step_thread, put_thread, can_move, thread_can_move}
 use Rattle.machine.proofs.Placing.{thread_at-put}
 use Rattle.runner.specs.declared.fault.RunFault.TheVariants.{Limit}
 use Rattle.runner.specs.Views.{PieceView, LogState}
 use Rattle.runner.specs.Logs.{event_cost, cost}
 use Rattle.runner.specs.Entries.{entry_end, entry_end_by, Stands, IsFine, RefusesEntry}
+use Rattle.runner.specs.Rounds.{step_cost}
+use Rattle.runner.proofs.Growing.{inside}
 
 -- a thread that can move was made, is awake, and has not ended
 pub record IsUp (k : ConcreteState) (t : ℕ) : Type 0 where
@@ -72,6 +75,52 @@ pub step_end : (p : Program) (k : ConcreteState) (t : ℕ) (here : Thread) (k' :
     → entry_end p k t here ≡ Ok (k', Some e)
 step_end p k t here k' e h is =
     step_by (put_thread k t here) (step_of p (put_thread k t here) t) k' e (local_step p t here) h is
+
+-- what an entry costs, by what comes behind its local steps
+pub costs_so : (there new : ConcreteState) (r : Result (ConcreteState × Event) StepFault) (ls : Option Thread)
+    (event : Option Event) → entry_end_by there r ls ≡ Ok (new, event) → event_cost event ≡ step_cost ls
+costs_so there new r (Some x) event h =
+    ap (λ (q : ConcreteState × Option Event). event_cost q.1) (sym (inside _ _ h))
+costs_so there new (Ok x) None event h =
+    ap (λ (q : ConcreteState × Option Event). event_cost q.1) (sym (inside _ _ h))
+costs_so there new (Err f) None event h = absurd cc
+
+-- an entry is refused just where its shared step is
+pub refused_by : (there : ConcreteState) (r : Result (ConcreteState × Event) StepFault) (ls : Option Thread)
+    (f : StepFault)
+    → (let R : Type 0 = Result (ConcreteState × Option Event) StepFault in
+    (let a : R = entry_end_by there r ls in a) ≡ (let b : R = Err f in b)) → (ls ≡ None) × (r ≡ Err f)
+refused_by there r (Some x) f h = absurd cc
+refused_by there (Ok x) None f h = absurd cc
+refused_by there (Err g) None f h = let e : g ≡ f = cc in (refl, ap Err e)
+
+pub refused_end : (there : ConcreteState) (r : Result (ConcreteState × Event) StepFault) (ls : Option Thread)
+    (f : StepFault) → ls ≡ None → r ≡ Err f → entry_end_by there r ls ≡ Err f
+refused_end there r ls f none fails = λ i. entry_end_by there (fails i) (none i)
+
+refused_step : (there : ConcreteState) (t : ℕ) (r : Result Stepped StepFault) (f : StepFault) → Some f ≡ fault_of r
+    → entry_end_by there (on_machine there t r) None ≡ Err f
+refused_step there t (Ok r) f is = absurd cc
+refused_step there t (Err g) f is = let e : g ≡ f = cc in ap Err e
+
+refused_look : (there : ConcreteState) (made t : ℕ) (c : Common) (l : Look) (f : StepFault)
+    → Some f ≡ fault_of (thread_step made t c l)
+    → entry_end_by there (on_machine there t (thread_step made t c l)) (local_next l) ≡ Err f
+refused_look there made t c (Goes x) f is = absurd cc
+refused_look there made t c (Asks request go) f is =
+    refused_step there t (go_on_with go (serve made t request c)) f is
+refused_look there made t c (Leaves phase) f is = absurd cc
+refused_look there made t c Breaks f is = refused_step there t (thread_step made t c Breaks) f is
+refused_look there made t c Rests f is = refused_step there t (thread_step made t c Rests) f is
+
+-- where a fault stands, the piece is refused with it
+pub refused_at : (p q : Program) (k : ConcreteState) (t : ℕ) (o here : Thread) (f : StepFault) → q ≡ p
+    → k.common.asleep t ≡ None → thread_of k t ≡ Some o → Some f ≡ fault_at q k t here → entry_end p k t here ≡ Err f
+refused_at p q k t o here f same awake stands is =
+    let there = put_thread k t here in
+    ap (λ x. entry_end x k t here) (sym same)
+    ∙ ap (λ d. entry_end_by there d (local_step q t here)) (step_there q k t o here awake stands)
+    ∙ refused_look there (length k.threads) t k.common (look q t here) f is
 
 fine_by : (there : ConcreteState) (t : ℕ) (r : Result Stepped StepFault) (ls : Option Thread) → None ≡ fault_of r
     → (concrete : ConcreteState) × (event : Option Event)

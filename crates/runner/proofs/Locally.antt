@@ -1,5 +1,5 @@
 -- Where a run meets a step that may not be, local steps of one thread lead there from where the log leads.
-use Rattle.std.proofs.Common.{◌≡◌, ◌<◌, ◌-◌, ℕ, Some, subst, sym, ◌∙◌, refl, length-set}
+use Rattle.std.proofs.Common.{◌≡◌, ◌≤◌, ◌<◌, ◌-◌, ℕ, Some, subst, sym, ◌∙◌, refl, length-set, arith}
 use Rattle.std.proofs.lemmas.Bool.{eq-eqb}
 use Rattle.words.specs.Updates.{put}
 use Rattle.locals.specs.Threads.{Thread}
@@ -20,8 +20,9 @@ use Rattle.runner.proofs.Unrolling.{breaks_by, holds, kept_put}
 out_there : (s s' : State) (a : ℕ) → s'.size ≡ s.size → (Lies s a → ⊥) → Lies s' a → ⊥
 out_there s s' a same out lies = out (subst (λ (n : ℕ). a < n) same lies)
 
--- what can't be served depends on the memory's size, on how many threads were made and on how many there can be alone
-unserved_there : (r : Request) (s s' : State) → s'.size ≡ s.size → s'.made ≡ s.made → s'.most ≡ s.most
+-- what can't be served depends on the memory's size, on how many threads were made and on how many there can be alone;
+-- it can't be either where fewer were made
+unserved_there : (r : Request) (s s' : State) → s'.size ≡ s.size → s'.made ≤ s.made → s'.most ≡ s.most
     → IsUnserved r s → IsUnserved r s'
 unserved_there (AskLoad a) s s' size made most h = out_there s s' a size h
 unserved_there (AskStore a v) s s' size made most h = out_there s s' a size h
@@ -30,7 +31,7 @@ unserved_there (AskCompareSwap a expected new) s s' size made most h = out_there
 unserved_there (AskOr a v) s s' size made most h = out_there s s' a size h
 unserved_there (AskAdd a v) s s' size made most h = out_there s s' a size h
 unserved_there (AskFork entry arguments has_room) s s' size made most h =
-    (subst (λ (n : ℕ). s'.made < n) (sym most) (subst (λ (n : ℕ). n < s.most) (sym made) h.0), h.1)
+    let full = h.0 in (omega (arith, full, made, most), h.1)
 unserved_there (AskPrint number) s s' size made most h = h
 unserved_there (AskWait a expected) s s' size made most h = out_there s s' a size h
 unserved_there (AskWake a n) s s' size made most h = out_there s s' a size h
@@ -40,7 +41,7 @@ unserved_there AskReturn s s' size made most h = h
 unserved_there (AskReturnValue v) s s' size made most h = h
 unserved_there (AskFault cause) s s' size made most h = h
 
-broken_there : (l : Look) (s s' : State) → s'.size ≡ s.size → s'.made ≡ s.made → s'.most ≡ s.most → IsBroken s l
+pub broken_there : (l : Look) (s s' : State) → s'.size ≡ s.size → s'.made ≤ s.made → s'.most ≡ s.most → IsBroken s l
     → IsBroken s' l
 broken_there (Goes x) s s' size made most h = h
 broken_there (Asks request go) s s' size made most h = unserved_there request s s' size made most h
@@ -70,7 +71,7 @@ locally_so p may limit m fits =
         thread = m.here;
         stands = put_there (state_of k).thread t (Some m.here);
         awake = u.awake;
-        breaks = broken_there (look p t m.here) (state_of there) s' refl (sym (length-set k.threads (t - 1) m.here))
-            refl breaks;
+        breaks = broken_there (look p t m.here) (state_of there) s' refl
+            (omega (arith, length-set k.threads (t - 1) m.here)) refl breaks;
       },
     )

@@ -1,38 +1,37 @@
 -- A thread whose next entry would pass the limit keeps that through the entries of others.
-use Rattle.std.proofs.Common.{◌≡◌, ◌≢◌, ℕ, zero, suc, ◌+◌, ◌-◌, ◌<◌, ◌≤◌, ◌==◌, Bool, true, false, cond, not}
-use Rattle.std.proofs.Common.{◌||◌, List, length, Option, Some, None, Result, Ok, Err, is_some, slice_get}
+use Rattle.std.proofs.Common.{◌≡◌, ◌≢◌, ℕ, zero, suc, ◌+◌, ◌-◌, ◌<◌, ◌≤◌, ◌==◌, Bool, true, false, not}
+use Rattle.std.proofs.Common.{◌||◌, List, length, Option, Some, None, Result, Ok, Err, slice_get}
 use Rattle.std.proofs.Common.{slice_set, replicate, inl, inr, refl, ap, sym, ◌∙◌, arith, subst, length-set}
-use Rattle.std.specs.Prelude.{if◌then◌else◌, nat_lt}
-use Rattle.std.proofs.lemmas.Bool.{cases_eq, eqb-true, eq-eqb}
+use Rattle.std.proofs.lemmas.Bool.{both_ways, cases_eq}
 use Rattle.std.proofs.lemmas.Option.{slice_get_within}
 use Rattle.isa.specs.Programs.{Program}
 use Rattle.locals.specs.Threads.{Thread}
-use Rattle.locals.specs.Looks.{Request, AskLoad, AskStore, AskSwap, AskCompareSwap, AskOr, AskAdd, AskFork, AskPrint}
-use Rattle.locals.specs.Looks.{AskWait, AskWake, AskRequeue, AskReturn, AskReturnValue, AskFault, Look, Goes}
-use Rattle.locals.specs.Looks.{Asks, Leaves, Breaks, Rests, look}
-use Rattle.locals.specs.Steps.{local_step, local_after, local_next}
+use Rattle.locals.specs.Looks.{look}
+use Rattle.locals.specs.Steps.{local_step, local_after}
 use Rattle.machine.specs.declared.event.Event.{Event}
 use Rattle.machine.specs.declared.event.StepFault.{StepFault}
-use Rattle.machine.specs.declared.event.StepFault.TheVariants as step
-use Rattle.machine.specs.States.{Common, ConcreteState, thread_of, state_of}
-use Rattle.machine.specs.ConcreteServing.{Served, serve, within, requeue_to, load}
-use Rattle.machine.specs.ConcreteSteps.{Stepped, go_on_with, thread_step, on_machine, fault_of, put_thread}
-use Rattle.machine.specs.ConcreteSteps.{can_move, thread_can_move}
+use Rattle.machine.specs.declared.event.StepFault.TheVariants.{Broken, CannotMove}
+use Rattle.machine.specs.States.{ConcreteState, thread_of, state_of}
+use Rattle.machine.specs.Runs.{IsBroken}
+use Rattle.machine.specs.ConcreteSteps.{step_of, put_thread, can_move, thread_can_move}
 use Rattle.machine.specs.ConcreteOutside.{kill_of, stray_of}
 use Rattle.machine.specs.Views.{IsWellFormed}
 use Rattle.machine.proofs.Killing.{kills_so}
 use Rattle.machine.proofs.Outside.{strays_so}
-use Rattle.machine.proofs.Placing.{get_set_other, thread_at-other}
+use Rattle.machine.proofs.Placing.{get_set_other, thread_at-other, thread_at-put}
+use Rattle.machine.proofs.Refusing.{breaks_so}
+use Rattle.machine.proofs.Stepping.{steps_so}
 use Rattle.runner.specs.declared.fault.RunFault.TheVariants.{Limit}
+use Rattle.runner.specs.declared.fault.RunFault.TheVariants.{CannotMove as CannotMove'}
 use Rattle.runner.specs.Views.{PieceView, LogState}
 use Rattle.runner.specs.Logs.{Ends, event_cost, cost}
-use Rattle.runner.specs.Entries.{entry_end, entry_end_by, Takes, TakesKill, TakesOutside, RefusesEntry}
-use Rattle.runner.specs.Reports.{IsNextEntry, PassesLimit}
-use Rattle.runner.specs.Rounds.{AllPast}
-use Rattle.machine.proofs.Stepping.{steps_so}
-use Rattle.runner.proofs.Handing.{step_there, comes_in, up}
-use Rattle.runner.proofs.Growing.{inside, cost_more, ends}
+use Rattle.runner.specs.Entries.{entry_end, Takes, TakesKill, TakesOutside, RefusesEntry}
+use Rattle.runner.specs.Reports.{IsHeldUp, IsStopped}
+use Rattle.runner.specs.Rounds.{AllPast, IsPast}
+use Rattle.runner.proofs.Handing.{costs_so, refused_by, refused_end, up}
+use Rattle.runner.proofs.Growing.{cost_more, ends}
 use Rattle.runner.proofs.Beside.{Beside, beside, kill_beside, outside_beside}
+use Rattle.runner.proofs.Locally.{broken_there}
 use Rattle.runner.proofs.Once.{no_stray}
 use Rattle.runner.proofs.Unrolling.{kept_put}
 
@@ -92,113 +91,6 @@ kill_apart p k k' t event concrete gives =
     let s = kills_so p k k' t event concrete gives in
     record { beside = kill_beside t (state_of k) (state_of k') (event.value == 1) s.1.after; concrete = s.2 }
 
--- no fault
-record Fine (r : Result Served StepFault) : Type 0 where
-  pub is : None ≡ fault_of r
-
-fine_ok : (x : Served) → Fine (Ok x)
-fine_ok x = record { is = refl }
-
-within_by : (b b' : Bool) (x y : Result Served StepFault) → b ≡ b' → (Fine x → Fine y)
-    → Fine (cond b x (Err step.Broken)) → Fine (cond b' y (Err step.Broken))
-within_by true true x y e f h = f h
-within_by true false x y e f h = absurd cc
-within_by false true x y e f h = absurd cc
-within_by false false x y e f h = h
-
-within_stays : (a n m : ℕ) (x y : Result Served StepFault) → n ≡ m → (Fine x → Fine y)
-    → Fine (cond (nat_lt a n) x (Err step.Broken)) → Fine (cond (nat_lt a m) y (Err step.Broken))
-within_stays a n m x y e f h = within_by (nat_lt a n) (nat_lt a m) x y (ap (nat_lt a) e) f h
-
-either : (b : Bool) (x y : Served) → Fine (cond b (Ok x) (Ok y))
-either true x y = fine_ok x
-either false x y = fine_ok y
-
-fork_stays : (b b' room : Bool) (x x' y y' : Served) → (b ≡ true → b' ≡ true)
-    → Fine (cond b (Ok x) (cond room (Ok y) (Err step.Broken)))
-    → Fine (cond b' (Ok x') (cond room (Ok y') (Err step.Broken)))
-fork_stays b true room x x' y y' full h = fine_ok x'
-fork_stays true false room x x' y y' full h = absurd (cc (full refl))
-fork_stays false false true x x' y y' full h = fine_ok y'
-fork_stays false false false x x' y y' full h = h
-
-full_by : (made made' most most' : ℕ) → (made ≡ most → made' ≡ most') → (made == most) ≡ true
-    → (made' == most') ≡ true
-full_by made made' most most' full e = eq-eqb made' most' (full (eqb-true made most e))
-
--- a request that could be served can be, whatever other threads did since
-serve_stays : (made made' t : ℕ) (r : Request) (c d : Common) → length c.words ≡ length d.words
-    → (made ≡ c.most → made' ≡ d.most) → Fine (serve made t r c) → Fine (serve made' t r d)
-serve_stays made made' t (AskLoad a) c d e full h =
-    within_stays a (length c.words) (length d.words) _ _ e (λ _. fine_ok _) h
-serve_stays made made' t (AskStore a v) c d e full h =
-    within_stays a (length c.words) (length d.words) _ _ e (λ _. fine_ok _) h
-serve_stays made made' t (AskSwap a v) c d e full h =
-    within_stays a (length c.words) (length d.words) _ _ e (λ _. fine_ok _) h
-serve_stays made made' t (AskCompareSwap a expected new) c d e full h =
-    within_stays a (length c.words) (length d.words) _ _ e (λ _. fine_ok _) h
-serve_stays made made' t (AskOr a v) c d e full h =
-    within_stays a (length c.words) (length d.words) _ _ e (λ _. fine_ok _) h
-serve_stays made made' t (AskAdd a v) c d e full h =
-    within_stays a (length c.words) (length d.words) _ _ e (λ _. fine_ok _) h
-serve_stays made made' t (AskFork entry arguments has_room) c d e full h =
-    fork_stays (made == c.most) (made' == d.most) has_room _ _ _ _ (full_by made made' c.most d.most full) h
-serve_stays made made' t (AskPrint number) c d e full h = fine_ok _
-serve_stays made made' t (AskWait a expected) c d e full h =
-    within_stays a (length c.words) (length d.words) _ _ e (λ _. either _ _ _) h
-serve_stays made made' t (AskWake a n) c d e full h =
-    within_stays a (length c.words) (length d.words) _ _ e (λ _. fine_ok _) h
-serve_stays made made' t (AskRequeue a b n m expected) c d e full h =
-    within_stays a (length c.words) (length d.words) (within c b (requeue_to c a b n m expected))
-    (within d b (requeue_to d a b n m expected)) e
-    (within_stays b (length c.words) (length d.words) (requeue_to c a b n m expected)
-    (requeue_to d a b n m expected) e (λ _. either (load d a == expected) _ _)) h
-serve_stays made made' t AskReturn c d e full h = fine_ok _
-serve_stays made made' t (AskReturnValue v) c d e full h = fine_ok _
-serve_stays made made' t (AskFault cause) c d e full h = fine_ok _
-
-went_fine : (go : ℕ → Thread) (r : Result Served StepFault) → Fine r → None ≡ fault_of (go_on_with go r)
-went_fine go (Ok r) h = refl
-went_fine go (Err fault) h = absurd (cc h.is)
-
-fine_went : (go : ℕ → Thread) (r : Result Served StepFault) → None ≡ fault_of (go_on_with go r) → Fine r
-fine_went go (Ok r) h = fine_ok r
-fine_went go (Err fault) h = absurd cc
-
-fault_stays : (made made' t : ℕ) (c d : Common) (l : Look) → length c.words ≡ length d.words
-    → (made ≡ c.most → made' ≡ d.most) → None ≡ fault_of (thread_step made t c l)
-    → None ≡ fault_of (thread_step made' t d l)
-fault_stays made made' t c d (Goes x) e full h = refl
-fault_stays made made' t c d (Asks request go) e full h =
-    went_fine go (serve made' t request d)
-    (serve_stays made made' t request c d e full (fine_went go (serve made t request c) h))
-fault_stays made made' t c d (Leaves phase) e full h = refl
-fault_stays made made' t c d Breaks e full h = h
-fault_stays made made' t c d Rests e full h = h
-
--- a piece that comes in meets no fault, and what it costs is told by where it stands
-record IsFree (f : Option StepFault) (ls : Option Thread) (event : Option Event) : Type 0 where
-  pub free : None ≡ f
-  pub costs : event_cost event ≡ (if not (is_some ls) then 1 else 0)
-
-free_step : (there k' : ConcreteState) (t : ℕ) (r : Result Stepped StepFault) (event : Option Event)
-    → entry_end_by there (on_machine there t r) None ≡ Ok (k', event) → IsFree (fault_of r) None event
-free_step there k' t (Ok r) event given =
-    record { free = refl; costs = ap (λ (q : ConcreteState × Option Event). event_cost q.1) (sym (inside _ _ given)) }
-free_step there k' t (Err fault) event given = absurd cc
-
-free_by : (there k' : ConcreteState) (made t : ℕ) (c : Common) (l : Look) (event : Option Event)
-    → entry_end_by there (on_machine there t (thread_step made t c l)) (local_next l) ≡ Ok (k', event)
-    → IsFree (fault_of (thread_step made t c l)) (local_next l) event
-free_by there k' made t c (Goes x) event given =
-    record { free = refl; costs = ap (λ (q : ConcreteState × Option Event). event_cost q.1) (sym (inside _ _ given)) }
-free_by there k' made t c (Asks request go) event given =
-    free_step there k' t (go_on_with go (serve made t request c)) event given
-free_by there k' made t c (Leaves phase) event given =
-    free_step there k' t (thread_step made t c (Leaves phase)) event given
-free_by there k' made t c Breaks event given = absurd cc
-free_by there k' made t c Rests event given = absurd cc
-
 -- a thread that can move still can after another's entry
 moves_stay : (p : Program) (k k' : ConcreteState) (t u : ℕ) → Apart p k k' t → u ≢ t → can_move k u ≡ true
     → can_move k' u ≡ true
@@ -208,48 +100,49 @@ moves_stay p k k' t u a other moves =
     let stands = a.beside.stay u is.thread other is.stands in
     (λ i. thread_can_move (awake i) (stands i)) ∙ ap not is.lives
 
--- and so does its next entry
-entry_stays : (p : Program) (k k' : ConcreteState) (t u count : ℕ) (event : Option Event) → IsWellFormed p k
-    → Apart p k k' t → u ≢ t → can_move k u ≡ true → IsNextEntry p k u count event
-    → (event' : Option Event) × IsNextEntry p k' u count event' × (event_cost event' ≡ event_cost event)
-entry_stays p k k' t u count event concrete a other moves e =
-    let is = up k u moves in
-    let there = put_thread k u e.here in
-    let made = length k.threads in
-    let m = free_by there e.concrete made u k.common (look p u e.here) event
-    (ap (λ d. entry_end_by there d (local_step p u e.here))
-    (sym (step_there p k u e.origin e.here is.awake e.stands)) ∙ e.gives) in
-    let awake = a.beside.awake u other is.awake in
-    let stands = a.beside.stay u e.origin other e.stands in
-    let full : made ≡ k.common.most → length k'.threads ≡ k'.common.most = λ h.
-    omega (arith, h, a.beside.made, a.concrete.few, a.concrete.most, concrete.most) in
-    let free = fault_stays made (length k'.threads) u k.common k'.common (look p u e.here) (concrete.sized
-    ∙ sym a.concrete.sized) full m.free in
-    let r = comes_in p k' u e.origin e.here awake stands free in (
-      r.1,
-      record {
-        origin = e.origin;
-        here = e.here;
-        concrete = r.0;
-        stands = stands;
-        goes = e.goes;
-        turn =
-            e.turn;
-        whole = e.whole;
-        gives = r.2;
-      },
-      r.3 ∙ sym m.costs,
-    )
+-- its next entry isn't broken by that either
+may_be_still : (p : Program) (k k' : ConcreteState) (t u : ℕ) (o here : Thread) → IsWellFormed p k → Apart p k k' t
+    → thread_of k u ≡ Some o → k.common.asleep u ≡ None → thread_of k' u ≡ Some o → entry_end p k' u here ≡ Err Broken
+    → entry_end p k u here ≡ Err Broken
+may_be_still p k k' t u o here kept a stands awake stands' breaks =
+    let there = put_thread k u here in
+    let there' = put_thread k' u here in
+    let b = refused_by there' (step_of p there' u) (local_step p u here) Broken breaks in
+    let n = (breaks_so p there' u (kept_put p k' u here a.concrete)).0 b.1 in
+    let same : Some here ≡ Some n.thread = sym (thread_at-put k'.threads u o here stands') ∙ n.stands in
+    let is : n.thread ≡ here = cc in
+    let broken : IsBroken (state_of there') (look p u here) = subst
+    (λ (x : Thread). IsBroken (state_of there') (look p u x)) is n.breaks in
+    let step : step_of p there u ≡ Err Broken = (breaks_so p there u (kept_put p k u here kept)).1 (record {
+      thread = here;
+      stands = thread_at-put k.threads u o here stands;
+      awake = awake;
+      breaks = broken_there (look p u here) (state_of there') (state_of there) (kept.sized ∙ sym a.concrete.sized)
+          (omega (arith, a.beside.made, length-set k.threads (u - 1) here, length-set k'.threads (u - 1) here))
+          (kept.most ∙ sym a.concrete.most) broken;
+    }) in
+    refused_end there (step_of p there u) (local_step p u here) Broken b.0 step
 
 past_stays : (p : Program) (limit : ℕ) (h h' : LogState) (t u : ℕ) → IsWellFormed p h.concrete
     → Apart p h.concrete h'.concrete t → u ≢ t → cost h.log ≤ cost h'.log
-    → (can_move h.concrete u ≡ true) × PassesLimit p limit h.log h.concrete u
-    → (can_move h'.concrete u ≡ true) × PassesLimit p limit h'.log h'.concrete u
-past_stays p limit h h' t u concrete a other more (moves, past) =
-    let r = entry_stays p h.concrete h'.concrete t u past.count past.event concrete a other moves past.entry in (
-      moves_stay p h.concrete h'.concrete t u a other moves,
-      record { count = past.count; event = r.0; entry = r.1; past = omega (arith, past.past, r.2) },
-    )
+    → IsPast p limit h.log h.concrete u → IsPast p limit h'.log h'.concrete u
+past_stays p limit h h' t u kept a other more w =
+    let is = up h.concrete u w.moves in
+    let stands = a.beside.stay u w.origin other w.stands in
+    let before = w.past in
+    record {
+      count = w.count;
+      origin = w.origin;
+      here = w.here;
+      moves = moves_stay p h.concrete h'.concrete t u a other w.moves;
+      stands = stands;
+      goes = w.goes;
+      turn = w.turn;
+      whole = w.whole;
+      may_be = λ breaks. w.may_be (may_be_still p h.concrete h'.concrete t u w.origin w.here kept a w.stands is.awake
+          stands breaks);
+      past = omega (arith, before, more);
+    }
 
 clash : (let O : Type 0 = Option Bool in (let x : O = Some true in x) ≡ (let y : O = Some false in y)) → ⊥
 clash h = cc
@@ -271,7 +164,7 @@ pub wake_past : (p : Program) (limit : ℕ) (old new : LogState) (t : ℕ) (refu
     → AllPast p limit new refused
 wake_past p limit old new t refused concrete takes past u is =
     let m = outside_apart p old.concrete new.concrete t takes.event concrete takes.gives in
-    let awake = (up old.concrete u (past u is).0).awake in
+    let awake = (up old.concrete u (past u is).moves).awake in
     let other : u ≢ t = λ e. no_stray old.concrete u (new.concrete, takes.event) awake
     (ap (stray_of old.concrete) e ∙ takes.gives) in
     let more : cost new.log ≡ cost old.log + (0 + event_cost (Some takes.event)) = ap cost takes.log
@@ -291,15 +184,14 @@ kill_past p limit old new t refused concrete takes free past u is =
 
 -- a thread that is refused now
 pub one_past : (p : Program) (limit : ℕ) (h : LogState) (t : ℕ) (refused : List Bool)
-    → (can_move h.concrete t ≡ true) × PassesLimit p limit h.log h.concrete t → AllPast p limit h refused
-    → AllPast p limit h (slice_set refused t true)
+    → IsPast p limit h.log h.concrete t → AllPast p limit h refused → AllPast p limit h (slice_set refused t true)
 one_past p limit h t refused now past u is =
     elim (cases_eq u t) [
-      | inl e ↦ subst (λ (v : ℕ). (can_move h.concrete v ≡ true) × PassesLimit p limit h.log h.concrete v) (sym e) now
+      | inl e ↦ subst (λ (v : ℕ). IsPast p limit h.log h.concrete v) (sym e) now
       | inr other ↦ past u (sym (get_set_other refused t u true other) ∙ is)
     ]
 
-none_true : (n t : ℕ) → slice_get (replicate n false) t ≡ Some true → ⊥
+pub none_true : (n t : ℕ) → slice_get (replicate n false) t ≡ Some true → ⊥
 none_true zero t h = cc
 none_true (suc n) zero h = cc
 none_true (suc n) (suc t) h = none_true n t h
@@ -308,41 +200,107 @@ none_true (suc n) (suc t) h = none_true n t h
 pub none_past : (p : Program) (limit : ℕ) (h : LogState) → AllPast p limit h (replicate 65 false)
 none_past p limit h t is = absurd (none_true 65 t is)
 
--- a piece that ran and was refused with Limit was its thread's next entry
+-- what comes of an entry that may be
+ended_so : (r : Result (ConcreteState × Option Event) StepFault) (k : ConcreteState) (e : Option Event) → r ≡ Ok (k, e)
+    → r ≡ Err Broken → ⊥
+ended_so r k e done breaks = absurd (cc (sym done ∙ breaks))
+
+-- a piece that ran and was refused with Limit is past it
 pub passes : (p : Program) (limit : ℕ) (h : LogState) (t : ℕ) (a : PieceView) → RefusesEntry p limit h t a Limit
     → local_after p a.thread a.count a.origin ≡ Some a.here → a.count ≤ 256
     → (a.count < 256 → local_step p a.thread a.here ≡ None)
-    → PassesLimit p limit h.log h.concrete t
-passes p limit h t a refused goes turn whole = record {
+    → IsPast p limit h.log h.concrete t
+passes p limit h t a refused goes turn whole =
+    let costs = costs_so (put_thread h.concrete t a.here) refused.2 (step_of p (put_thread h.concrete t a.here) t)
+    (local_step p t a.here) refused.3 refused.4 in
+    let past = refused.5 in
+    record {
+      count = a.count;
+      origin = a.origin;
+      here = a.here;
+      moves = refused.1;
+      stands = refused.0.1;
+      goes = ap (λ u. local_after p u a.count a.origin) (sym refused.0.0) ∙ goes;
+      turn = turn;
+      whole = λ few. ap (λ u. local_step p u a.here) (sym refused.0.0) ∙ whole few;
+      may_be = ended_so (entry_end p h.concrete t a.here) refused.2 refused.3 refused.4;
+      past = omega (arith, past, costs);
+    }
+
+-- one that a held bucket is in the way of is held up
+pub holds_up : (p : Program) (limit : ℕ) (h : LogState) (t : ℕ) (a : PieceView) → RefusesEntry p limit h t a CannotMove'
+    → can_move h.concrete t ≡ true → local_after p a.thread a.count a.origin ≡ Some a.here → a.count ≤ 256
+    → (a.count < 256 → local_step p a.thread a.here ≡ None)
+    → IsHeldUp p h.concrete t
+holds_up p limit h t a (stands, inl rests) moves goes turn whole = absurd (both_ways (can_move h.concrete t) rests moves)
+holds_up p limit h t a (stands, inr waits) moves goes turn whole = record {
   count = a.count;
-  event = refused.3;
-  entry = record {
-    origin = a.origin;
-    here = a.here;
-    concrete = refused.2;
-    stands = refused.0.1;
-    goes = ap (λ u. local_after p u a.count a.origin) (sym refused.0.0) ∙ goes;
-    turn = turn;
-    whole = λ few. ap (λ u. local_step p u a.here) (sym refused.0.0) ∙ whole few;
-    gives = refused.4;
-  };
-  past = refused.5;
+  origin = a.origin;
+  here = a.here;
+  moves = moves;
+  stands = stands.1;
+  goes = ap (λ u. local_after p u a.count a.origin) (sym stands.0) ∙ goes;
+  turn = turn;
+  whole = λ few. ap (λ u. local_step p u a.here) (sym stands.0) ∙ whole few;
+  waits = waits;
 }
+
+-- who is past the limit can make no entry: its next one would pass it, or a held bucket is in its way
+pub stops : (p : Program) (limit : ℕ) (h : LogState) (t : ℕ) → IsPast p limit h.log h.concrete t
+    → IsStopped p limit h.log h.concrete t
+stops p limit h t w = by (entry_end p h.concrete t w.here) refl
+  where
+    k : ConcreteState
+    k = h.concrete
+
+    by : (r : Result (ConcreteState × Option Event) StepFault) → entry_end p k t w.here ≡ r
+        → IsStopped p limit h.log k t
+    by (Ok q) is =
+        let costs = costs_so (put_thread k t w.here) q.0 (step_of p (put_thread k t w.here) t) (local_step p t w.here) q.1
+        is in
+        let past = w.past in
+        inl (record {
+          count = w.count;
+          event = q.1;
+          entry = record {
+            origin = w.origin;
+            here = w.here;
+            concrete = q.0;
+            stands = w.stands;
+            goes = w.goes;
+            turn = w.turn;
+            whole = w.whole;
+            gives = is;
+          };
+          past = omega (arith, past, costs);
+        })
+    by (Err Broken) is = absurd (w.may_be is)
+    by (Err CannotMove) is = inr (record {
+      count = w.count;
+      origin = w.origin;
+      here = w.here;
+      moves = w.moves;
+      stands = w.stands;
+      goes = w.goes;
+      turn = w.turn;
+      whole = w.whole;
+      waits = is;
+    })
 
 -- one thread more of a round
 pub none_step : (p : Program) (limit : ℕ) (old new : LogState) (was one : Bool) (t : ℕ)
-    → (was ≡ false → (u : ℕ) → u < t → can_move old.concrete u ≡ true → PassesLimit p limit old.log old.concrete u)
-    → (one ≡ false → (new ≡ old) × (can_move new.concrete t ≡ true → PassesLimit p limit new.log new.concrete t))
+    → (was ≡ false → (u : ℕ) → u < t → can_move old.concrete u ≡ true → IsStopped p limit old.log old.concrete u)
+    → (one ≡ false → (new ≡ old) × (can_move new.concrete t ≡ true → IsStopped p limit new.log new.concrete t))
     → (was || one) ≡ false → (u : ℕ) → u < t + 1 → can_move new.concrete u ≡ true
-    → PassesLimit p limit new.log new.concrete u
+    → IsStopped p limit new.log new.concrete u
 none_step p limit old new true one t before here still u within moves = absurd cc
 none_step p limit old new false true t before here still u within moves = absurd cc
 none_step p limit old new false false t before here still u within moves =
     let now = here refl in
     elim (cases_eq u t) [
-      | inl e ↦ subst (λ (v : ℕ). PassesLimit p limit new.log new.concrete v) (sym e)
+      | inl e ↦ subst (λ (v : ℕ). IsStopped p limit new.log new.concrete v) (sym e)
           (now.1 (ap (can_move new.concrete) (sym e) ∙ moves))
-      | inr other ↦ subst (λ (h : LogState). PassesLimit p limit h.log h.concrete u) (sym now.0)
+      | inr other ↦ subst (λ (h : LogState). IsStopped p limit h.log h.concrete u) (sym now.0)
           (before refl u (omega arith) (ap (λ (h : LogState). can_move h.concrete u) (sym now.0) ∙ moves))
     ]
 

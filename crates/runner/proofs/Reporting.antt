@@ -1,15 +1,30 @@
 -- What is told of a run whose threads can make no entry more.
-use Rattle.std.proofs.Common.{◌≡◌, ◌≤◌, ℕ, List, Result, Ok, Err, IfOk, MatchResult, is_ok, ap, sym, ◌∙◌}
-use Rattle.std.proofs.Common.{subst}
+use Rattle.std.proofs.Common.{◌≡◌, ◌≤◌, ℕ, true, List, Result, Ok, Err, IfOk, MatchResult, is_ok, ap, sym, ◌∙◌}
+use Rattle.std.proofs.Common.{subst, inl, inr}
 use Rattle.isa.specs.Programs.{Program}
 use Rattle.machine.specs.declared.event.Entry.{Entry}
 use Rattle.machine.specs.States.{opening_concrete}
+use Rattle.machine.specs.ConcreteSteps.{can_move}
 use Rattle.machine.specs.Views.{View, concrete}
 use Rattle.runner.specs.declared.report.Report.{Report}
+use Rattle.runner.specs.declared.report.Verdict.{Verdict}
+use Rattle.runner.specs.declared.report.Verdict.TheVariants.{Limit}
 use Rattle.runner.specs.Logs.{HasOnly, Outside, Runs, cost}
-use Rattle.runner.specs.Reports.{IsReport, IsVerdict}
+use Rattle.runner.specs.Reports.{IsReport, IsVerdict, PassesLimit}
 use Rattle.runner.specs.Rounds.{Idle}
 use Rattle.runner.specs.Views.{LogState}
+use Rattle.runner.proofs.Lives.{not_held_up}
+
+-- where a run ends for the limit, the next entry of some thread would pass it
+limited_so : (p : Program) (limit : ℕ) (h : LogState) (verdict : Verdict) → Idle p limit h → IsVerdict h.concrete verdict
+    → verdict ≡ Limit
+    → (t : ℕ) × (can_move h.concrete t ≡ true) × PassesLimit p limit h.log h.concrete t
+limited_so p limit h verdict idle holds is =
+    let some : IsVerdict h.concrete Limit = subst (λ (v : Verdict). IsVerdict h.concrete v) is holds in
+    elim (idle some.0 some.1) [
+      | inl passes ↦ (some.0, some.1, passes)
+      | inr waits ↦ absurd (not_held_up p h.concrete some.0 waits)
+    ]
 
 -- a report of the log and the machine that a run leaves
 pub reported : {E : Type 0} → (p : Program) (may : Outside) (limit : ℕ) (h : LogState) (log : List Entry) (last : View)
@@ -30,6 +45,9 @@ reported p may limit h log last (Ok r) legal own within idle is there program lo
       output = output ∙ ap (λ (v : View). v.output) (sym same);
       verdict = subst (λ (v : View). IsVerdict (concrete v) r.verdict) (sym same) verdict;
       over = subst (λ (x : LogState). Idle p limit x) back idle;
+      limited = limited_so p limit (record { log = r.log.items; concrete = concrete r.last }) r.verdict
+          (subst (λ (x : LogState). Idle p limit x) back idle)
+          (subst (λ (v : View). IsVerdict (concrete v) r.verdict) (sym same) verdict);
     }
 
 -- what is said of a value is said of it where the error is another

@@ -1,6 +1,6 @@
 -- What comes of a piece that is handed in.
-use Rattle.std.specs.Prelude.{ℕ, ◌≡◌, ◌≢◌, ◌+◌, ◌++◌, ◌≤◌, ◌<◌, [], ◌∷◌, true, false, Option, Some, None, Result}
-use Rattle.std.specs.Prelude.{Ok, Err}
+use Rattle.std.specs.Prelude.{ℕ, ◌≡◌, ◌≢◌, ◌+◌, ◌++◌, ◌≤◌, ◌<◌, ◌⊎◌, [], ◌∷◌, true, false, Option, Some, None}
+use Rattle.std.specs.Prelude.{Result, Ok, Err}
 use Rattle.isa.specs.Programs.{Program}
 use Rattle.locals.specs.Threads.{Thread}
 use Rattle.locals.specs.Steps.{local_step, local_after}
@@ -57,10 +57,12 @@ pub record Takes (p : Program) (limit : ℕ) (old : LogState) (t : ℕ) (a : Pie
   pub log : new.log ≡ old.log ++ record { thread = t; local = a.count; event = event } ∷ []
   pub within : cost new.log ≤ limit
 
--- the causes of the refusals, in the order in which they are tested
+-- the causes of the refusals, in the order in which they are tested. A thread can't move where it sleeps or has ended, or
+-- where a held bucket is in the way of its step
 abbrev pub RefusesEntry : Program → ℕ → LogState → ℕ → PieceView → RunFault → Type 0
 RefusesEntry p limit h t a Stray = Stands h t a → ⊥
-RefusesEntry p limit h t a CannotMove = Stands h t a × (can_move h.concrete t ≡ false)
+RefusesEntry p limit h t a CannotMove =
+    Stands h t a × ((can_move h.concrete t ≡ false) ⊎ (entry_end p h.concrete t a.here ≡ Err step.CannotMove))
 RefusesEntry p limit h t a Broken =
     Stands h t a × (can_move h.concrete t ≡ true) × (entry_end p h.concrete t a.here ≡ Err step.Broken)
 RefusesEntry p limit h t a Limit =

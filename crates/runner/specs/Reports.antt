@@ -1,5 +1,5 @@
 -- What the report of a run says.
-use Rattle.std.specs.Prelude.{ℕ, ◌≡◌, ◌≤◌, ◌<◌, ◌+◌, true, false, List, length, Option, Some, None, Ok, Err}
+use Rattle.std.specs.Prelude.{ℕ, ◌≡◌, ◌≤◌, ◌<◌, ◌+◌, ◌⊎◌, true, false, List, length, Option, Some, None, Ok, Err}
 use Rattle.words.specs.Limits.{most_local_steps}
 use Rattle.isa.specs.Programs.{Program}
 use Rattle.locals.specs.Threads.{Thread}
@@ -39,6 +39,23 @@ pub record PassesLimit (p : Program) (limit : ℕ) (log : List Entry) (k : Concr
   pub entry : IsNextEntry p k t count event
   pub past : limit < cost log + (count + event_cost event)
 
+-- the next entry of a thread that can move can't be made yet: a held bucket is in the way of the step that its local steps
+-- lead to
+pub record IsHeldUp (p : Program) (k : ConcreteState) (t : ℕ) : Type 0 where
+  pub count : ℕ
+  pub origin : Thread
+  pub here : Thread
+  pub moves : can_move k t ≡ true
+  pub stands : thread_of k t ≡ Some origin
+  pub goes : local_after p t count origin ≡ Some here
+  pub turn : count ≤ most_local_steps
+  pub whole : count < most_local_steps → local_step p t here ≡ None
+  pub waits : entry_end p k t here ≡ Err step.CannotMove
+
+-- a thread can't make its next entry: that would pass the limit, or a held bucket is in its way
+abbrev pub IsStopped : Program → ℕ → List Entry → ConcreteState → ℕ → Type 0
+IsStopped p limit log k t = PassesLimit p limit log k t ⊎ IsHeldUp p k t
+
 -- all threads have ended; not all have, and none can move; or one can move
 abbrev pub IsVerdict : ConcreteState → Verdict → Type 0
 IsVerdict k Done = AllEnded k
@@ -46,8 +63,8 @@ IsVerdict k Stuck =
     IsQuiet k × (t : ℕ) × (0 < t) × (t ≤ length k.threads) × (has_ended (thread_of k t) ≡ false)
 IsVerdict k Limit = (t : ℕ) × (can_move k t ≡ true)
 
--- the log is legal for the program and within the limit, with no more from outside than may be in the run, the machine is where it leads, the output is the machine's, the verdict holds, and the next entry of each thread that can
--- move would pass the limit
+-- the log is legal for the program and within the limit, with no more from outside than may be in the run, the machine is where it leads, the output is the machine's, the verdict holds, and no
+-- thread can make its next entry; where that is for the limit, there is one whose next entry would pass it
 pub record IsReport (p : Program) (may : Outside) (limit : ℕ) (r : Report) : Type 0 where
   pub legal : Runs p (opening_concrete p) r.log.items (concrete r.last)
   pub own : HasOnly may r.log.items
@@ -55,7 +72,9 @@ pub record IsReport (p : Program) (may : Outside) (limit : ℕ) (r : Report) : T
   pub within : cost r.log.items ≤ limit
   pub output : r.output.items ≡ (concrete r.last).common.output
   pub verdict : IsVerdict (concrete r.last) r.verdict
-  pub over : (t : ℕ) → can_move (concrete r.last) t ≡ true → PassesLimit p limit r.log.items (concrete r.last) t
+  pub over : (t : ℕ) → can_move (concrete r.last) t ≡ true → IsStopped p limit r.log.items (concrete r.last) t
+  pub limited : r.verdict ≡ Limit
+      → (t : ℕ) × (can_move (concrete r.last) t ≡ true) × PassesLimit p limit r.log.items (concrete r.last) t
 
 -- some legal log within the limit, with no more from outside than may be in the run, leads to where a thread comes, within a turn of local steps, to a step that may not be
 pub record MeetsBroken (p : Program) (may : Outside) (limit : ℕ) : Type 0 where

@@ -1,32 +1,59 @@
 -- What the rounds of a run keep.
-use Rattle.std.specs.Prelude.{ℕ, suc, ◌≡◌, ◌≢◌, ◌<◌, ◌≤◌, true, false, Bool, List, [], ◌∷◌, slice_get, Some, None}
-use Rattle.words.specs.Limits.{most_threads}
+use Rattle.std.specs.Prelude.{ℕ, suc, ◌≡◌, ◌≢◌, ◌+◌, ◌<◌, ◌≤◌, ◌⊎◌, true, false, Bool, List, [], ◌∷◌, slice_get}
+use Rattle.std.specs.Prelude.{Option, Some, None, Err}
+use Rattle.words.specs.Limits.{most_threads, most_local_steps}
 use Rattle.isa.specs.Programs.{Program}
+use Rattle.locals.specs.Threads.{Thread}
+use Rattle.locals.specs.Steps.{local_step, local_after}
+use Rattle.machine.specs.declared.event.Entry.{Entry}
+use Rattle.machine.specs.declared.event.StepFault.TheVariants as step
 use Rattle.machine.specs.States.{ConcreteState, state_of, thread_of}
 use Rattle.machine.specs.ConcreteSteps.{can_move}
 use Rattle.runner.specs.declared.drawing.Drawn.{Drawn}
 use Rattle.runner.specs.declared.drawing.Drawn.TheVariants.{Living, Mover, Sleeper}
 use Rattle.runner.specs.Logs.{Outside, cost, kills_in}
 use Rattle.runner.specs.Views.{LogState}
-use Rattle.runner.specs.Reports.{PassesLimit}
+use Rattle.runner.specs.Entries.{entry_end}
+use Rattle.runner.specs.Reports.{IsStopped}
 
--- each thread that was refused can move, and its next entry would pass the limit
+-- what comes behind local steps costs one step, where it is no local one
+abbrev pub step_cost : Option Thread → ℕ
+step_cost (Some x) = 0
+step_cost None = 1
+
+-- the next entry of a thread that can move may be, and would pass the limit, whatever bucket is held
+pub record IsPast (p : Program) (limit : ℕ) (log : List Entry) (k : ConcreteState) (t : ℕ) : Type 0 where
+  pub count : ℕ
+  pub origin : Thread
+  pub here : Thread
+  pub moves : can_move k t ≡ true
+  pub stands : thread_of k t ≡ Some origin
+  pub goes : local_after p t count origin ≡ Some here
+  pub turn : count ≤ most_local_steps
+  pub whole : count < most_local_steps → local_step p t here ≡ None
+  pub may_be : entry_end p k t here ≡ Err step.Broken → ⊥
+  pub past : limit < cost log + (count + step_cost (local_step p t here))
+
+-- each thread that was refused is past the limit
 abbrev pub AllPast : Program → ℕ → LogState → List Bool → Type 0
-AllPast p limit h refused =
-    (t : ℕ) → slice_get refused t ≡ Some true
-    → (can_move h.concrete t ≡ true) × PassesLimit p limit h.log h.concrete t
+AllPast p limit h refused = (t : ℕ) → slice_get refused t ≡ Some true → IsPast p limit h.log h.concrete t
 
--- no thread can make an entry within the limit
+-- no thread can make its next entry
 abbrev pub Idle : Program → ℕ → LogState → Type 0
-Idle p limit h = (t : ℕ) → can_move h.concrete t ≡ true → PassesLimit p limit h.log h.concrete t
+Idle p limit h = (t : ℕ) → can_move h.concrete t ≡ true → IsStopped p limit h.log h.concrete t
 
--- a thread that can move, and wasn't refused
-abbrev pub IsPickable : ConcreteState → List Bool → ℕ → Type 0
-IsPickable k refused t = (can_move k t ≡ true) × (slice_get refused t ≡ Some false)
+-- no thread that was passed over can make its next entry
+abbrev pub AllStopped : Program → ℕ → LogState → List Bool → Type 0
+AllStopped p limit h passed = (t : ℕ) → slice_get passed t ≡ Some true → IsStopped p limit h.log h.concrete t
+
+-- a thread that can move, wasn't refused, and isn't passed over
+abbrev pub IsPickable : ConcreteState → List Bool → List Bool → ℕ → Type 0
+IsPickable k refused passed t =
+    (can_move k t ≡ true) × (slice_get refused t ≡ Some false) × (slice_get passed t ≡ Some false)
 
 -- such a thread, by its number
-abbrev pub IsDrawn : ConcreteState → List Bool → ℕ → Type 0
-IsDrawn k refused t = IsPickable k refused t × (0 < t) × (t ≤ most_threads)
+abbrev pub IsDrawn : ConcreteState → List Bool → List Bool → ℕ → Type 0
+IsDrawn k refused passed t = IsPickable k refused passed t × (0 < t) × (t ≤ most_threads)
 
 -- a thread that sleeps
 abbrev pub IsAsleep : ConcreteState → ℕ → Type 0
@@ -36,20 +63,23 @@ IsAsleep k t = (state_of k).asleep t ≢ None
 abbrev pub IsUnrefused : ConcreteState → List Bool → ℕ → Type 0
 IsUnrefused k refused t = (thread_of k t ≢ None) × (slice_get refused t ≡ Some false)
 
--- what may be drawn: a thread that can move and wasn't refused; or, where the limit leaves room for a step more, one that
--- sleeps, where there may be wakes from outside, and one that was made and wasn't refused, where there may be more kills
-abbrev pub MayBeDrawn : Outside → ℕ → LogState → List Bool → Drawn → Type 0
-MayBeDrawn may limit h refused (Mover t) = IsDrawn h.concrete refused t
-MayBeDrawn may limit h refused (Sleeper t) = (may.strays ≡ true) × IsAsleep h.concrete t × (cost h.log < limit)
-MayBeDrawn may limit h refused (Living t) =
+-- what may be drawn: a thread that can move, wasn't refused and isn't passed over; or, where the limit leaves room for a
+-- step more, one that sleeps, where there may be wakes from outside, and one that was made and wasn't refused, where there
+-- may be more kills
+abbrev pub MayBeDrawn : Outside → ℕ → LogState → List Bool → List Bool → Drawn → Type 0
+MayBeDrawn may limit h refused passed (Mover t) = IsDrawn h.concrete refused passed t
+MayBeDrawn may limit h refused passed (Sleeper t) =
+    (may.strays ≡ true) × IsAsleep h.concrete t × (cost h.log < limit)
+MayBeDrawn may limit h refused passed (Living t) =
     (kills_in h.log < may.kills) × IsUnrefused h.concrete refused t × (cost h.log < limit)
 
--- how many weren't refused
-abbrev pub unrefused : List Bool → ℕ
-unrefused [] = 0
-unrefused (true ∷ xs) = unrefused xs
-unrefused (false ∷ xs) = suc (unrefused xs)
+-- how many aren't passed over
+abbrev pub left : List Bool → ℕ
+left [] = 0
+left (true ∷ xs) = left xs
+left (false ∷ xs) = suc (left xs)
 
--- each thread that can move was refused
-abbrev pub NoneLeft : ConcreteState → List Bool → Type 0
-NoneLeft k refused = (t : ℕ) → can_move k t ≡ true → slice_get refused t ≡ Some true
+-- each thread that can move was refused, or is passed over
+abbrev pub NoneLeft : ConcreteState → List Bool → List Bool → Type 0
+NoneLeft k refused passed =
+    (t : ℕ) → can_move k t ≡ true → (slice_get refused t ≡ Some true) ⊎ (slice_get passed t ≡ Some true)

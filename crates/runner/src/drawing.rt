@@ -1,14 +1,14 @@
 ghost use Rattle.words.specs.Limits.{most_threads};
-ghost use Rattle.std.specs.Prelude.{suc, ◌≡◌, ◌≢◌, ◌+◌, ◌-◌, ◌<◌, ◌≤◌, length, slice_get, true, Some, None};
-ghost use Rattle.std.specs.Prelude.{is_some, IfErr, IfSome, MatchBool, MatchOption, OnOk};
+ghost use Rattle.std.specs.Prelude.{suc, ◌≡◌, ◌≢◌, ◌+◌, ◌<◌, ◌≤◌, ◌⊎◌, length, slice_get, true, false, Some, None};
+ghost use Rattle.std.specs.Prelude.{is_some, IfErr, IfOk, IfSome, MatchBool, MatchOption, OnOk};
 ghost use Rattle.std.specs.List.{All, Contains};
 ghost use Rattle.machine.specs.States.{thread_of};
 ghost use Rattle.machine.specs.ConcreteSteps.{can_move};
 ghost use Rattle.machine.specs.Views.{concrete, IsWellFormed};
 ghost use Rattle.runner.specs.Logs.{cost, kills_in};
 ghost use Rattle.runner.specs.Reports.{CanFail};
-ghost use Rattle.runner.specs.Rounds.{AllPast, Idle, IsAsleep, IsDrawn, IsPickable, IsUnrefused, MayBeDrawn, NoneLeft};
-ghost use Rattle.runner.specs.Rounds.{unrefused};
+ghost use Rattle.runner.specs.Rounds.{AllPast, AllStopped, Idle, IsAsleep, IsDrawn, IsPickable, IsUnrefused, MayBeDrawn};
+ghost use Rattle.runner.specs.Rounds.{NoneLeft, left};
 ghost use Rattle.runner.specs.Views.{log_state};
 
 use crate::fault::RunFault;
@@ -68,7 +68,8 @@ impl Outside {
 }
 
 /// Makes entries until no thread can make one, each of a thread that is drawn anew among those that can move, or one
-/// that comes from outside. A thread that was refused with `Limit` is passed over from then on.
+/// that comes from outside. A thread that was refused with `Limit` is passed over from then on, and one that a held
+/// bucket is in the way of until an entry is made.
 pub fn run_drawn<J: RunName>(
     shared: &mut Shared<J>,
     image: &Image,
@@ -83,58 +84,102 @@ pub fn run_drawn<J: RunName>(
     ensures err { IfErr result (λ fault. CanFail J.program J.outside J.limit fault) }
 {
     let mut refused = [false; MOST_THREADS as usize + 1];
-    while let Some(drawn) = draw_entry(shared, &refused, generator, outside) {
-        make_drawn(shared, &mut refused, image, share, drawn)?;
-    }
+    while make_next(shared, &mut refused, image, share, generator, outside)? {}
     Ok(())
 }
 
-// Makes the entry that was drawn, if the limit allows it. A thread whose entry would pass the limit is refused from
-// then on.
-fn make_drawn<J: RunName>(
+// Draws until an entry was made, and says whether one was: else no thread can make one. A thread that was drawn and made
+// none is passed over meanwhile.
+fn make_next<J: RunName>(
     shared: &mut Shared<J>,
     refused: &mut [bool],
     image: &Image,
     share: &mut Share<J>,
-    drawn: Drawn,
-) -> Result<(), RunFault>
+    generator: &mut SplitMix64,
+    outside: Outside,
+) -> Result<bool, RunFault>
     requires image { image.now ≡ J.program }
     requires room { length refused.old ≡ suc most_threads }
-    requires kept { IsWellFormed J.program (log_state shared.old).concrete }
-    requires drawn { MayBeDrawn J.outside J.limit (log_state shared.old) refused.old drawn }
+    requires strays { is_some outside.strays ≡ J.outside.strays }
+    requires kills { outside.kills ≡ J.outside.kills }
     requires past { AllPast J.program J.limit (log_state shared.old) refused.old }
     ensures past { OnOk result (AllPast J.program J.limit (log_state shared.new) refused.new) }
-    ensures less { OnOk result ((J.limit - cost shared.new.log) + unrefused refused.new
-        < (J.limit - cost shared.old.log) + unrefused refused.old) }
+    ensures made { IfOk result (λ made. made ≡ true → (cost shared.old.log < cost shared.new.log)
+        × (cost shared.new.log ≤ J.limit)) }
+    ensures none { IfOk result (λ made. made ≡ false
+        → Idle J.program J.limit (log_state shared.new)) }
+    ensures err { IfErr result (λ fault. CanFail J.program J.outside J.limit fault) }
+{
+    let mut passed = [false; MOST_THREADS as usize + 1];
+    while let Some(drawn) = draw_entry(shared, refused, &passed, generator, outside) {
+        if make_drawn(shared, refused, &mut passed, image, share, drawn)? {
+            return Ok(true);
+        }
+    }
+    Ok(false)
+}
+
+// Makes the entry that was drawn, if it can be made, and says whether it did: else its thread is passed over, and
+// where the entry would pass the limit it is refused from then on.
+fn make_drawn<J: RunName>(
+    shared: &mut Shared<J>,
+    refused: &mut [bool],
+    passed: &mut [bool],
+    image: &Image,
+    share: &mut Share<J>,
+    drawn: Drawn,
+) -> Result<bool, RunFault>
+    requires image { image.now ≡ J.program }
+    requires room { (length refused.old ≡ suc most_threads) × (length passed.old ≡ suc most_threads) }
+    requires kept { IsWellFormed J.program (log_state shared.old).concrete }
+    requires drawn { MayBeDrawn J.outside J.limit (log_state shared.old) refused.old passed.old drawn }
+    requires past { AllPast J.program J.limit (log_state shared.old) refused.old }
+    requires stopped { AllStopped J.program J.limit (log_state shared.old) passed.old }
+    ensures past { OnOk result (AllPast J.program J.limit (log_state shared.new) refused.new) }
+    ensures made { IfOk result (λ made. made ≡ true → (cost shared.old.log < cost shared.new.log)
+        × (cost shared.new.log ≤ J.limit)) }
+    ensures none { IfOk result (λ made. made ≡ false → (log_state shared.new ≡ log_state shared.old)
+        × AllStopped J.program J.limit (log_state shared.new) passed.new
+        × (left passed.new < left passed.old)) }
     ensures err { IfErr result (λ fault. CanFail J.program J.outside J.limit fault) }
 {
     match drawn {
         Drawn::Mover(t) => {
-            make_entry(shared, refused, image, share, &OpenGate, t)?;
-            Ok(())
+            let made = make_entry(shared, refused, image, share, &OpenGate, t)?;
+            if !made {
+                passed[t as usize] = true;
+            }
+            Ok(made)
         }
-        Drawn::Sleeper(t) => shared.stray(t, share),
-        Drawn::Living(t) => shared.kill(t, share),
+        Drawn::Sleeper(t) => {
+            shared.stray(t, share)?;
+            Ok(true)
+        }
+        Drawn::Living(t) => {
+            shared.kill(t, share)?;
+            Ok(true)
+        }
     }
 }
 
 // Draws the next entry: where a wake from outside is due, that of a thread that sleeps; else, where a kill is due, that
-// of a thread that lives; else that of a thread that can move and wasn't refused. None where there is no thread of the
-// last, and then no number is drawn.
+// of a thread that lives; else that of a thread that can move, wasn't refused and isn't passed over. None where there is
+// no thread of the last, and then no number is drawn.
 fn draw_entry<J: RunName>(
     shared: &Shared<J>,
     refused: &[bool],
+    passed: &[bool],
     generator: &mut SplitMix64,
     outside: Outside,
 ) -> Option<Drawn>
-    requires room { length refused.now ≡ suc most_threads }
+    requires room { (length refused.now ≡ suc most_threads) × (length passed.now ≡ suc most_threads) }
     requires strays { is_some outside.strays ≡ J.outside.strays }
     requires kills { outside.kills ≡ J.outside.kills }
-    ensures drawn { MatchOption result (NoneLeft (log_state shared.now).concrete refused.now)
-        (λ drawn. MayBeDrawn J.outside J.limit (log_state shared.now) refused.now drawn) }
+    ensures drawn { MatchOption result (NoneLeft (log_state shared.now).concrete refused.now passed.now)
+        (λ drawn. MayBeDrawn J.outside J.limit (log_state shared.now) refused.now passed.now drawn) }
     ensures kept { IsWellFormed J.program (log_state shared.now).concrete }
 {
-    let movers = movers(shared.machine(), refused);
+    let movers = movers(shared.machine(), refused, passed);
     if movers.is_empty() {
         return None;
     }
@@ -211,45 +256,53 @@ fn pick(threads: &[u32], generator: &mut SplitMix64) -> u32
     threads[place as usize]
 }
 
-// The threads that can move and weren't refused, by rising number.
-fn movers(machine: &Machine, refused: &[bool]) -> ArrayVec<u32, 64>
-    requires room { length refused.now ≡ suc most_threads }
-    ensures drawn { All (IsDrawn (concrete machine.now) refused.now) result.items }
-    ensures none { length result.items ≡ 0 → NoneLeft (concrete machine.now) refused.now }
+// The threads that can move, weren't refused and aren't passed over, by rising number.
+fn movers(machine: &Machine, refused: &[bool], passed: &[bool]) -> ArrayVec<u32, 64>
+    requires room { (length refused.now ≡ suc most_threads) × (length passed.now ≡ suc most_threads) }
+    ensures drawn { All (IsDrawn (concrete machine.now) refused.now passed.now) result.items }
+    ensures none { length result.items ≡ 0 → NoneLeft (concrete machine.now) refused.now passed.now }
     ensures kept { IsWellFormed machine.now.program (concrete machine.now) }
 {
     let mut movers: ArrayVec<u32, 64> = ArrayVec::new();
     for before in 0..machine.threads() {
-        add_pickable(&mut movers, machine, refused, before + 1);
+        add_pickable(&mut movers, machine, refused, passed, before + 1);
     }
     movers
 }
 
-// Adds thread `t`, if it can move and wasn't refused.
-fn add_pickable(movers: &mut ArrayVec<u32, 64>, machine: &Machine, refused: &[bool], t: u32)
+// Adds thread `t`, if it can move, wasn't refused and isn't passed over.
+fn add_pickable(
+    movers: &mut ArrayVec<u32, 64>,
+    machine: &Machine,
+    refused: &[bool],
+    passed: &[bool],
+    t: u32,
+)
     requires space { length movers.old.items < 64 }
-    requires room { length refused.now ≡ suc most_threads }
+    requires room { (length refused.now ≡ suc most_threads) × (length passed.now ≡ suc most_threads) }
     requires thread { (0 < t) × (t ≤ most_threads) }
-    ensures drawn { All (IsDrawn (concrete machine.now) refused.now) movers.old.items
-        → All (IsDrawn (concrete machine.now) refused.now) movers.new.items }
+    ensures drawn { All (IsDrawn (concrete machine.now) refused.now passed.now) movers.old.items
+        → All (IsDrawn (concrete machine.now) refused.now passed.now) movers.new.items }
     ensures few { length movers.new.items ≤ length movers.old.items + 1 }
     ensures none { length movers.new.items ≡ 0 → (length movers.old.items ≡ 0)
-        × (can_move (concrete machine.now) t ≡ true → slice_get refused.now t ≡ Some true) }
+        × (can_move (concrete machine.now) t ≡ true
+        → (slice_get refused.now t ≡ Some true) ⊎ (slice_get passed.now t ≡ Some true)) }
 {
-    if !is_pickable(machine, refused, t) {
+    if !is_pickable(machine, refused, passed, t) {
         return;
     }
     movers.push(t);
 }
 
-// Whether thread `t` can move and wasn't refused.
-fn is_pickable(machine: &Machine, refused: &[bool], t: u32) -> bool
-    requires room { length refused.now ≡ suc most_threads }
+// Whether thread `t` can move, wasn't refused and isn't passed over.
+fn is_pickable(machine: &Machine, refused: &[bool], passed: &[bool], t: u32) -> bool
+    requires room { (length refused.now ≡ suc most_threads) × (length passed.now ≡ suc most_threads) }
     requires thread { t ≤ most_threads }
-    ensures { MatchBool result (IsPickable (concrete machine.now) refused.now t)
-        (can_move (concrete machine.now) t ≡ true → slice_get refused.now t ≡ Some true) }
+    ensures { MatchBool result (IsPickable (concrete machine.now) refused.now passed.now t)
+        (can_move (concrete machine.now) t ≡ true
+        → (slice_get refused.now t ≡ Some true) ⊎ (slice_get passed.now t ≡ Some true)) }
 {
-    machine.can_move(t) && !refused[t as usize]
+    machine.can_move(t) && !refused[t as usize] && !passed[t as usize]
 }
 
 // The threads that sleep, by rising number.

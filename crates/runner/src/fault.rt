@@ -9,7 +9,7 @@ pub enum RunFault {
     /// The entry would pass the limit of steps.
     #[error("fault 2")]
     Limit = 2,
-    /// The thread can't move: it sleeps or has ended.
+    /// The thread can't move: it sleeps or has ended, or a held bucket is in its way.
     #[error("fault 3")]
     CannotMove = 3,
     /// The thread's next step may not be.

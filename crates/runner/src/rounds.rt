@@ -1,10 +1,10 @@
 ghost use Rattle.words.specs.Limits.{most_threads};
-ghost use Rattle.std.specs.Prelude.{suc, ◌≡◌, ◌≤◌, ◌<◌, length, slice_set, true, false, IfOk, IfErr, OnOk};
+ghost use Rattle.std.specs.Prelude.{suc, ◌≡◌, ◌≤◌, ◌<◌, length, true, false, IfOk, IfErr, OnOk};
 ghost use Rattle.machine.specs.ConcreteSteps.{can_move};
 ghost use Rattle.machine.specs.Views.{IsWellFormed};
 ghost use Rattle.runner.specs.Logs.{cost};
-ghost use Rattle.runner.specs.Reports.{CanFail, PassesLimit};
-ghost use Rattle.runner.specs.Rounds.{AllPast, Idle, IsPickable};
+ghost use Rattle.runner.specs.Reports.{CanFail, IsStopped};
+ghost use Rattle.runner.specs.Rounds.{AllPast, Idle};
 ghost use Rattle.runner.specs.Views.{log_state};
 
 use crate::fault::RunFault;
@@ -15,7 +15,8 @@ use isa::Image;
 use words::{Gate, MOST_THREADS};
 
 /// Makes entries, round after round, until no thread can make one. A round goes through the threads by rising number,
-/// those made in the round included. A thread that was refused with `Limit` is passed over from then on.
+/// those made in the round included. A thread that was refused with `Limit` is passed over from then on, and one that a
+/// held bucket is in the way of in that round alone.
 pub fn run_rounds<J: RunName, G: Gate>(
     shared: &mut Shared<J>,
     image: &Image,
@@ -49,7 +50,7 @@ pub fn run_alone<J: RunName, G: Gate>(
     Ok(())
 }
 
-// Makes an entry for each thread that can move and wasn't refused before. Says whether it made any.
+// Makes an entry for each thread that can make one and wasn't refused before. Says whether it made any.
 fn run_round<J: RunName, G: Gate>(
     shared: &mut Shared<J>,
     refused: &mut [bool],
@@ -76,8 +77,8 @@ fn run_round<J: RunName, G: Gate>(
     Ok(made)
 }
 
-/// Makes the next entry of thread `t`, if it can move and wasn't refused before. Says whether it did. A thread whose
-/// entry would pass the limit is refused from then on.
+/// Makes the next entry of thread `t`, if it can make one and wasn't refused before. Says whether it did. A thread whose
+/// entry would pass the limit is refused from then on; one that a held bucket is in the way of isn't.
 pub(crate) fn make_entry<J: RunName, G: Gate>(
     shared: &mut Shared<J>,
     refused: &mut [bool],
@@ -96,10 +97,7 @@ pub(crate) fn make_entry<J: RunName, G: Gate>(
         × (cost shared.new.log ≤ J.limit)) }
     ensures none { IfOk result (λ made. made ≡ false → (log_state shared.new ≡ log_state shared.old)
         × (can_move (log_state shared.new).concrete t ≡ true
-        → PassesLimit J.program J.limit shared.new.log (log_state shared.new).concrete t)) }
-    ensures kept { IfOk result (λ made. made ≡ true → refused.new ≡ refused.old) }
-    ensures passed { IfOk result (λ made. made ≡ false → IsPickable (log_state shared.old).concrete refused.old t
-        → refused.new ≡ slice_set refused.old t true) }
+        → IsStopped J.program J.limit shared.new.log (log_state shared.new).concrete t)) }
     ensures err { IfErr result (λ fault. CanFail J.program J.outside J.limit fault) }
 {
     if !shared.has_room() {
@@ -132,10 +130,7 @@ fn try_entry<J: RunName, G: Gate>(
         × (cost shared.new.log ≤ J.limit)) }
     ensures none { IfOk result (λ made. made ≡ false → (log_state shared.new ≡ log_state shared.old)
         × (can_move (log_state shared.new).concrete t ≡ true
-        → PassesLimit J.program J.limit shared.new.log (log_state shared.new).concrete t)) }
-    ensures kept { IfOk result (λ made. made ≡ true → refused.new ≡ refused.old) }
-    ensures passed { IfOk result (λ made. made ≡ false → IsPickable (log_state shared.old).concrete refused.old t
-        → refused.new ≡ slice_set refused.old t true) }
+        → IsStopped J.program J.limit shared.new.log (log_state shared.new).concrete t)) }
     ensures err { IfErr result (λ fault. CanFail J.program J.outside J.limit fault) }
 {
     if refused[t as usize] {
@@ -152,6 +147,8 @@ fn try_entry<J: RunName, G: Gate>(
             refused[t as usize] = true;
             Ok(false)
         }
+        // A held bucket is in its way.
+        Err(RunFault::CannotMove) => Ok(false),
         Err(fault) => Err(fault),
     }
 }

@@ -20,8 +20,8 @@ use std::sync::ledger::Blank;
 ///
 /// Before each entry it draws the thread that makes it among those that can move: of those, by rising number, the one
 /// at the place, from 0, that SplitMix64's next number has modulo how many there are. One whose entry would pass the
-/// limit is passed over from then on, and then it draws anew. The run ends where there is no thread to be drawn. So the
-/// same seed gives the same log, on each machine.
+/// limit is passed over from then on, and one that a held bucket is in the way of until an entry is made; and then it
+/// draws anew. The run ends where there is no thread to be drawn. So the same seed gives the same log, on each machine.
 ///
 /// Where `strays` is `Some(n)` with n from 1, some entries are wakes from outside, of a thread that sleeps. Each time
 /// that there is a thread to be drawn, the generator's next number comes first. Where that is a multiple of n, some
@@ -32,9 +32,9 @@ use std::sync::ledger::Blank;
 /// At most `kills` entries are kills, of threads that live: that were made, and aren't dying. Where it isn't 0, the
 /// generator's first number has an e from 1 to 12, which is 1 more than what it has modulo 12. Each time that there is a
 /// thread to be drawn, no wake was made in its place, and there were fewer kills, the next number comes before that
-/// which draws it. Where it is a multiple of 2^e, some thread lives and wasn't passed over, and the steps so far are
-/// fewer than the limit, the entry kills, of those threads, by rising number, the one at the place that the number
-/// behind has modulo how many there are. With 0 there are no such entries and no such numbers.
+/// which draws it. Where it is a multiple of 2^e, some thread lives and wasn't passed over for good, and the steps so
+/// far are fewer than the limit, the entry kills, of those threads, by rising number, the one at the place that the
+/// number behind has modulo how many there are. With 0 there are no such entries and no such numbers.
 ///
 /// Refuses only with `Memory` and with `Broken`, as `run_in_order` does; the log that leads to a broken step may have
 /// as much from outside.

@@ -21,7 +21,7 @@ use crate::next::{After, Next};
 use crate::piece::Piece;
 use crate::share::{PARTS, Share};
 use isa::Image;
-use machine::Machine;
+use machine::{Machine, StepFault};
 use packed_log::PackedLog;
 use std::alloc::{AllocError, Global};
 use std::marker::{Model, PhantomData};
@@ -415,9 +415,10 @@ impl<J: RunName> Shared<J> {
         if !self.machine.can_move(t) {
             return Some(RunFault::CannotMove);
         }
-        // A thread that can move comes to no end by local steps: the machine has no other cause.
-        if self.machine.refusal_at(t, &piece.here).is_some() {
-            return Some(RunFault::Broken);
+        match self.machine.refusal_at(t, &piece.here) {
+            Some(StepFault::CannotMove) => return Some(RunFault::CannotMove),
+            Some(StepFault::Broken) => return Some(RunFault::Broken),
+            None => {}
         }
         let shared = !self.machine.is_before_local(t, &piece.here);
         if self.limit - self.steps < piece.count + u32::from(shared) {

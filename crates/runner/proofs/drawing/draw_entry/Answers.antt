@@ -12,7 +12,7 @@ returns-in-Some-clause-drawn g c =
 
 pub returns-clause-drawn : goal.returns-clause-drawn
 returns-clause-drawn g c =
-    subst (λ (k : ConcreteState). IsDrawn k c.args.refused.now c.pick.result) c.machine.ensures.concrete
-    (All-contains (IsDrawn (concrete c.machine.result.now) c.args.refused.now) c.movers-movers.result.items
+    subst (λ (k : ConcreteState). IsDrawn k c.args.refused.now c.args.passed.now c.pick.result) c.machine.ensures.concrete
+    (All-contains (IsDrawn (concrete c.machine.result.now) c.args.refused.now c.args.passed.now) c.movers-movers.result.items
     c.pick.result c.movers-movers.ensures.drawn
     (subst (λ (xs : List ℕ). Contains xs c.pick.result) c.deref.ensures.0 c.pick.ensures))

@@ -1,4 +1,4 @@
-use Rattle.std.proofs.Common.{◌≡◌, ◌+◌, arith, inl, inr, subst, sym}
+use Rattle.std.proofs.Common.{◌≡◌, ◌+◌, ◌⊎◌, arith, inl, inr, subst, sym}
 use Rattle.std.specs.Prelude.{ℕ, Some, true, slice_get}
 use Rattle.std.proofs.lemmas.Bool.{cases_eq}
 use Rattle.machine.specs.ConcreteSteps.{can_move}
@@ -13,7 +13,8 @@ loop-before-preserved c =
       drawn = e.drawn v.drawn;
       few = omega (arith, v.few, e.few);
       none = λ empty u within moves. elim (cases_eq u (c.loop-before.before + 1)) [
-        | inl here ↦ subst (λ (w : ℕ). slice_get c.args.refused.now w ≡ Some true) (sym here)
+        | inl here ↦ subst (λ (w : ℕ). (slice_get c.args.refused.now w ≡ Some true)
+            ⊎ (slice_get c.args.passed.now w ≡ Some true)) (sym here)
             ((e.none empty).1 (subst (λ (w : ℕ). can_move (concrete c.args.machine.now) w ≡ true) here moves))
         | inr other ↦ v.none (e.none empty).0 u (omega (arith, within, other)) moves
       ];

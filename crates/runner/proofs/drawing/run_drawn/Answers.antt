@@ -2,5 +2,5 @@ use Rattle.runner.specs.Views.{log_state}
 use Rattle.runner.proofs.Passing.{none_past}
 use Rattle.runner.proofs.drawing.run_drawn.Goals as goal
 
-pub loop-drawn-init : goal.loop-drawn-init
-loop-drawn-init g c = none_past g.J.RunName.program g.J.RunName.limit (log_state c.args.shared.now)
+pub loop-init : goal.loop-init
+loop-init g c = none_past g.J.RunName.program g.J.RunName.limit (log_state c.args.shared.now)

@@ -1,11 +1,11 @@
-use Rattle.std.proofs.Common.{◌+◌, ◌-◌}
+use Rattle.std.proofs.Common.{◌-◌}
 use Rattle.runner.specs.Logs.{cost}
-use Rattle.runner.specs.Rounds.{AllPast, unrefused}
+use Rattle.runner.specs.Rounds.{AllPast}
 use Rattle.runner.specs.Views.{log_state}
 use Rattle.runner.proofs.drawing.run_drawn.Given as goal
 
-abbrev pub invariant-loop-drawn : goal.invariant-loop-drawn
-invariant-loop-drawn g l = AllPast g.J.RunName.program g.J.RunName.limit (log_state l.shared) l.refused
+abbrev pub invariant-loop : goal.invariant-loop
+invariant-loop g l = AllPast g.J.RunName.program g.J.RunName.limit (log_state l.shared) l.refused
 
-abbrev pub decreases-loop-drawn : goal.decreases-loop-drawn
-decreases-loop-drawn g l = (g.J.RunName.limit - cost l.shared.log) + unrefused l.refused
+abbrev pub decreases-loop : goal.decreases-loop
+decreases-loop g l = g.J.RunName.limit - cost l.shared.log

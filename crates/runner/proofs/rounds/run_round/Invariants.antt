@@ -1,7 +1,7 @@
 use Rattle.std.proofs.Common.{◌≡◌, ◌<◌, ◌≤◌, ◌-◌, ℕ, true, false}
 use Rattle.machine.specs.ConcreteSteps.{can_move}
 use Rattle.runner.specs.Logs.{cost}
-use Rattle.runner.specs.Reports.{PassesLimit}
+use Rattle.runner.specs.Reports.{IsStopped}
 use Rattle.runner.specs.Rounds.{AllPast}
 use Rattle.runner.specs.Views.{log_state}
 use Rattle.runner.proofs.rounds.run_round.Given as goal
@@ -14,7 +14,7 @@ invariant-loop-t g l = record {
   made : l.made ≡ true → (cost l.fn.shared.log < cost l.shared.log) × (cost l.shared.log ≤ g.J.RunName.limit);
   same : l.made ≡ false → log_state l.fn.shared ≡ log_state l.shared;
   none : l.made ≡ false → (u : ℕ) → u < l.t → can_move (log_state l.shared).concrete u ≡ true
-      → PassesLimit g.J.RunName.program g.J.RunName.limit l.shared.log (log_state l.shared).concrete u;
+      → IsStopped g.J.RunName.program g.J.RunName.limit l.shared.log (log_state l.shared).concrete u;
 }
 
 abbrev pub decreases-loop-t : goal.decreases-loop-t

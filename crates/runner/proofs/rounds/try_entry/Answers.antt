@@ -1,11 +1,21 @@
-use Rattle.std.proofs.Common.{◌≡◌, ◌∙◌, Some, true, false, slice_set, ap, sym, slice_get, subst, arith}
+use Rattle.std.proofs.Common.{◌≡◌, ◌∙◌, Some, true, false, slice_set, ap, refl, sym, slice_get, subst, arith}
 use Rattle.std.proofs.lemmas.Option.{slice_get-get_or}
 use Rattle.runner.specs.declared.fault.RunFault.{RunFault}
 use Rattle.runner.specs.Views.{LogState, log_state}
 use Rattle.runner.specs.Entries.{RefusesEntry}
 use Rattle.runner.specs.Rounds.{AllPast}
-use Rattle.runner.proofs.Passing.{all_past, one_past, passes}
+use Rattle.runner.proofs.Passing.{all_past, one_past, passes, stops}
 use Rattle.runner.proofs.rounds.try_entry.Goals as goal
+
+pub returns-then-refused-t-clause-none : goal.returns-then-refused-t-clause-none
+returns-then-refused-t-clause-none g c =
+    let was : slice_get c.args.refused.now c.args.t ≡ Some true =
+    slice_get-get_or c.args.refused.now c.args.t false (omega arith) ∙ ap Some c.if-refused-t.true in
+    λ still. (
+      refl,
+      λ moves. stops g.J.RunName.program g.J.RunName.limit (log_state c.args.shared.now) c.args.t
+          (c.requires.past c.args.t was),
+    )
 
 pub returns-in-Ok-clause-past : goal.returns-in-Ok-clause-past
 returns-in-Ok-clause-past g c =
@@ -26,4 +36,4 @@ returns-in-Err-Limit-clause-past g c =
     let now = passes p limit (log_state c.args.shared.now) c.args.t c.run-piece.result refused r.reached r.within
     r.whole in
     subst (λ (s : LogState). AllPast p limit s (slice_set c.args.refused.now c.args.t true)) (sym h.0)
-    (one_past p limit (log_state c.args.shared.now) c.args.t c.args.refused.now (refused.1, now) c.requires.past)
+    (one_past p limit (log_state c.args.shared.now) c.args.t c.args.refused.now now c.requires.past)

@@ -1,11 +1,10 @@
-use Rattle.std.proofs.Common.{◌≡◌, true, false, is_some, ap, ◌∙◌, sym, subst}
-use Rattle.machine.specs.ConcreteSteps.{can_move, fault_at}
+use Rattle.std.proofs.Common.{◌≡◌, true, sym, subst}
+use Rattle.machine.specs.ConcreteSteps.{can_move}
 use Rattle.machine.specs.Views.{concrete}
-use Rattle.runner.specs.declared.fault.RunFault.TheVariants.{Limit, Broken}
+use Rattle.runner.specs.declared.fault.RunFault.TheVariants.{Limit}
 use Rattle.runner.specs.Views.{PieceView, LogState, SharedView, log_state}
 use Rattle.runner.specs.Entries.{RefusesEntry, IsFine, Stands}
 use Rattle.runner.proofs.Handing.{past_limit, in_limit}
-use Rattle.runner.proofs.Lives.{refuses_broken, no_fault}
 use Rattle.runner.proofs.shared.Shared.refusal.Goals as goal
 
 pub returns-then-self-piece-clause-some : goal.returns-then-self-piece-clause-some
@@ -22,14 +21,11 @@ returns-then-self-piece-clause-some g c =
     (subst (λ (x : SharedView). Stands (log_state x) c.args.t c.args.piece.now)
     (sym c.self.view_is) c.if-not-stands.ensures) in
     let moves : can_move h.concrete c.args.t ≡ true = cc in
-    let free : is_some (fault_at s.machine.program h.concrete c.args.t a.here) ≡ false =
-    sym (ap is_some c.refusal_at.ensures) ∙ sym c.is_some.ensures ∙ c.if-is_some.false in
-    let none = no_fault (fault_at s.machine.program h.concrete c.args.t a.here) free in
     subst (λ (x : SharedView). RefusesEntry p limit (log_state x) c.args.t c.args.piece.now Limit) c.self.view_is
     (subst (λ (x : PieceView). RefusesEntry p limit h c.args.t x Limit) c.piece.view_is
     (past_limit p s.machine.program limit h a c.args.t s.steps s.limit c.from.result
-    c.is_before_local-shared.result v.program stands moves none c.is_before_local-shared.ensures c.from.ensures
-    v.counted v.limit_is v.within c.if-self-piece.true))
+    c.is_before_local-shared.result v.program stands moves c.in-None.ensures c.is_before_local-shared.ensures
+    c.from.ensures v.counted v.limit_is v.within c.if-self-piece.true))
 
 pub returns-clause-none : goal.returns-clause-none
 returns-clause-none g c =
@@ -45,31 +41,8 @@ returns-clause-none g c =
     (subst (λ (x : SharedView). Stands (log_state x) c.args.t c.args.piece.now)
     (sym c.self.view_is) c.if-not-stands.ensures) in
     let moves : can_move h.concrete c.args.t ≡ true = cc in
-    let free : is_some (fault_at s.machine.program h.concrete c.args.t a.here) ≡ false =
-    sym (ap is_some c.refusal_at.ensures) ∙ sym c.is_some.ensures ∙ c.if-is_some.false in
-    let none = no_fault (fault_at s.machine.program h.concrete c.args.t a.here) free in
     subst (λ (x : SharedView). IsFine p limit (log_state x) c.args.t c.args.piece.now) c.self.view_is
     (subst (λ (x : PieceView). IsFine p limit h c.args.t x) c.piece.view_is
     (in_limit p s.machine.program limit h a c.args.t s.steps s.limit c.from.result
-    c.is_before_local-shared.result v.program stands moves none c.is_before_local-shared.ensures c.from.ensures
-    v.counted v.limit_is v.within c.if-self-piece.false))
-
-pub returns-then-is_some-clause-some : goal.returns-then-is_some-clause-some
-returns-then-is_some-clause-some g c =
-    let s = c.self.inside in
-    let p = g.J.RunName.program in
-    let limit = g.J.RunName.limit in
-    let v = c.self.invariant.0 in
-    let h : LogState = record { log = s.log.items; concrete = concrete s.machine } in
-    let i = c.piece.inside in
-    let a : PieceView = record { thread = i.thread; origin = i.origin; here = i.here; count = i.count } in
-    let stands : Stands h c.args.t a =
-    subst (λ (x : PieceView). Stands h c.args.t x) (sym c.piece.view_is)
-    (subst (λ (x : SharedView). Stands (log_state x) c.args.t c.args.piece.now)
-    (sym c.self.view_is) c.if-not-stands.ensures) in
-    let moves : can_move h.concrete c.args.t ≡ true = cc in
-    let fault : is_some (fault_at s.machine.program h.concrete c.args.t a.here) ≡ true =
-    sym (ap is_some c.refusal_at.ensures) ∙ sym c.is_some.ensures ∙ c.if-is_some.true in
-    subst (λ (x : SharedView). RefusesEntry p limit (log_state x) c.args.t c.args.piece.now Broken) c.self.view_is
-    (subst (λ (x : PieceView). RefusesEntry p limit h c.args.t x Broken) c.piece.view_is
-    (refuses_broken p s.machine.program limit h a c.args.t v.program stands moves c.piece.invariant.0 fault))
+    c.is_before_local-shared.result v.program stands moves c.in-None.ensures c.is_before_local-shared.ensures
+    c.from.ensures v.counted v.limit_is v.within c.if-self-piece.false))

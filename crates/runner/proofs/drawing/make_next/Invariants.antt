@@ -1,0 +1,14 @@
+use Rattle.std.proofs.Common.{◌≡◌}
+use Rattle.runner.specs.Rounds.{AllPast, AllStopped, left}
+use Rattle.runner.specs.Views.{log_state}
+use Rattle.runner.proofs.drawing.make_next.Given as goal
+
+abbrev pub invariant-loop-drawn : goal.invariant-loop-drawn
+invariant-loop-drawn g l = record {
+  same : log_state l.shared ≡ log_state l.fn.shared;
+  past : AllPast g.J.RunName.program g.J.RunName.limit (log_state l.shared) l.refused;
+  stopped : AllStopped g.J.RunName.program g.J.RunName.limit (log_state l.shared) l.passed;
+}
+
+abbrev pub decreases-loop-drawn : goal.decreases-loop-drawn
+decreases-loop-drawn g l = left l.passed
