@@ -1,7 +1,7 @@
 -- Each step of a thread's own is silent or one whole step.
 use Rattle.std.proofs.Common.{◌≡◌, ◌≢◌, ◌∙◌, ℕ, ◌+◌, ◌%◌, ◌==◌, ◌⊎◌, ◌||◌, inl, inr, Option, Some, None, List, [], ◌∷◌}
-use Rattle.std.proofs.Common.{length, refl, sym, ap, subst, Bool, true, false, arith, suc, ◌<◌, ◌≤◌, is_some}
-use Rattle.std.specs.Prelude.{if◌then◌else◌}
+use Rattle.std.proofs.Common.{length, refl, sym, ap, subst, Bool, true, false, arith, suc, ◌<◌, ◌≤◌, is_some, not}
+use Rattle.std.specs.Prelude.{if◌then◌else◌, MatchBool}
 use Rattle.std.proofs.lemmas.Bool.{eqb-true, both_ways}
 use Rattle.isa.specs.Programs.{Program}
 use Rattle.words.specs.Updates.{put}
@@ -24,7 +24,8 @@ use Rattle.machine.specs.PieceStates.{waits_at, IsHeldRight}
 use Rattle.machine.specs.PieceSteps.{goes_outside, again_of, Piece, IsLocal, IsPlain, IsExit, IsLock, IsEqual, IsAgain}
 use Rattle.machine.specs.PieceSteps.{IsAct}
 use Rattle.proof_pieces.specs.Whole.{either, behind, resumed, whole_at, whole}
-use Rattle.proof_pieces.specs.WholeCalls.{ServesWhole, MovesWhole, IsWholeStep}
+use Rattle.proof_pieces.specs.Silence.{MovesAnswered, IsHushed, IsHeard, is_wait, is_silent, piece_answer}
+use Rattle.proof_pieces.specs.WholeCalls.{ServesWhole}
 use Rattle.proof_pieces.specs.Traces.{pieces_before, pieces_of, KeepsTime, TakesPiece, taken_at, taken}
 use Rattle.proof_pieces.proofs.Calls.{called_is}
 use Rattle.proof_pieces.proofs.Reading.{seen, seen_first, unput}
@@ -147,12 +148,11 @@ compare_past e = absurd cc
 abbrev pub own_step : ℕ → List ℕ → Bool → Step
 own_step t woken pauses = record { thread = t; woken = woken; pauses = pauses; doing = Own }
 
--- silent, or one whole step; each in time
-abbrev pub Reduced : Program → PieceState → ℕ → List ℕ → Bool → PieceState → Type 0
-Reduced p s t woken pauses s' = ((woken ≡ []) × (whole p s' ≡ whole p s)
-    × (pauses ≡ false → TakesPiece p (whole p s) (taken p s) (own_step t woken pauses) (taken p s')))
-    ⊎ (IsWholeStep p (whole p s) t woken (whole p s')
-    × KeepsTime p (whole p s) (taken p s) (own_step t woken pauses) (whole p s'))
+-- silent, or one step with whole calls, with this answer
+abbrev pub Reduced : Program → PieceState → ℕ → Thread → List ℕ → Bool → PieceState → (silent : Bool) → (answer : ℕ)
+    → Type 0
+Reduced p s t x woken pauses s' silent answer = MatchBool silent (IsHushed p s (own_step t woken pauses) s')
+    (IsHeard p s (own_step t woken pauses) x answer s')
 
 one_named : (i : ℕ) → names (i ∷ []) i ≡ true
 one_named i = grind arith
@@ -210,11 +210,12 @@ module _ (p : Program) (s s' : PieceState) (t : ℕ) (x : Thread) (woken : List 
   first_after mid bs y e = ap (λ (z : PieceState). z.phase t) e ∙ put-here s.phase t First t refl
 
   -- a loud step behind which the thread is outside calls
-  loud_so : (l : Look) → look p t x ≡ l → behind (s.phase t) l x ≡ x → committed_at (s.phase t) (call_at l) ≡ None
-      → taken p s t ≤ pieces_before l → s'.phase t ≡ First → MovesWhole (whole p s) t woken l (whole p s')
-      → Reduced p s t woken pauses s'
-  loud_so l looks same free few first moves = inr (
-    loud p s t x woken l (whole p s') stands awake looks same free moves,
+  loud_so : (answer : ℕ) (l : Look) → look p t x ≡ l → behind (s.phase t) l x ≡ x
+      → committed_at (s.phase t) (call_at l) ≡ None
+      → taken p s t ≤ pieces_before l → s'.phase t ≡ First → MovesAnswered (whole p s) t woken answer l (whole p s')
+      → IsHeard p s (own_step t woken pauses) x answer s'
+  loud_so answer l looks same free few first moves = (
+    loud p s t x woken answer l (whole p s') stands awake looks same free moves,
     record {
       few = subst (λ n. taken p s t ≤ n) (sym (pieces_at l looks same)) few;
       goes_on = λ q. inl (outside_paused p s' t first ∙ sym paused ∙ q);
@@ -238,13 +239,12 @@ module _ (p : Program) (s s' : PieceState) (t : ℕ) (x : Thread) (woken : List 
       → ServesWhole t (request_of call) (whole p s) woken answer
       (with_sleepers (whole p s) (joined after (committed p s)))
       → s' ≡ goes_outside s t (with_sleepers s.base after) (buckets_of s.buckets call) (go answer)
-      → Reduced p s t woken pauses s'
-  act_loud call go answer after looks act same none none' serves e = loud_so (Asks (request_of call) go) looks
+      → IsHeard p s (own_step t woken pauses) x answer s'
+  act_loud call go answer after looks act same none none' serves e = loud_so answer (Asks (request_of call) go) looks
       (ap (λ f. behind f (Asks (request_of call) go) x) act ∙ same)
       (ap (λ f. committed_at f (call_at (Asks (request_of call) go))) act ∙ none')
       (few_call call go looks (within_so p s t x call go right (past_so _ _ act act_past) stands looks).1)
       (first_after (with_sleepers s.base after) (buckets_of s.buckets call) (go answer) e) (
-        answer,
         with_sleepers (whole p s) (joined after (committed p s)),
         serves,
         ap (whole p) e ∙ whole_on p s t (with_sleepers s.base after) (buckets_of s.buckets call) (go answer)
@@ -254,8 +254,9 @@ module _ (p : Program) (s s' : PieceState) (t : ℕ) (x : Thread) (woken : List 
   act_so : (call : FutexCall) (go : ℕ → Thread) (moved : List ℕ) (after : ℕ → Option ℕ)
       → look p t x ≡ Asks (request_of call) go → s.phase t ≡ Act → Acts t call s.base.asleep woken moved after
       → s' ≡ goes_outside s t (with_sleepers s.base after) (buckets_of s.buckets call)
-      (go (length woken + length moved)) → Reduced p s t woken pauses s'
-  act_so (Wait a expected) go moved after looks act h e = inl (
+      (go (length woken + length moved))
+      → Reduced p s t x woken pauses s' (is_wait call) (length woken + length moved)
+  act_so (Wait a expected) go moved after looks act h e = (
     h.0,
     ap (whole p) e
         ∙ ap (λ z. whole p (goes_outside s t (with_sleepers s.base z) (a.0 % s.buckets ∷ [])
@@ -273,15 +274,14 @@ module _ (p : Program) (s s' : PieceState) (t : ℕ) (x : Thread) (woken : List 
       let mine : s.holder (a.0 % s.buckets) ≡ Some t = right.all (a.0 % s.buckets) t
       (ap (λ l. names l (a.0 % s.buckets)) (held_act (Wake a n) go looks act) ∙ one_named (a.0 % s.buckets)) in
       let none : committed p s t ≡ None = committed_look (Wake a n) go Act looks act in
-      act_loud (Wake a n) go (length woken) after looks act refl refl refl (
+      act_loud (Wake a n) go (length woken + length moved) after looks act refl refl refl (
         (within_so p s t x (Wake a n) go right (past_so _ _ act act_past) stands looks).0,
         joined after (committed p s),
         wakes_both s.base.asleep (committed p s) a.0 n woken after (apart_so p s right)
             (λ l. nobody_mine p s right a.0 t mine none) h.1,
+        no_more woken moved h.0,
         refl,
-        refl,
-      ) (e ∙ ap (λ m. goes_outside s t (with_sleepers s.base after) (a.0 % s.buckets ∷ []) (go m))
-      (no_more woken moved h.0))
+      ) e
   act_so (Requeue a b n m expected) go moved after looks act h e =
       let mine : s.holder (a.0 % s.buckets) ≡ Some t = right.all (a.0 % s.buckets) t
       (ap (λ l. names l (a.0 % s.buckets)) (held_act (Requeue a b n m expected) go looks act)
@@ -303,14 +303,14 @@ module _ (p : Program) (s s' : PieceState) (t : ℕ) (x : Thread) (woken : List 
 
   again_so : (call : FutexCall) (go : ℕ → Thread) (a v : ℕ) → look p t x ≡ Asks (request_of call) go
       → Compares call a v → s.phase t ≡ Compare → s.base.word a ≢ v → woken ≡ []
-      → s' ≡ goes_outside s t s.base (buckets_of s.buckets call) (go (again_of call)) → Reduced p s t woken pauses s'
-  again_so (Wait c expected) go a v looks is at differs nobody e = loud_so (Asks (AskWait c.0 expected) go) looks
+      → s' ≡ goes_outside s t s.base (buckets_of s.buckets call) (go (again_of call))
+      → IsHeard p s (own_step t woken pauses) x (again_of call) s'
+  again_so (Wait c expected) go a v looks is at differs nobody e = loud_so 1 (Asks (AskWait c.0 expected) go) looks
       (ap (λ f. behind f (Asks (AskWait c.0 expected) go) x) at)
       (ap (λ f. committed_at f (call_at (Asks (AskWait c.0 expected) go))) at)
       (few_call (Wait c expected) go looks
       (within_so p s t x (Wait c expected) go right (past_so _ _ at compare_past) stands looks).1)
       (first_after s.base (c.0 % s.buckets ∷ []) (go 1) e) (
-        1,
         whole p s,
         (
           (within_so p s t x (Wait c expected) go right (past_so _ _ at compare_past) stands looks).0,
@@ -322,12 +322,11 @@ module _ (p : Program) (s s' : PieceState) (t : ℕ) (x : Thread) (woken : List 
   again_so (Wake c n) go a v looks is at differs nobody e = absurd is
   again_so (Requeue c d n m expected) go a v looks is at differs nobody e =
       let w = within_so p s t x (Requeue c d n m expected) go right (past_so _ _ at compare_past) stands looks in
-      loud_so (Asks (request_of (Requeue c d n m expected)) go) looks
+      loud_so 4294967295 (Asks (request_of (Requeue c d n m expected)) go) looks
       (ap (λ f. behind f (Asks (request_of (Requeue c d n m expected)) go) x) at)
       (ap (λ f. committed_at f (call_at (Asks (request_of (Requeue c d n m expected)) go))) at)
       (few_call (Requeue c d n m expected) go looks w.1)
       (first_after s.base (buckets_of s.buckets (Requeue c d n m expected)) (go 4294967295) e) (
-        4294967295,
         whole p s,
         (
           w.0.0,
@@ -340,15 +339,13 @@ module _ (p : Program) (s s' : PieceState) (t : ℕ) (x : Thread) (woken : List 
 
   equal_so : (call : FutexCall) (go : ℕ → Thread) (a v : ℕ) → look p t x ≡ Asks (request_of call) go
       → Compares call a v → s.phase t ≡ Compare → s.base.word a ≡ v → woken ≡ []
-      → s' ≡ record s { phase = put s.phase t Act } → Reduced p s t woken pauses s'
+      → s' ≡ record s { phase = put s.phase t Act } → Reduced p s t x woken pauses s' (not (is_wait call)) 0
   equal_so (Wait c expected) go a v looks is at equal nobody e =
       let same = ap (λ f. behind f (Asks (AskWait c.0 expected) go) x) at in
       let w = within_so p s t x (Wait c expected) go right (past_so _ _ at compare_past) stands looks in
-      let after = ap (whole p) e ∙ commits p s t x c.0 expected go stands awake looks in
-      inr (
-        loud p s t x woken (Asks (AskWait c.0 expected) go) (whole p s') stands awake looks same
+      let after = ap (whole p) e ∙ commits p s t x c.0 expected go stands awake looks in (
+        loud p s t x woken 0 (Asks (AskWait c.0 expected) go) (whole p s') stands awake looks same
             (ap (λ f. committed_at f (call_at (Asks (AskWait c.0 expected) go))) at) (
-              0,
               with_sleepers (whole p s) (with_place (whole p s).asleep (t ∷ []) (Some c.0)),
               (
                 w.0,
@@ -381,8 +378,7 @@ module _ (p : Program) (s s' : PieceState) (t : ℕ) (x : Thread) (woken : List 
       let free = ap (λ f. committed_at f (call_at (Asks (request_of (Requeue c d n m expected)) go))) at in
       let before : taken p s t ≡ taken_at s.buckets Compare (Some (Requeue c d n m expected)) =
       taken_is (Requeue c d n m expected) go looks
-      ∙ ap (λ f. taken_at s.buckets f (Some (Requeue c d n m expected))) at in
-      inl (
+      ∙ ap (λ f. taken_at s.buckets f (Some (Requeue c d n m expected))) at in (
         nobody,
         ap (whole p) e
             ∙ silent p s t x (Asks (request_of (Requeue c d n m expected)) go) Act s.holder stands looks refl same refl
@@ -408,21 +404,21 @@ module _ (p : Program) (s s' : PieceState) (t : ℕ) (x : Thread) (woken : List 
         inr (subst (IsPhase s.buckets (s.phase t)) is w.there)
   ]
 
-  pub piece_so : Piece p s t x woken s' → Reduced p s t woken pauses s'
-  piece_so (IsLocal y looks first nobody e) = loud_so (Goes y) looks (first_same (s.phase t) (Goes y) x first)
+  pub piece_so : (piece : Piece p s t x woken s')
+      → Reduced p s t x woken pauses s' (is_silent p s t x woken s' piece) (piece_answer p s t x woken s' piece)
+  piece_so (IsLocal y looks first nobody e) = loud_so 0 (Goes y) looks (first_same (s.phase t) (Goes y) x first)
       (first_none (s.phase t) (Goes y) first) (few_first (Goes y) first) (first_after s.base [] y e) (
         nobody,
         ap (whole p) e ∙ whole_on p s t s.base [] y (first_free p (s.phase t) t (s.base.thread t) first),
       )
-  piece_so (IsPlain request go answer mid looks isnt first serves e) = loud_so (Asks request go) looks
+  piece_so (IsPlain request go answer mid looks isnt first serves e) = loud_so answer (Asks request go) looks
       (first_same (s.phase t) (Asks request go) x first) (first_none (s.phase t) (Asks request go) first)
       (few_first (Asks request go) first) (first_after mid [] (go answer) e) (
-        answer,
         wholly p s mid,
         plain_served p s right t request woken answer mid isnt serves,
         ap (whole p) e ∙ whole_on p s t mid [] (go answer) (first_free p (s.phase t) t (mid.thread t) first),
       )
-  piece_so (IsExit phase after next looks first step free e) = loud_so (Leaves phase) looks
+  piece_so (IsExit phase after next looks first step free e) = loud_so 0 (Leaves phase) looks
       (first_same (s.phase t) (Leaves phase) x first) (first_none (s.phase t) (Leaves phase) first)
       (few_first (Leaves phase) first) (first_after (with_shared s.base after) [] (Exits next) e) (
         joins_shared (committed p s) after,
@@ -435,8 +431,7 @@ module _ (p : Program) (s s' : PieceState) (t : ℕ) (x : Thread) (woken : List 
   piece_so (IsLock call go b looks lies takes free nobody e) =
       let late = locked_same s.buckets (s.phase t) call go x b takes in
       let early = early_same (s.phase t) (Asks (request_of call) go) x
-      (takes_early s.buckets (s.phase t) call b takes) in
-      inl (
+      (takes_early s.buckets (s.phase t) call b takes) in (
         nobody,
         ap (whole p) e
             ∙ silent p s t x (Asks (request_of call) go) (after_lock s.buckets (s.phase t) call)

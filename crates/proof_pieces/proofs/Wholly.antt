@@ -14,7 +14,8 @@ use Rattle.machine.specs.AbstractServing.{Serves, with_child}
 use Rattle.machine.specs.PieceStates.{PieceState, call_of, call_at, called, committed, committed_at, IsHeldRight}
 use Rattle.machine.specs.PieceSteps.{goes_outside}
 use Rattle.proof_pieces.specs.Whole.{either, behind, whole_at, whole}
-use Rattle.proof_pieces.specs.WholeCalls.{ServesWhole, MovesWhole, IsWholeStep}
+use Rattle.proof_pieces.specs.WholeCalls.{ServesWhole}
+use Rattle.proof_pieces.specs.Silence.{MovesAnswered, IsAnswered}
 use Rattle.proof_pieces.proofs.Reading.{seen, seen_first, seen_second, unput}
 
 -- a state of the machine with the threads and the sleepers of the whole
@@ -57,15 +58,14 @@ awake_whole p s t x l stands awake looks free = ap (λ o. either o (committed p 
     ∙ ap (λ m. committed_at (s.phase t) (call_at m)) looks ∙ free
 
 -- a step of such a thread
-pub loud : (p : Program) (s : PieceState) (t : ℕ) (x : Thread) (woken : List ℕ) (l : Look) (after : State)
+pub loud : (p : Program) (s : PieceState) (t : ℕ) (x : Thread) (woken : List ℕ) (answer : ℕ) (l : Look) (after : State)
     → s.base.thread t ≡ Some x → s.base.asleep t ≡ None → look p t x ≡ l → behind (s.phase t) l x ≡ x
-    → committed_at (s.phase t) (call_at l) ≡ None → MovesWhole (whole p s) t woken l after
-    → IsWholeStep p (whole p s) t woken after
-loud p s t x woken l after stands awake looks same free moves = record {
-  thread = x;
+    → committed_at (s.phase t) (call_at l) ≡ None → MovesAnswered (whole p s) t woken answer l after
+    → IsAnswered p (whole p s) t x woken answer after
+loud p s t x woken answer l after stands awake looks same free moves = record {
   stands = stands_whole p s t x l stands looks same;
   awake = awake_whole p s t x l stands awake looks free;
-  moves = subst (λ m. MovesWhole (whole p s) t woken m after) (sym looks) moves;
+  moves = subst (λ m. MovesAnswered (whole p s) t woken answer m after) (sym looks) moves;
 }
 
 pub first_same : (ph : FutexPhase) (l : Look) (x : Thread) → ph ≡ First → behind ph l x ≡ x

@@ -1,10 +1,11 @@
 -- What is true of the machine with calls in pieces.
-use Rattle.std.specs.Prelude.{ℕ, ◌<◌, ◌≡◌, ◌⊎◌, ◌↔◌, Some, None, List, []}
+use Rattle.std.specs.Prelude.{ℕ, ◌<◌, ◌≡◌, ◌⊎◌, ◌↔◌, MatchBool, Some, None, List, []}
 use Rattle.isa.specs.Programs.{Program}
 use Rattle.machine.specs.States.{opening_state}
 use Rattle.machine.specs.Runs.{Step, Own, CanStep, NextIsBroken}
 use Rattle.machine.specs.PieceStates.{PieceState, IsHeldRight, IsWithin}
-use Rattle.machine.specs.PieceSteps.{IsPieceStep, PieceRun, CanTakePiece, NextPieceIsBroken}
+use Rattle.machine.specs.PieceSteps.{IsOwnPiece, IsPieceStep, PieceRun, CanTakePiece, NextPieceIsBroken}
+use Rattle.proof_pieces.specs.Silence.{IsHushed, IsHeard, is_silent, piece_answer}
 use Rattle.proof_pieces.specs.Traces.{Trace, none_taken}
 use Rattle.proof_pieces.specs.Whole.{whole}
 use Rattle.proof_pieces.specs.WholeCalls.{IsWholeDone}
@@ -19,6 +20,12 @@ abbrev pub ReducesSo : Type 0
 ReducesSo = (p : Program) (s s' : PieceState) (step : Step) → IsHeldRight p s → IsPieceStep p s step s'
     → ((step.doing ≡ Own) × (step.woken ≡ []) × (whole p s' ≡ whole p s))
     ⊎ IsWholeDone p (whole p s) step (whole p s') step.doing
+
+-- which of the two a thread's own piece is, and with which answer; each in time
+abbrev pub TellsSo : Type 0
+TellsSo = (p : Program) (s s' : PieceState) (step : Step) → IsHeldRight p s → (own : IsOwnPiece p s step s')
+    → MatchBool (is_silent p s step.thread own.thread step.woken s' own.piece) (IsHushed p s step s')
+    (IsHeard p s step own.thread (piece_answer p s step.thread own.thread step.woken s' own.piece) s')
 
 -- each run in pieces, with any number of buckets, is a trace of steps with whole calls
 abbrev pub RunsSo : Type 0

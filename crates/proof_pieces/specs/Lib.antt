@@ -1,4 +1,5 @@
 pub mod Laws
+pub mod Silence
 pub mod Traces
 pub mod Whole
 pub mod WholeCalls

@@ -1,4 +1,4 @@
-ghost use Rattle.proof_pieces.specs.Laws.{HeldSo, ReducesSo, RunsSo, RestsSo, GoesOn, BreaksBoth, SleepsSo};
+ghost use Rattle.proof_pieces.specs.Laws.{HeldSo, ReducesSo, TellsSo, RunsSo, RestsSo, GoesOn, BreaksBoth, SleepsSo};
 
 /// Each step of the machine with calls in pieces is silent, or one step of the whole calls by the same thread, which
 /// wakes the same: a wait at its comparison, a wake and a requeue at their act. So each run in pieces, with any number
@@ -7,6 +7,7 @@ ghost use Rattle.proof_pieces.specs.Laws.{HeldSo, ReducesSo, RunsSo, RestsSo, Go
 pub fn pieces_are_whole_calls()
     ensures held { HeldSo }
     ensures reduces { ReducesSo }
+    ensures tells { TellsSo }
     ensures runs { RunsSo }
 {}
 
