@@ -151,7 +151,7 @@ module _ (p : Program) (w : WellFormed p) where
         × (i.deferred ≡ r.tracks.deferred) × RaisedSo r.tracks.ties.world i.ties.world t has) r.deferred o in
         (same.0, same.1 ∙ r.deferred, same.2)
 
-    whole_due : visible_step p s.word t looks answer ≡ true → IsDue p s' t g
+    pub whole_due : visible_step p s.word t looks answer ≡ true → IsDue p s' t g
     whole_due e =
         let o = owes e in
         let paying = pay_all (suc taken) s' t (g.deferred t) g.source o.0 in

@@ -1,0 +1,3 @@
+pub mod Along
+pub mod Values
+pub mod Told

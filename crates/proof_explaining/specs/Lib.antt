@@ -1,0 +1,2 @@
+pub mod PieceProgress
+pub mod Events
