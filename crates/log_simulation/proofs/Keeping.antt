@@ -1,5 +1,5 @@
 -- A recorder keeps up with the entries of a log.
-use Rattle.std.proofs.Common.{◌≡◌, ◌+◌, ◌<◌, ◌≤◌, ℕ, zero, suc, List, [], ◌∷◌, length, Option, Some, None, Ok, true}
+use Rattle.std.proofs.Common.{◌≡◌, ◌+◌, ◌<◌, ◌≤◌, ℕ, zero, suc, List, [], ◌∷◌, length, Option, Some, None, Ok, true, false}
 use Rattle.std.proofs.Common.{ap, sym, ◌∙◌, arith, subst, length-append}
 use Rattle.std.specs.Prelude.{◌^◌, ◌++◌, replicate}
 use Rattle.std.proofs.lemmas.List.{length-replicate}
@@ -11,6 +11,7 @@ use Rattle.locals.specs.Steps.{local_after}
 use Rattle.machine.specs.FrontRuns.{EventStep}
 use Rattle.machine.specs.States.{ConcreteState, opening_concrete, state_of as machine_state, thread_of}
 use Rattle.machine.specs.ConcreteOutside.{kill_of, stray_of}
+use Rattle.machine.specs.ConcretePieces.{is_piece}
 use Rattle.machine.proofs.Killing.{kills_so}
 use Rattle.machine.specs.Views.{IsWellFormed}
 use Rattle.machine.proofs.Outside.{is_sleeper, strays_so}
@@ -28,7 +29,7 @@ use Rattle.proof_simulation.specs.Explaining.{IsDue}
 use Rattle.proof_simulation.specs.Progress.{Progress}
 use Rattle.log_simulation.specs.Entries.{ComesTo, entry_steps, is_visible, progress_end, progress_entry}
 use Rattle.log_simulation.specs.Entries.{progress_locally}
-use Rattle.log_simulation.specs.Entries.{progress_shared}
+use Rattle.proof_explaining.specs.Events.{progress_told}
 use Rattle.log_simulation.proofs.Progressing.{due_so, enters_so}
 use Rattle.log_simulation.specs.declared.recorder.Recorder.{Recorder}
 use Rattle.log_simulation.specs.Recording.{IsAlong, IsAlongStep, IsOf, KeepsUp, RecordsUnlessLong}
@@ -59,12 +60,13 @@ module _ (p : Program) (events : List EventStep) (k k' : ConcreteState) (e : Ent
 
   -- what is due of a shared step
   pub due_at : (g : Progress) → ComesTo p events k g → WellFormed p → (event : Event) → e.event ≡ Some event
+      → is_piece event.name ≡ false
       → is_visible p (machine_state k).word e.thread (look (code_of p) e.thread here) event.value ≡ true
       → length events + e.local + 1 < 2 ^ 32
       → IsDue p (machine_state k') e.thread (progress_locally p e.thread e.local o g)
-  due_at g comes w event is visible short =
+  due_at g comes w event is whole visible short =
       subst (λ (x : Thread). IsDue p (machine_state k') e.thread (progress_locally p e.thread e.local x g)) same_origin
-      (due_so p events k k' e g comes enters w event is
+      (due_so p events k k' e g comes enters w event is whole
       (ap (λ (x : Thread). is_visible p (machine_state k).word e.thread (look (code_of p) e.thread x) event.value) same_here ∙ visible) short)
 
   shared_many : (event : Option Event) → length (events ++ (replicate e.local (local_step_of e.thread)
@@ -98,7 +100,8 @@ module _ (p : Program) (events : List EventStep) (k k' : ConcreteState) (e : Ent
   -- and a shared one behind them
   pub keeps_shared : (r r' : Recorder) (along : IsAlong p events k r) (event : Event) → e.event ≡ Some event → IsOf p r'
       → RecordsUnlessLong (length events + e.local + 1)
-      (progress_shared p e.thread here (machine_state k).word event.value k' (progress_locally p e.thread e.local o along.source)) r'
+      (progress_told p e.thread here (machine_state k).word event (machine_state k')
+      (progress_locally p e.thread e.local o along.source)) r'
       → IsAlong p (events ++ entry_steps e) k' r'
   keeps_shared r r' along event is of tells =
       let g = progress_locally p e.thread e.local o along.source in
@@ -110,7 +113,8 @@ module _ (p : Program) (events : List EventStep) (k k' : ConcreteState) (e : Ent
         told = subst (λ (x : Option Event). RecordsUnlessLong
             (length (events ++ (replicate e.local (local_step_of e.thread)
             ++ shared_step_of e.thread x))) (progress_end p e.thread here (machine_state k).word x k' g) r') (sym is)
-            (subst (λ n. RecordsUnlessLong n (progress_shared p e.thread here (machine_state k).word event.value k' g) r') (sym many) tells);
+            (subst (λ n. RecordsUnlessLong n
+            (progress_told p e.thread here (machine_state k).word event (machine_state k') g) r') (sym many) tells);
       }
 
 -- by a step from outside

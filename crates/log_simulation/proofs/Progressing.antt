@@ -2,7 +2,7 @@
 use Rattle.std.proofs.Common.{◌≡◌, ℕ, zero, suc, ◌+◌, ◌<◌, true, List, [], ◌∷◌, Option, Some, None, Ok, refl, ap}
 use Rattle.std.proofs.Common.{sym, ◌∙◌, subst, arith, length, length-set, length-append, Bool, false, inl, inr, ◌==◌}
 use Rattle.std.proofs.lemmas.Bool.{eq-eqb}
-use Rattle.std.specs.Prelude.{◌^◌, ◌-◌, ◌++◌, ◌≤◌, not}
+use Rattle.std.specs.Prelude.{◌^◌, ◌-◌, ◌++◌, ◌≤◌, not, if◌then◌else◌}
 use Rattle.words.specs.Limits.{most_threads}
 use Rattle.words.specs.Updates.{put}
 use Rattle.words.specs.Versions.{most_of}
@@ -20,6 +20,7 @@ use Rattle.runner.specs.LogRuns.{local_step_of, shared_step_of}
 use Rattle.std.specs.Prelude.{map, replicate}
 use Rattle.std.proofs.lemmas.List.{append-nil, append_assoc, length-map, length-replicate, replicate_more}
 use Rattle.machine.specs.States.{State, ConcreteState, thread_of, state_of, opening_concrete, opening_state}
+use Rattle.machine.specs.ConcretePieces.{is_piece}
 use Rattle.machine.specs.ConcreteServing.{plain}
 use Rattle.machine.specs.ConcreteSteps.{thread_step, on_machine, step_of, put_thread}
 use Rattle.machine.proofs.Stepping.{opens_so as opens_state, steps_so}
@@ -27,7 +28,7 @@ use Rattle.machine.proofs.Placing.{thread_at-put}
 use Rattle.machine.specs.ConcreteOutside.{kill_of, stray_of}
 use Rattle.machine.proofs.Killing.{kills_so, kill_told}
 use Rattle.machine.proofs.Outside.{strays_so, stray_told}
-use Rattle.machine.proofs.OwnEvents.{own_so}
+use Rattle.machine.proofs.OwnEvents.{own_so, whole_so}
 use Rattle.runner.specs.Logs.{EntersOwn, EntersOutside, Ends}
 use Rattle.runner.proofs.Handing.{IsUp, step_there, up}
 use Rattle.runner.proofs.Unrolling.{put_back}
@@ -48,6 +49,7 @@ use Rattle.proof_simulation.proofs.Tracking.{tracks_kill, tracks_stray}
 use Rattle.proof_simulation.specs.Explaining.{IsDue, IsReached}
 use Rattle.proof_simulation.specs.Progress.{Progress, answer_in, visible_step, progress_step, opening_progress}
 use Rattle.proof_simulation.specs.Progress.{progress, progress_taken}
+use Rattle.proof_explaining.specs.Events.{progress_told}
 use Rattle.proof_simulation.proofs.Completions.{steps_so as tells_so}
 use Rattle.proof_simulation.proofs.Explaining.{goes_on_by, due, reached}
 use Rattle.proof_simulation.specs.Kills.{killed_last}
@@ -90,7 +92,7 @@ module _ (p : Program) where
   one_step : (n : List EventStep) (k k' : ConcreteState) (t : ℕ) (here : Thread) (event : Event) (g : Progress)
       → ComesTo p n k g → thread_of k t ≡ Some here → step_of (code_of p) k t ≡ Ok (k', event)
       → on_machine k t (thread_step (length k.threads) t k.common (look (code_of p) t here)) ≡ Ok (k', event)
-      → ComesTo p (n ++ step_by t event ∷ []) k' (progress_shared p t here (state_of k).word event.value k' g)
+      → ComesTo p (n ++ step_by t event ∷ []) k' (progress_shared p t here (state_of k).word event.value (state_of k') g)
   one_step n k k' t here event g h stands takes gives =
       let d = steps_so (code_of p) k k' t event h.kept takes in
       let st = d.2 in
@@ -201,7 +203,7 @@ module _ (p : Program) where
           ∙ ap (λ i. n ++ i) (replicate_more more (local_step_of t)
           ∙ ap (λ (j : ℕ). replicate j (local_step_of t)) one) in
           let word = (state_of there).word in
-          let told : progress_shared p t m word 0 (put_thread there t here) (record g {
+          let told : progress_shared p t m word 0 (state_of (put_thread there t here)) (record g {
             deferred = put g.deferred t ks;
           })
           ≡ record g {
@@ -265,17 +267,20 @@ module _ (p : Program) where
             (progress_locally p e.thread e.local enters.origin g)) (sym ends) came)
         by_end (Some event) ends =
             let same = append_assoc n mine (step_by e.thread event ∷ []) in
-            subst (λ i. ComesTo p i k' (progress_shared p e.thread enters.here (state_of k).word event.value k'
-            (progress_locally p e.thread e.local enters.origin g))) same
-            (one_step (n ++ mine) there k' e.thread enters.here event
-            (progress_locally p e.thread e.local enters.origin g) came
-            (thread_at-put k.threads e.thread enters.origin enters.here enters.stands) ends.1 (gives_so event ends.1))
+            let local = progress_locally p e.thread e.local enters.origin g in
+            let shared = progress_shared p e.thread enters.here (state_of k).word event.value (state_of k') local in
+            subst (λ i. ComesTo p i k' (progress_told p e.thread enters.here (state_of k).word event (state_of k') local))
+            same
+            (subst (λ b. ComesTo p ((n ++ mine) ++ step_by e.thread event ∷ []) k' (if b then local else shared))
+            (sym (whole_so (code_of p) there k' e.thread event ends.1))
+            (one_step (n ++ mine) there k' e.thread enters.here event local came
+            (thread_at-put k.threads e.thread enters.origin enters.here enters.stands) ends.1 (gives_so event ends.1)))
 
-    pub due_so : WellFormed p → (event : Event) → e.event ≡ Some event
+    pub due_so : WellFormed p → (event : Event) → e.event ≡ Some event → is_piece event.name ≡ false
         → is_visible p (state_of k).word e.thread (look (code_of p) e.thread enters.here) event.value ≡ true
         → length n + e.local + 1 < 2 ^ 32
         → IsDue p (state_of k') e.thread (progress_locally p e.thread e.local enters.origin g)
-    due_so w event is is_so short =
+    due_so w event is whole is_so short =
         let ends = subst (λ (o : Option Event). Ends (code_of p) there e.thread enters.here o k') is enters.ends in
         let long = length-append n mine in
         let locals_long = length-replicate e.local (local_step_of e.thread) in

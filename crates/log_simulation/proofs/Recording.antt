@@ -135,7 +135,7 @@ locally p n more t origin g r last h steps few follower raised deferred = record
       (let long = few_deferred p t more origin (g.deferred t) in let less = h.bounded t in omega (arith, long, less));
 }
 
-module _ (p : Program) (n t v : ℕ) (here : Thread) (word : ℕ → ℕ) (k : ConcreteState) (g : Progress) where
+module _ (p : Program) (n t v : ℕ) (here : Thread) (word : ℕ → ℕ) (s : State) (g : Progress) where
   abbrev action : Option Kind
   action = deferred_by_step (mark_of (marks_of p) here) (look (code_of p) t here) v
 
@@ -149,12 +149,12 @@ module _ (p : Program) (n t v : ℕ) (here : Thread) (word : ℕ → ℕ) (k : C
       (put g.deferred t (deferred_then (deferred_by_step (mark_of (marks_of p) here)
       (look (code_of p) t here) v) (g.deferred t)))
       → Raises last.raised.items (put g.raised t (raises_number (look (code_of p) t here) || g.raised t))
-      → Records (n + 1) (progress_shared p t here word v k g) last
+      → Records (n + 1) (progress_shared p t here word v s g) last
   internally r last h none steps few follower waits raised =
-      subst (λ b. Records (n + 1) (progress_step p b action raising (machine_state k) t g) last) (sym none) (record {
+      subst (λ b. Records (n + 1) (progress_step p b action raising s t g) last) (sym none) (record {
         few = few;
         counted = steps;
-        matches = subst (λ (f : Follower). Matches f (progress_step p false action raising (machine_state k) t g))
+        matches = subst (λ (f : Follower). Matches f (progress_step p false action raising s t g))
             (sym follower)
             (record { actions = h.matches.actions; source = h.matches.source });
         deferred = waits;
@@ -166,11 +166,11 @@ module _ (p : Program) (n t v : ℕ) (here : Thread) (word : ℕ → ℕ) (k : C
   -- behind one that they learn of
   pub loudly : (last : Recorder) → is_visible p word t (look (code_of p) t here) v ≡ true
       → ((u : ℕ) → length (g.deferred u) ≤ n) → last.steps ≡ n + 1 → n + 1 < 2 ^ 32
-      → Matches last.follower (progress_next p (machine_state k) t (progress_caught_up p t g))
+      → Matches last.follower (progress_next p s t (progress_caught_up p t g))
       → CountsDeferred last.deferred.items (put g.deferred t []) → Raises last.raised.items (put g.raised t false)
-      → Records (n + 1) (progress_shared p t here word v k g) last
+      → Records (n + 1) (progress_shared p t here word v s g) last
   loudly last is bounded steps few matches waits raised =
-      subst (λ b. Records (n + 1) (progress_step p b action raising (machine_state k) t g) last) (sym is) (record {
+      subst (λ b. Records (n + 1) (progress_step p b action raising s t g) last) (sym is) (record {
         few = few;
         counted = steps;
         matches = record { actions = matches.actions; source = matches.source };
@@ -267,14 +267,14 @@ follows_kill_due p f f' s t count raised m b g program layout matches due many b
     program (λ d own. follows g own matches (sym many) (sym bit) d) due layout
 
 -- the follower follows what is due
-pub follows_due : (p : Program) (f f' : Follower) (k : ConcreteState) (t count : ℕ) (b : Bool) (g : Progress)
-    → said_by f.checked.now ≡ p → f.layout ≡ layout_of p → Matches f g → IsDue p (machine_state k) t g
-    → count ≡ length (g.deferred t) → Follows f (machine_state k) t count b f'
-    → (b ≡ true) × Matches f' (progress_next p (machine_state k) t (progress_caught_up p t g))
-follows_due p f f' k t count b g program layout matches due many follows =
-    subst (λ q. IsDue q (machine_state k) t g
+pub follows_due : (p : Program) (f f' : Follower) (s : State) (t count : ℕ) (b : Bool) (g : Progress)
+    → said_by f.checked.now ≡ p → f.layout ≡ layout_of p → Matches f g → IsDue p s t g
+    → count ≡ length (g.deferred t) → Follows f s t count b f'
+    → (b ≡ true) × Matches f' (progress_next p s t (progress_caught_up p t g))
+follows_due p f f' s t count b g program layout matches due many follows =
+    subst (λ q. IsDue q s t g
     → f.layout ≡ layout_of q
-    → (b ≡ true) × Matches f' (progress_next q (machine_state k) t (progress_caught_up q t g))) program
+    → (b ≡ true) × Matches f' (progress_next q s t (progress_caught_up q t g))) program
     (λ d own. follows g d.ahead d.label own matches d.behind (sym many) d.can d.visible d.resumes) due layout
 
 -- what is left is taken, process by process

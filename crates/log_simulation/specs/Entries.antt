@@ -1,9 +1,9 @@
 -- The source behind a log of the machine, entry by entry.
-use Rattle.std.specs.Prelude.{ℕ, zero, suc, ◌≡◌, ◌++◌, Bool, true, false, List, map, replicate, Option, Some, None}
+use Rattle.std.specs.Prelude.{ℕ, zero, suc, ◌≡◌, ◌++◌, Bool, List, map, replicate, Option, Some, None}
 use Rattle.words.specs.Updates.{put}
 use Rattle.locals.specs.Threads.{Thread}
 use Rattle.locals.specs.Steps.{local_after}
-use Rattle.locals.specs.Looks.{Look, Goes, Asks, Leaves, Breaks, Rests, look}
+use Rattle.locals.specs.Looks.{Look}
 use Rattle.machine.specs.declared.event.Entry.{Entry}
 use Rattle.machine.specs.declared.event.Event.{Event}
 use Rattle.machine.specs.FrontRuns.{EventStep, label_of, event_label}
@@ -14,21 +14,18 @@ use Rattle.runner.specs.LogRuns.{local_step_of, shared_step_of}
 use Rattle.program.specs.Trees.{Program}
 use Rattle.lowering.specs.declared.mark.Mark.{Mark}
 use Rattle.lowering.specs.Pieces.{code_of, marks_of}
-use Rattle.proof_thread.specs.Deferrals.{mark_of, deferred_by_mark, deferred_by_step}
+use Rattle.proof_thread.specs.Deferrals.{mark_of, deferred_by_mark}
 use Rattle.meaning.specs.Labels.{Kind}
-use Rattle.proof_simulation.specs.Ordering.{completes, completes_exit, raises_number}
-use Rattle.proof_simulation.specs.Progress.{Progress, progress, progress_step, progress_stray, progress_kill}
-use Rattle.proof_simulation.specs.Strays.{stray_condition}
+use Rattle.proof_explaining.specs.Events.{progress_told}
+pub use Rattle.proof_explaining.specs.Events.{progress_strayed, progress_killed}
+use Rattle.proof_explaining.specs.PieceProgress.{progress_answered}
+use Rattle.proof_simulation.specs.Progress.{Progress, progress, visible_step}
 use Rattle.proof_simulation.specs.Deferred.{deferred_then}
 
 -- whether the shared step of thread t that looks so, with these words before it and this value in its event, is a
--- visible action
+-- visible action, if it isn't a piece behind which a call goes on
 abbrev pub is_visible : Program → (word : ℕ → ℕ) → (t : ℕ) → Look → (value : ℕ) → Bool
-is_visible p word t (Goes x) v = false
-is_visible p word t (Asks request go) v = completes p request v
-is_visible p word t (Leaves phase) v = completes_exit word t phase
-is_visible p word t Breaks v = false
-is_visible p word t Rests v = false
+is_visible p word t l v = visible_step p word t l v
 
 -- what is deferred behind so many local steps of thread t, by the marks at which it stands
 abbrev pub deferred_at : List Mark → Option Thread → List Kind → List Kind
@@ -46,34 +43,21 @@ abbrev pub progress_locally : Program → (t steps : ℕ) → Thread → Progres
 progress_locally p t n x g = record g { deferred = put g.deferred t (deferred_locally p t n x (g.deferred t)) }
 
 -- and behind the shared step of a thread that stands here, with these words before it and this value in its event, to
--- this state of the machine
-abbrev pub progress_shared : Program → (t : ℕ) → Thread → (word : ℕ → ℕ) → (value : ℕ) → ConcreteState → Progress
-    → Progress
-progress_shared p t here word v k g =
-    let looks = look (code_of p) t here in
-    progress_step p (is_visible p word t looks v) (deferred_by_step (mark_of (marks_of p) here) looks v)
-    (raises_number looks) (state_of k) t g
+-- this state of the machine, if it isn't a piece behind which a call goes on
+abbrev pub progress_shared : Program → (t : ℕ) → Thread → (word : ℕ → ℕ) → (value : ℕ) → State → Progress → Progress
+progress_shared p t here word v s g = progress_answered p word t here v s g
 
--- behind the shared step of an entry, if it has one
+-- behind the shared step of an entry, if it has one: such a piece is nothing
 abbrev pub progress_end : Program → (t : ℕ) → Thread → (word : ℕ → ℕ) → Option Event → ConcreteState → Progress
     → Progress
 progress_end p t here word None k g = g
-progress_end p t here word (Some event) k g = progress_shared p t here word event.value k g
+progress_end p t here word (Some event) k g = progress_told p t here word event (state_of k) g
 
 -- behind an entry whose thread stood there first, and then here, with these words before it
 abbrev pub progress_entry : Program → Entry → (there here : Thread) → (word : ℕ → ℕ) → ConcreteState → Progress
     → Progress
 progress_entry p e there here word k g =
     progress_end p e.thread here word e.event k (progress_locally p e.thread e.local there g)
-
--- behind a wake of thread t from outside, which slept at this address
-abbrev pub progress_strayed : Program → (t address : ℕ) → Progress → Progress
-progress_strayed p t a g = progress_stray p (stray_condition p a (g.source.table.waits t)) t g
-
--- behind a kill of thread t, with these words before it, to this state of the machine, by whether it begins to die
-abbrev pub progress_killed : Program → (begins : Bool) → (word : ℕ → ℕ) → State → (t : ℕ) → Progress → Progress
-progress_killed p true word s t g = progress_kill p word s t g
-progress_killed p false word s t g = g
 
 -- behind what came from outside to thread t, by what it is, with these words before it, to this state of the machine
 abbrev pub progress_outside : Program → (t : ℕ) → Doing → (word : ℕ → ℕ) → State → Progress → Progress

@@ -3,6 +3,7 @@ ghost use Rattle.words.specs.Versions.{most_of};
 ghost use Rattle.lowering.specs.Pieces.{code_of};
 ghost use Rattle.locals.specs.Looks.{look};
 ghost use Rattle.machine.specs.ConcreteOutside.{kill_of, stray_of};
+ghost use Rattle.machine.specs.ConcretePieces.{is_piece};
 ghost use Rattle.machine.specs.FrontRuns.{doing_of};
 ghost use Rattle.machine.specs.States.{ConcreteState, opening_concrete, state_of};
 ghost use Rattle.machine.specs.declared.event.Entry.{Entry};
@@ -16,14 +17,14 @@ ghost use Rattle.program.specs.Trees.{Program};
 ghost use Rattle.program.specs.WellFormed.{WellFormed};
 ghost use Rattle.machine.specs.FrontRuns.{EventStep};
 ghost use Rattle.runner.specs.Logs.{EntersOutside, EntersOwn};
-ghost use Rattle.std.specs.Prelude.{[], ◌≡◌, ◌+◌, ◌++◌, ◌<◌, ◌≤◌, ◌^◌, List, Ok, Some, length, true};
+ghost use Rattle.std.specs.Prelude.{[], ◌≡◌, ◌+◌, ◌++◌, ◌<◌, ◌≤◌, ◌^◌, false, List, Ok, Some, length, true};
 ghost use Rattle.log_simulation.specs.Entries.{ComesTo, entry_steps, is_visible, progress_entry, progress_locally};
 ghost use Rattle.log_simulation.specs.Entries.{progress_outside};
 ghost use Rattle.log_simulation.specs.Going.{IsKillDue, IsStrayDue};
 
 /// What the source has come to behind a legal log of a program's code is a function of the log, entry by entry: each
 /// local step, and each shared one that isn't visible, adds the action that it completes by the marks of the code, if
-/// it completes one, to what is deferred; behind a visible step, by the request that the thread makes and the value of
+/// it completes one, to what is deferred; a piece behind which its futex call goes on is nothing; behind a visible step, by the request that the thread makes and the value of
 /// its event, all that was deferred of its process and the action itself are taken, which are possible. Behind a wake
 /// from outside, of a thread that slept on the word of the condition that its process waits on, all that was deferred
 /// of the process is taken, and then it waits no longer, which is possible; behind another wake from outside, nothing
@@ -63,7 +64,7 @@ pub fn progress_follows_logs()
         (g : Progress)
         → ComesTo p events k g
         → (enters : EntersOwn (code_of p) k e k') → WellFormed p → (event : Event)
-        → e.event ≡ Some event
+        → e.event ≡ Some event → is_piece event.name ≡ false
         → is_visible p (state_of k).word e.thread (look (code_of p) e.thread enters.here) event.value
         ≡ true
         → length events + e.local + 1 < 2 ^ 32

@@ -262,7 +262,7 @@ impl<'a> Recorder<'a> {
             → IsDue p (machine_state (concrete machine.now)) t g)
             → IsOf p self.new
             × RecordsUnlessLong (n + 1)
-            (progress_shared p t here.now word value (concrete machine.now) g) self.new) }
+            (progress_shared p t here.now word value (machine_state (concrete machine.now)) g) self.new) }
     {
         self.count(1);
         if !self.is_whole {

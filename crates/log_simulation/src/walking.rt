@@ -3,6 +3,7 @@ ghost use Rattle.lowering.specs.Pieces.{code_of};
 ghost use Rattle.locals.specs.Threads.{Thread};
 ghost use Rattle.machine.specs.States.{ConcreteState, opening_concrete, thread_of};
 ghost use Rattle.machine.specs.ConcreteOutside.{kill_of, stray_of};
+ghost use Rattle.machine.specs.ConcretePieces.{is_piece};
 ghost use Rattle.machine.specs.ConcreteSteps.{can_move};
 ghost use Rattle.machine.specs.Views.{concrete};
 ghost use Rattle.program.specs.Trees.{Program};
@@ -37,6 +38,13 @@ fn take_shared(machine: &mut Machine, t: u32, event: Event) -> bool
         Ok(taken) => taken == event,
         Err(_) => false,
     }
+}
+
+// Whether a step is told of a piece behind which its futex call goes on: it is nothing in the source.
+fn is_piece(name: EventName) -> bool
+    ensures { result ≡ is_piece name }
+{
+    matches!(name, EventName::FutexLock | EventName::FutexCompare)
 }
 
 // Copies the state of a thread, where it can move.
@@ -83,6 +91,10 @@ fn go_own(
     let visible = recorder.is_visible(image, machine, t, step, event.value);
     if !take_shared(machine, t, event) {
         return Ok(false);
+    }
+    if is_piece(event.name) {
+        recorder.take_nothing();
+        return Ok(true);
     }
     recorder.take_shared_step(machine, t, here, step, event.value, visible)?;
     Ok(true)

@@ -19,5 +19,5 @@ returns-clause-kills c = λ p events k k' e g h outside w short gives begins.
     kill_due_so p w events k k' e.thread outside.event g h gives short begins
 
 pub returns-clause-due : goal.returns-clause-due
-returns-clause-due c = λ p events k k' e g h enters w event is visible short.
-    due_so p events k k' e g h enters w event is visible short
+returns-clause-due c = λ p events k k' e g h enters w event is whole visible short.
+    due_so p events k k' e g h enters w event is whole visible short

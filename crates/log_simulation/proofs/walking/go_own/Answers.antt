@@ -8,7 +8,9 @@ use Rattle.machine.specs.States.{ConcreteState, state_of as machine_state, threa
 use Rattle.locals.specs.Looks.{look}
 use Rattle.locals.specs.Requests.{next_step_of}
 use Rattle.machine.specs.Views.{concrete}
-use Rattle.log_simulation.specs.Entries.{is_visible, progress_locally}
+use Rattle.std.specs.Prelude.{if◌then◌else◌}
+use Rattle.log_simulation.specs.Entries.{is_visible, progress_locally, progress_shared}
+use Rattle.log_simulation.specs.Recording.{RecordsUnlessLong}
 use Rattle.runner.proofs.Once.{still_made}
 use Rattle.log_simulation.proofs.Entering.{enters_locally, enters_shared, never_shared, put_there}
 use Rattle.log_simulation.proofs.Keeping.{due_at, few_words, keeps_locally, keeps_shared, some_thread, within_most}
@@ -54,6 +56,20 @@ returns-then-not-take_shared-clause-enters c =
     (ap (λ m. m.program) c.copy_local.ensures ∙ c.in_ok-make_room.ensures.same.0 ∙ c.requires.program)
     (when_false _ _ c.take_shared.result (c.take_shared.ensures.ends here stands) c.if-not-take_shared.true)
 
+pub returns-then-is_piece-clause-enters : goal.returns-then-is_piece-clause-enters
+returns-then-is_piece-clause-enters c =
+    let t = c.args.entry.now.thread in
+    let here = c.take_steps.new.here in
+    let k = concrete c.args.machine.now in
+    let mid = concrete c.copy_local.new.self in
+    let there = ap concrete c.copy_local.ensures ∙ ap (λ x. put_thread x t here) c.in_ok-make_room.ensures.same.1 in
+    let stands = put_there k mid t c.copy_mover.new.here here c.if-not-copy_mover.ensures.1 there in
+    enters_shared c.args.image.now c.copy_local.new.self.program k mid (concrete c.take_shared.new.machine)
+    c.args.entry.now c.in-Some.event c.args.entry.now.local c.copy_mover.new.here here c.in-Some.is
+    c.if-not-copy_mover.ensures.0 c.if-not-copy_mover.ensures.1 refl c.if-not-take_steps.ensures.goes there
+    (ap (λ m. m.program) c.copy_local.ensures ∙ c.in_ok-make_room.ensures.same.0 ∙ c.requires.program)
+    (when_true _ _ c.take_shared.result (c.take_shared.ensures.ends here stands) c.if-not-take_shared.false)
+
 pub returns-clause-enters : goal.returns-clause-enters
 returns-clause-enters c =
     let t = c.args.entry.now.thread in
@@ -67,6 +83,36 @@ returns-clause-enters c =
     c.if-not-copy_mover.ensures.0 c.if-not-copy_mover.ensures.1 refl c.if-not-take_steps.ensures.goes there
     (ap (λ m. m.program) c.copy_local.ensures ∙ c.in_ok-make_room.ensures.same.0 ∙ c.requires.program)
     (when_true _ _ c.take_shared.result (c.take_shared.ensures.ends here stands) c.if-not-take_shared.false)
+
+pub returns-then-is_piece-clause-told : goal.returns-then-is_piece-clause-told
+returns-then-is_piece-clause-told c = λ _ p own w events along.
+    let t = c.args.entry.now.thread in
+    let o = c.copy_mover.new.here in
+    let here = c.take_steps.new.here in
+    let k = concrete c.args.machine.now in
+    let mid = concrete c.copy_local.new.self in
+    let new = concrete c.take_shared.new.machine in
+    let stood = c.if-not-copy_mover.ensures.1 in
+    let there = ap concrete c.copy_local.ensures ∙ ap (λ x. put_thread x t here) c.in_ok-make_room.ensures.same.1 in
+    let stands = put_there k mid t o here stood there in
+    let goes = subst (λ (i : Image). local_after i t c.args.entry.now.local o ≡ Some here) own
+    c.if-not-take_steps.ensures.goes in
+    let enters = enters_shared (code_of p) c.copy_local.new.self.program k mid new c.args.entry.now c.in-Some.event
+    c.args.entry.now.local o here c.in-Some.is c.if-not-copy_mover.ensures.0 stood refl goes there
+    (ap (λ m. m.program) c.copy_local.ensures ∙ c.in_ok-make_room.ensures.same.0 ∙ c.requires.program ∙ own)
+    (when_true _ _ c.take_shared.result (c.take_shared.ensures.ends here stands) c.if-not-take_shared.false) in
+    let event = c.in-Some.event in
+    let g = along.source in
+    let told = c.take_steps.ensures.told c.if-not-take_steps.false p (length events) g own along.of_program
+    along.told in
+    let piece = sym c.is_piece.ensures ∙ c.if-is_piece.true in
+    let local = progress_locally p t c.args.entry.now.local o g in
+    let nothing = c.take_nothing.ensures p (length events + c.args.entry.now.local) local told.0 told.1 in
+    keeps_shared p events k new c.args.entry.now o here enters stood goes c.args.recorder.now
+    c.take_nothing.new.self along event c.in-Some.is nothing.0
+    (subst (λ b. RecordsUnlessLong (length events + c.args.entry.now.local + 1)
+    (if b then local else progress_shared p t here (machine_state k).word event.value (machine_state new) local)
+    c.take_nothing.new.self) (sym piece) nothing.1)
 
 pub returns-clause-told : goal.returns-clause-told
 returns-clause-told c = λ _ p own w events along.
@@ -95,10 +141,14 @@ returns-clause-told c = λ _ p own w events along.
     (few_words p events k g w along.comes) in
     let shown = c.is_visible-visible.ensures p here own told.0 (some_thread k t o stood) less few is
     ∙ ap (λ (m : ConcreteState). is_visible p (machine_state m).word t (look (code_of p) t here) event.value) there in
+    let whole = sym c.is_piece.ensures ∙ c.if-is_piece.false in
+    let local = progress_locally p t c.args.entry.now.local o g in
     let visible = c.in_ok-take_shared_step.ensures p (length events + c.args.entry.now.local) (machine_state k).word
-    (progress_locally p t c.args.entry.now.local o g) is shown told.0 less told.1
+    local is shown told.0 less told.1
     (λ is short. due_at p events k new c.args.entry.now o here enters stood goes g along.comes w
-    event c.in-Some.is is short) in
+    event c.in-Some.is whole is short) in
     keeps_shared p events k new c.args.entry.now o here enters stood goes c.args.recorder.now
-    c.take_shared_step.new.self along
-    event c.in-Some.is visible.0 visible.1
+    c.take_shared_step.new.self along event c.in-Some.is visible.0
+    (subst (λ b. RecordsUnlessLong (length events + c.args.entry.now.local + 1)
+    (if b then local else progress_shared p t here (machine_state k).word event.value (machine_state new) local)
+    c.take_shared_step.new.self) (sym whole) visible.1)

@@ -5,6 +5,7 @@ use Rattle.std.specs.Prelude.{MatchBool, ◌||◌, false}
 use Rattle.proof_thread.specs.Deferrals.{deferred_by_step, mark_of}
 use Rattle.lowering.specs.Pieces.{code_of, marks_of}
 use Rattle.locals.specs.Looks.{look}
+use Rattle.machine.specs.States.{state_of as machine_state}
 use Rattle.machine.specs.Views.{concrete}
 use Rattle.program.specs.Names.{said_by}
 use Rattle.log_simulation.specs.Entries.{progress_shared}
@@ -28,7 +29,7 @@ returns-in_ok-self c = λ p n word g is told of less tells due.
     let t = c.args.t in
     let here = c.args.here.now in
     let v = c.args.value in
-    let k = concrete c.args.machine.now in
+    let s = machine_state (concrete c.args.machine.now) in
     let old = c.args.self.now in
     let counted = c.count.new.self in
     let lowered = c.lower.new.self in
@@ -55,7 +56,7 @@ returns-in_ok-self c = λ p n word g is told of less tells due.
     ∙ ap (λ r. length r.deferred.items) c.count.ensures.kept in
     let w = c.take_deferred-count.ensures.defers g.deferred waits (omega (arith, less, places, more)) in
     let program = ap (λ (x : Follower). said_by x.checked.now) follower ∙ of.program in
-    let r = follows_due p taken.follower c.follow.new.self k t c.take_deferred-count.result b g program
+    let r = follows_due p taken.follower c.follow.new.self s t c.take_deferred-count.result b g program
     (ap (λ (x : Follower). x.layout) follower ∙ of.layout)
     (subst (λ (x : Follower). Matches x g) (sym follower) h.matches) (due visible few) w.0
     c.in_ok-self.ensures.follows in
@@ -75,9 +76,9 @@ returns-in_ok-self c = λ p n word g is told of less tells due.
           ∙ ap (λ r. r.marks) c.count.ensures.kept)
           (c.take_deferred-count.ensures.places ∙ more)
           (ap (λ (w : List Bool). length w) still ∙ c.lower.ensures.bits ∙ as_many),
-      subst (λ (x : Bool). MatchBool x (Records (n + 1) (progress_shared p t here word v k g) last)
+      subst (λ (x : Bool). MatchBool x (Records (n + 1) (progress_shared p t here word v s g) last)
           (2 ^ 32 ≤ n + 1)) (sym r.0)
-          (loudly p n t v here word k g last visible h.bounded steps few r.1 w.1
+          (loudly p n t v here word s g last visible h.bounded steps few r.1 w.1
           (subst (λ (w : List Bool). Raises w (put g.raised t false)) (sym still) l.1)),
     )
 
@@ -86,7 +87,7 @@ returns-else-visible c = λ p n word g is told of less tells due.
     let t = c.args.t in
     let here = c.args.here.now in
     let v = c.args.value in
-    let k = concrete c.args.machine.now in
+    let s = machine_state (concrete c.args.machine.now) in
     let old = c.args.self.now in
     let counted = c.count.new.self in
     let raised = c.raise.new.self in
@@ -107,10 +108,10 @@ returns-else-visible c = λ p n word g is told of less tells due.
           (ap (λ r. r.marks) c.delay.ensures.kept ∙ marks)
           (c.delay.ensures.places ∙ places)
           (ap (λ (w : List Bool). length w) still ∙ c.raise.ensures.bits ∙ as_many),
-      tells_on 1 n g (progress_shared p t here word v k g) old counted last c.count.ensures.counts tells
+      tells_on 1 n g (progress_shared p t here word v s g) old counted last c.count.ensures.counts tells
           (ap (λ r. r.is_whole) c.delay.ensures.kept ∙ ap (λ r. r.is_whole) c.raise.ensures.kept)
           (λ h steps few.
-          internally p n t v here word k g old last h hidden
+          internally p n t v here word s g old last h hidden
           (ap (λ r. r.steps) c.delay.ensures.kept ∙ ap (λ r. r.steps) c.raise.ensures.kept ∙ steps) few follower
           (c.delay.ensures.defers g.deferred
           (deferred_by_step (mark_of (marks_of p) here) (look (code_of p) t here) v)
