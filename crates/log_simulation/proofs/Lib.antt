@@ -9,7 +9,6 @@ pub mod Entering
 pub mod Records
 pub mod Recording
 pub mod Keeping
-pub mod LogSteps
 pub mod Progressing
 pub mod NoLog
 pub mod Stopping
