@@ -1,6 +1,6 @@
 -- What the code owes to the program on a machine whose futex calls are taken in pieces: a call takes the buckets of its
 -- words, compares and acts in steps of its own, and steps of other threads come between.
-use Rattle.std.specs.Prelude.{ℕ, ◌≡◌, ◌<◌, ◌^◌, ◌⊎◌, List, length, Option, Some, None}
+use Rattle.std.specs.Prelude.{ℕ, ◌≡◌, ◌<◌, ◌^◌, ◌⊎◌, List, length, Some, None}
 use Rattle.words.specs.Signed.{word_of}
 use Rattle.isa.specs.Programs.{Program as Image}
 use Rattle.locals.specs.Threads.{Thread}
