@@ -1,6 +1,6 @@
 -- A piece that came in is an entry of the log.
 use Rattle.std.proofs.Common.{◌≡◌, ℕ, ◌+◌, ◌≤◌, List, [], ◌∷◌, ◌++◌, true, Option, Some, None, Result, Ok, Err}
-use Rattle.std.proofs.Common.{Bool, false, is_err, IfOk, is_some, refl, ap, sym, ◌∙◌, ◌≢◌, arith, subst, inl, inr}
+use Rattle.std.proofs.Common.{Bool, false, is_err, IfOk, IfErr, is_some, refl, ap, sym, ◌∙◌, ◌≢◌, arith, subst, inl, inr}
 use Rattle.std.specs.Prelude.{if◌then◌else◌}
 use Rattle.std.proofs.lemmas.List.Sums.{sum_by-append}
 use mir.Val.{bool_byte}
@@ -17,8 +17,11 @@ use Rattle.piece_machine.specs.PieceFronts.{OutsidePiece}
 use Rattle.runner.specs.Views.{PieceView, LogState}
 use Rattle.runner.specs.Logs.{Runs, Enters, EntersOwn, Ends, HasOnly, Outside, event_cost, cost, is_kill, kill_cost}
 use Rattle.runner.specs.Logs.{kills_in, opening}
-use Rattle.runner.specs.Entries.{entry_end, entry_end_by, IsFine}
+use Rattle.runner.specs.declared.fault.RunFault.{RunFault}
+use Rattle.runner.specs.declared.fault.RunFault.TheVariants.{Broken}
+use Rattle.runner.specs.Entries.{BreaksAfter, entry_end, entry_end_by, IsFine}
 use Rattle.runner.specs.Legal.{IsLegal}
+use Rattle.runner.specs.Reports.{CanFail}
 use Rattle.runner.proofs.Going.{runs_more}
 use Rattle.runner.proofs.Owning.{kills_more, only_own, own_kills}
 
@@ -181,3 +184,29 @@ pub entered : {A E : Type 0} (P Q : A → Type 0) (r : Result A E) (b : Bool) �
     → IfOk r Q → (x : A) × P x × Q x
 entered P Q (Ok x) b is fine one other = (x, one, other)
 entered P Q (Err e) b is fine one other = absurd cc
+
+-- where the next entry of a thread meets a step that may not be, so does a legal log
+pub breaks_can : {T : Type 0} → (p : Program) (may : Outside) (q q' : Program) (limit : ℕ) (k k' : PieceConcrete)
+    (log : List Entry) (steps limited killed t count : ℕ) (r : Result T RunFault)
+    → IsLegal p may limit q k log steps limited killed → q' ≡ q → k' ≡ k → can_move k.concrete t ≡ true → count ≤ 256
+    → IfErr r (λ fault. (fault ≡ Broken) × BreaksAfter q' k' t count) → IfErr r (λ fault. CanFail p may limit fault)
+breaks_can p may q q' limit k k' log steps limited killed t count (Ok x) legal same there moves turn breaks = breaks
+breaks_can p may q q' limit k k' log steps limited killed t count (Err fault) legal same there moves turn breaks =
+    let b : BreaksAfter p k t count = subst (λ (x : Program). BreaksAfter x k t count) (same ∙ legal.program)
+    (subst (λ (x : PieceConcrete). BreaksAfter q' x t count) there breaks.1) in
+    subst (λ (f : RunFault). CanFail p may limit f) (sym breaks.0) (record {
+      log = log;
+      concrete = k;
+      legal = legal.legal;
+      own = legal.own;
+      within = omega (arith, legal.counted, legal.limit_is, legal.within);
+      thread = t;
+      origin = b.origin;
+      here = b.here;
+      count = count;
+      stands = b.stands;
+      moves = moves;
+      goes = b.goes;
+      turn = turn;
+      breaks = b.breaks;
+    })

@@ -1,7 +1,7 @@
 -- What comes of a piece.
 use Rattle.std.proofs.Common.{◌≡◌, ℕ, ◌-◌, ◌+◌, ◌<◌, ◌≤◌, Bool, true, false, not, Option, Some, None, Result, Ok}
 use Rattle.std.proofs.Common.{Err, is_some, length, refl, ap, sym, ◌∙◌, arith, length-set}
-use Rattle.std.specs.Prelude.{if◌then◌else◌}
+use Rattle.std.specs.Prelude.{if◌then◌else◌, IsOk}
 use mir.Val.{bool_byte}
 use Rattle.isa.specs.Programs.{Program}
 use Rattle.locals.specs.Threads.{Thread}
@@ -222,3 +222,27 @@ goes_to p v t a same stands goes = record {
   stands = stands.1;
   goes = (λ i. local_after (same i) (sym stands.0 i) a.count a.origin) ∙ goes;
 }
+
+-- what a refused piece is refused with
+pub refused_with : (p q : Program) (h : LogState) (t : ℕ) (a : PieceView) (f : StepFault) → q ≡ p → Stands h t a
+    → can_move h.concrete.concrete t ≡ true → Some f ≡ piece_fault_at q h.concrete t a.here
+    → entry_end p h.concrete t a.here ≡ Err f
+refused_with p q h t a f same stands moves is =
+    refused_at p q h.concrete t a.origin a.here f same (up h.concrete.concrete t moves).awake stands.1 is
+
+no_step : (o : Option Thread) → false ≡ is_some o → o ≡ None
+no_step None h = refl
+no_step (Some x) h = absurd cc
+
+-- a piece that comes in isn't refused
+ok_or_not : (r : Result (PieceConcrete × Option Event) StepFault) (f : StepFault) → IsOk r → r ≡ Err f → ⊥
+ok_or_not (Ok q) f fine fails = cc
+ok_or_not (Err g) f fine fails = cc
+
+pub not_refused : (p : Program) (k : PieceConcrete) (t : ℕ) (here : Thread) (f : StepFault)
+    → IsOk (entry_end p k t here) → false ≡ is_some (local_step p t here) → piece_of p (with_local k t here) t ≡ Err f
+    → ⊥
+not_refused p k t here f fine shared fails =
+    ok_or_not (entry_end p k t here) f fine
+    (refused_end (with_local k t here) (piece_of p (with_local k t here) t) (local_step p t here) f
+    (no_step (local_step p t here) shared) fails)

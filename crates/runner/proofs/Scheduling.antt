@@ -1,6 +1,6 @@
 -- Steps that are taken one by one, each an entry of its own.
 use Rattle.std.proofs.Common.{◌≡◌, ℕ, ◌+◌, ◌<◌, ◌≤◌, ◌^◌, List, [], ◌∷◌, ◌++◌, take, length}
-use Rattle.std.proofs.Common.{Bool, true, false, is_ok, is_err, if◌then◌else◌, Some, Result, Ok, Err, IfOk, IfErr}
+use Rattle.std.proofs.Common.{Bool, true, false, zero, suc, is_ok, is_err, is_some, if◌then◌else◌, Some, Result, Ok, Err, IfOk, IfErr}
 use Rattle.std.proofs.Common.{Option, None, refl, ap, sym, ◌∙◌, subst, arith, get_or, inl, inr}
 use Rattle.std.specs.List.{All}
 use Rattle.std.proofs.lemmas.List.{take_more, take_all, map-append}
@@ -8,7 +8,7 @@ use Rattle.std.proofs.lemmas.List.Elements.{All-append, All-cons, All-nil}
 use Rattle.std.proofs.lemmas.Option.{slice_get-get_or}
 use Rattle.isa.specs.Programs.{Program}
 use Rattle.locals.specs.Threads.{Thread}
-use Rattle.locals.specs.Steps.{local_after}
+use Rattle.locals.specs.Steps.{local_step, local_after}
 use Rattle.machine.specs.declared.event.Entry.{Entry}
 use Rattle.machine.specs.declared.event.Event.{Event}
 use Rattle.machine.specs.Runs.{Doing}
@@ -145,3 +145,17 @@ pub only_broken : (p : Program) (k : PieceConcrete) (t : ℕ) (f : StepFault) �
 only_broken p k t Broken fit takes fails = fails
 only_broken p k t CannotMove fit takes fails =
     absurd ((piece_refuses_so p k t fit).0 fails ((takes_so p k t).0 takes))
+
+some_or_none : (o : Option Thread) → true ≡ is_some o → o ≡ None → ⊥
+some_or_none None some none = absurd cc
+some_or_none (Some x) some none = absurd cc
+
+-- who stands before a local step takes one
+pub one_local : (p : Program) (t n : ℕ) (o here x : Thread) → Some o ≡ Some x → true ≡ is_some (local_step p t x)
+    → local_after p t n o ≡ Some here → n ≤ 1 → (n < 1 → local_step p t here ≡ None) → n ≡ 1
+one_local p t zero o here x same before goes few whole =
+    let is : o ≡ here = cc in
+    let at : o ≡ x = cc in
+    absurd (some_or_none (local_step p t x) before
+    (ap (local_step p t) (sym at ∙ is) ∙ whole (omega arith)))
+one_local p t (suc n) o here x same before goes few whole = omega arith

@@ -12,7 +12,7 @@ use Rattle.machine.specs.ConcreteSteps.{can_move}
 use Rattle.machine.specs.PieceSteps.{CanTakePiece}
 use Rattle.machine.proofs.Placing.{thread_at-put}
 use Rattle.machine.proofs.Refusing.{moves_so}
-use Rattle.proof_pieces.proofs.Rests.{goes_on}
+use Rattle.proof_pieces.proofs.Rests.{holders_go_on}
 use Rattle.piece_machine.specs.PieceConcrete.{PieceConcrete, can_take, is_blocked, is_held, pieces_at, piece_of, wanted}
 use Rattle.piece_machine.specs.PieceConcrete.{with_local}
 use Rattle.piece_machine.specs.PieceDetermined.{IsFit}
@@ -96,7 +96,7 @@ some_passes p limit h t fit idle moves = elim (idle t moves) [
   | inr waits ↦
       let k = h.concrete in
       let taken = held_up_taken p k t fit waits in
-      let g = goes_on p (pieces_at k) taken.bucket taken.holder fit.right taken.holds in
+      let g = holders_go_on p (pieces_at k) taken.bucket taken.holder fit.right taken.holds in
       let can = (moves_so k.concrete g.0).1 (record {
         thread = g.2.thread;
         stands = g.2.stands;

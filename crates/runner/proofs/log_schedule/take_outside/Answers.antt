@@ -13,3 +13,8 @@ pub returns-in-Err-clause-none : goal.returns-in-Err-clause-none
 returns-in-Err-clause-none c =
     no_outside c.args.machine.now.view.program (parts c.args.machine.now) (shape_of c.args.entry.now) c.requires.outside
     (inr (inr (sym c.is_kill.ensures ∙ c.if-is_kill.true, c.in-Err.field-0, c.in-Err.ensures.err.0)))
+
+pub returns-in-Err-stray-clause-none : goal.returns-in-Err-stray-clause-none
+returns-in-Err-stray-clause-none c =
+    no_outside c.args.machine.now.view.program (parts c.args.machine.now) (shape_of c.args.entry.now) c.requires.outside
+    (inr (inl (sym c.is_kill.ensures ∙ c.if-is_kill.false, c.in-Err-stray.field-0, c.in-Err-stray.ensures.err.0)))

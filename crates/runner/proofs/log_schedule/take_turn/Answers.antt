@@ -1,5 +1,7 @@
 use Rattle.std.proofs.Common.{◌≡◌, ◌∙◌, ℕ, ap, sym, subst, arith, inl, Some}
 use Rattle.locals.specs.Steps.{local_after}
+use Rattle.machine.specs.ConcreteSteps.{can_move}
+use Rattle.machine.specs.Views.{View, concrete}
 use Rattle.piece_machine.specs.PieceViews.{parts}
 use Rattle.runner.specs.LogSchedules.{shape_of}
 use Rattle.runner.specs.Logs.{EntersOwn, is_outside}
@@ -13,7 +15,8 @@ use Rattle.runner.proofs.log_schedule.take_turn.Goals as goal
 pub returns-then-not-can_move-clause-none : goal.returns-then-not-can_move-clause-none
 returns-then-not-can_move-clause-none c =
     no_mover c.args.machine.now.view.program (parts c.args.machine.now) (shape_of c.args.entry.now)
-    (sym c.is_outside.ensures ∙ c.if-is_outside.false) (sym c.can_move.ensures ∙ c.if-not-can_move.true)
+    (sym c.is_outside.ensures ∙ c.if-is_outside.false) (ap (λ (w : View). can_move (concrete w) c.args.entry.now.thread) (sym c.machine.ensures.shows)
+    ∙ sym c.can_move.ensures ∙ c.if-not-can_move.true)
 
 pub returns-then-run_local-local-clause-none : goal.returns-then-run_local-local-clause-none
 returns-then-run_local-local-clause-none c =
@@ -52,7 +55,8 @@ returns-then-is_some-clause-some c =
     let one = entry c.args.entry.now.thread c.args.entry.now.local (Some event) in
     let enters : EntersOwn old.view.program (parts old) one new =
     takes_shared old.view.program mid.view.program (parts old) (parts mid) new c.args.entry.now.thread
-    c.args.entry.now.local r.origin r.here event (sym c.can_move.ensures ∙ c.if-not-can_move.false) r.stands
+    c.args.entry.now.local r.origin r.here event (ap (λ (w : View). can_move (concrete w) c.args.entry.now.thread) (sym c.machine.ensures.shows)
+    ∙ sym c.can_move.ensures ∙ c.if-not-can_move.false) r.stands
     (subst (λ (n : ℕ). local_after old.view.program c.args.entry.now.thread n r.origin ≡ Some r.here) count r.goes)
     (ap (λ v. v.program) r.after) (led_to old mid c.args.entry.now.thread r.here r.after c.run_local.ensures.phases) c.in-Some.ensures.some in
     let calm = sym c.is_outside.ensures ∙ c.if-is_outside.false in

@@ -1,9 +1,12 @@
 -- The log has one entry more, which is the kill.
-use Rattle.std.proofs.Common.{[], ◌∷◌, ◌+◌, ◌<◌, Some, length, length-append, ap, sym, subst, arith, inr, refl}
+use Rattle.std.proofs.Common.{[], ◌∷◌, ◌+◌, ◌<◌, ◌≡◌, ◌∙◌, Some, length, length-append, ap, sym, subst, arith, inr, refl}
 use Rattle.piece_machine.specs.PieceViews.{parts}
-use Rattle.runner.specs.Logs.{kills_in}
-use Rattle.runner.specs.Views.{SharedView}
-use Rattle.runner.proofs.Growing.{entered, entry, keeps_outside}
+use Rattle.isa.specs.Programs.{Program}
+use Rattle.piece_machine.specs.PieceConcrete.{kill_piece}
+use Rattle.runner.specs.Entries.{TakesKill}
+use Rattle.runner.specs.Logs.{cost, kills_in}
+use Rattle.runner.specs.Views.{LogState, SharedView, log_state}
+use Rattle.runner.proofs.Growing.{cost_more, entered, entry, keeps_outside}
 use Rattle.runner.proofs.Owning.{one_kill, only_kill}
 use Rattle.runner.proofs.shared.Shared.kill.Goals as goal
 
@@ -51,3 +54,22 @@ returns-clause-legal g c =
     (parts s.machine) (parts e.new.machine) s.log.items e.new.log.items c.args.t s.steps s.limit s.kills
     (s.kills + 1) took.0 c.self.invariant.0 e.ensures.program (λ e. c.if-self.false (sym e)) (inr took.1) took.2
     (omega (arith, one_kill s.machine.view.program (parts s.machine) (parts e.new.machine) c.args.t took.0 took.1)) has).legal
+
+pub returns-clause-ok : goal.returns-clause-ok
+returns-clause-ok g c =
+    let s = c.self.inside in
+    let e = c.enter_kill in
+    let p = g.J.RunName.program in
+    let limit = g.J.RunName.limit in
+    let v = c.self.invariant.0 in
+    let took = entered _ _ e.result c.is_err.result c.is_err.ensures.value c.if-is_err.false e.ensures.gives
+    e.ensures.log in
+    let new : LogState = record { log = e.new.log.items; concrete = parts e.new.machine } in
+    let more : cost e.new.log.items ≡ cost s.log.items + 1 =
+    ap cost took.2 ∙ cost_more s.log.items c.args.t 0 (Some took.0) in
+    subst (λ (x : SharedView). TakesKill p limit (log_state x) c.args.t new) c.self.view_is (record {
+      event = took.0;
+      gives = ap (λ (q : Program). kill_piece q (parts s.machine) c.args.t) (sym v.program) ∙ took.1;
+      log = took.2;
+      within = omega (arith, more, v.counted, v.within, v.limit_is, c.if-self.false);
+    })
