@@ -1,5 +1,5 @@
 -- A recorder keeps up with the entries of a log.
-use Rattle.std.proofs.Common.{◌≡◌, ◌+◌, ◌<◌, ◌≤◌, ℕ, zero, suc, List, [], ◌∷◌, length, Option, Some, None, Ok, true}
+use Rattle.std.proofs.Common.{◌≡◌, ◌+◌, ◌<◌, ◌≤◌, ℕ, zero, suc, List, [], ◌∷◌, length, Option, Some, None, Ok, true, false}
 use Rattle.std.proofs.Common.{ap, sym, ◌∙◌, arith, subst, length-append}
 use Rattle.std.specs.Prelude.{◌^◌, ◌++◌, replicate}
 use Rattle.std.proofs.lemmas.List.{length-replicate}

@@ -18,7 +18,7 @@ ghost use Rattle.program.specs.Trees.{Program};
 ghost use Rattle.program.specs.WellFormed.{WellFormed};
 ghost use Rattle.machine.specs.FrontRuns.{EventStep};
 ghost use Rattle.runner.specs.Logs.{EntersOutside, EntersOwn, opening};
-ghost use Rattle.std.specs.Prelude.{[], ◌≡◌, ◌+◌, ◌++◌, ◌<◌, ◌≤◌, ◌^◌, List, Ok, Some, length, true};
+ghost use Rattle.std.specs.Prelude.{[], ◌≡◌, ◌+◌, ◌++◌, ◌<◌, ◌≤◌, ◌^◌, false, List, Ok, Some, length, true};
 ghost use Rattle.log_simulation.specs.Entries.{ComesTo, entry_steps, is_visible, progress_entry, progress_locally};
 ghost use Rattle.log_simulation.specs.Entries.{progress_outside};
 ghost use Rattle.log_simulation.specs.Going.{IsKillDue, IsStrayDue};
