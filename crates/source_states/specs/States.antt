@@ -1,10 +1,12 @@
 -- The state that the code keeps, as a state of the meaning.
-use Rattle.std.specs.Prelude.{ℕ, Option, option_map}
+use Rattle.std.specs.Prelude.{ℕ, [], None, Option, option_map}
 use Rattle.std.specs.Ordering.{nat_cmp}
 use Rattle.std.specs.BTreeMap as map
 use Rattle.std.specs.BTreeMap.{BTreeMap}
 use Rattle.meaning.specs.Processes.{Process}
 use Rattle.meaning.specs.States.{SourceState}
+use Rattle.meaning.specs.Table.{Table}
+use Rattle.meaning.specs.Values.{Variables}
 use Rattle.source_offers.specs.declared.process.Process.{Process as ProcessOf}
 use Rattle.source_offers.specs.Stages.{process_of}
 use Rattle.source_offers.specs.Stores.{variables_of}
@@ -23,3 +25,7 @@ state_of s = record {
   process = processes_in s.processes;
   printed = s.printed.items;
 }
+
+-- a state of this table and these variables without a process
+abbrev pub unpeopled : Table → Variables → SourceState
+unpeopled table variable = record { table = table; variable = variable; process = λ q. None; printed = [] }

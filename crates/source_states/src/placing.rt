@@ -30,8 +30,8 @@ impl<'a> SourceState<'a> {
     ghost use Rattle.source_states.specs.Actions.{kind_of};
     ghost use Rattle.source_states.specs.States.{state_of};
 
-    // A process stands here.
-    pub(crate) fn place(&mut self, number: u64, process: Process<'a>) -> Result<(), AllocError>
+    /// Puts a process into the state, in place of the one of its number, where there is one.
+    pub fn place(&mut self, number: u64, process: Process<'a>) -> Result<(), AllocError>
         ensures { OnOk result (state_of self.new ≡ record (state_of self.old) {
           process = put (state_of self.old).process number (Some (process_of process.entry));
         }) }

@@ -29,7 +29,7 @@ pub struct SourceState<'a> {
 }
 
 impl<'a> SourceState<'a> {
-    ghost use Rattle.source_states.specs.States.{state_of};
+    ghost use Rattle.source_states.specs.States.{state_of, unpeopled};
 
     // The process of the main part, which is the last piece.
     fn main_process(
@@ -64,6 +64,18 @@ impl<'a> SourceState<'a> {
             processes,
             printed: Vec::new(alloc),
         })
+    }
+
+    /// A state of this table and these variables in which there is no process, and nothing was printed.
+    pub fn unpeopled(alloc: Global, table: Table, variables: Variables) -> SourceState<'a>
+        ensures { state_of result ≡ unpeopled (table_of table) (variables_of variables) }
+    {
+        SourceState {
+            table,
+            variables,
+            processes: BTreeMap::new(alloc),
+            printed: Vec::new(alloc),
+        }
     }
 
     /// The numbers printed.
