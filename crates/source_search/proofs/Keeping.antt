@@ -21,9 +21,11 @@ use Rattle.source_states.specs.declared.action.Action.{Action as ActionOf}
 use Rattle.source_search.specs.Choices.{AreChoices}
 use Rattle.source_search.specs.Found.{IsFrom, is_any, killed_in}
 use Rattle.source_search.specs.declared.outside.Outside.{Outside}
-use Rattle.source_search.specs.Packed.{unpacked}
+use Rattle.source_search.specs.Packed.{HasKey, IsGrown, IsSameKey, IsWithin, unpacked}
 use Rattle.source_search.specs.declared.packed.Packed.{Packed as PackedOf}
+use Rattle.source_search.specs.declared.parts.Parts.{Parts as PartsOf}
 use Rattle.source_search.specs.Kept.{IsExpanded, IsFollowed, IsLonger, IsSeen, LeadsToKept, states_in}
+use Rattle.source_search.proofs.Packing.{same_key, states_still}
 use Rattle.source_search.proofs.Subsets.{contains_map}
 
 pub longer_none : (kept : List SourceState) → IsLonger kept kept
@@ -35,28 +37,43 @@ longer_twice first kept kept' a b =
     (a.0 ++ b.0, b.1 ∙ ap (λ x. x ++ b.0) a.1 ∙ append_assoc first a.0 b.0)
 
 -- one state more is kept
-last_kept : (xs ys : List PackedOf) (x : PackedOf) → ys ≡ xs ++ x ∷ []
-    → states_in ys ≡ states_in xs ++ unpacked x ∷ []
-last_kept xs ys x is = ap states_in is ∙ map_push unpacked xs x
+module _ (parts : PartsOf) (xs ys : List PackedOf) (x : PackedOf) (is : ys ≡ xs ++ x ∷ []) where
+  last_kept : states_in parts ys ≡ states_in parts xs ++ unpacked parts x ∷ []
+  last_kept = ap (states_in parts) is ∙ map_push (unpacked parts) xs x
 
-pub longer_one : (xs ys : List PackedOf) (x : PackedOf) → ys ≡ xs ++ x ∷ [] → IsLonger (states_in xs) (states_in ys)
-longer_one xs ys x is = (unpacked x ∷ [], last_kept xs ys x is)
+  pub longer_one : IsLonger (states_in parts xs) (states_in parts ys)
+  longer_one = (unpacked parts x ∷ [], last_kept)
 
-pub kept_last : (xs ys : List PackedOf) (x : PackedOf) → ys ≡ xs ++ x ∷ [] → IsKept (states_in ys) (unpacked x)
-kept_last xs ys x is = (
-  unpacked x,
-  subst (λ l. Contains l (unpacked x)) (sym (last_kept xs ys x is)) (Contains-push (states_in xs) (unpacked x)),
-  like_self (unpacked x),
+  pub kept_last : IsKept (states_in parts ys) (unpacked parts x)
+  kept_last = (
+    unpacked parts x,
+    subst (λ l. Contains l (unpacked parts x)) (sym last_kept)
+        (Contains-push (states_in parts xs) (unpacked parts x)),
+    like_self (unpacked parts x),
+  )
+
+  pub sound_one : All (IsWithin parts) xs → IsWithin parts x → All (IsWithin parts) ys
+  sound_one all one = subst (All (IsWithin parts)) (sym is) (All-push (IsWithin parts) xs x all one)
+
+-- with more parts, the same is kept
+pub longer_still : (a b : PartsOf) → IsGrown a b → (xs : List PackedOf) → All (IsWithin a) xs
+    → IsLonger (states_in a xs) (states_in b xs)
+longer_still a b g xs all = ([], states_still a b g xs all ∙ sym (append-nil (states_in a xs)))
+
+-- a state of the parts of one that is kept
+pub kept_key : (parts : PartsOf) (xs : List PackedOf) (x : PackedOf) → HasKey xs x
+    → IsKept (states_in parts xs) (unpacked parts x)
+kept_key parts xs x (y, c, same) = (
+  unpacked parts y,
+  contains_map (unpacked parts) xs y c,
+  subst (IsLike (unpacked parts y)) (same_key parts y x same) (like_self (unpacked parts y)),
 )
 
--- a state like one that is kept
-pub kept_at : (xs : List PackedOf) (i : ℕ) (x : PackedOf) (s : SourceState) → slice_get xs i ≡ Some x
-    → IsLike (unpacked x) s → IsKept (states_in xs) s
-kept_at xs i x s is like = (
-  unpacked x,
-  contains_map unpacked xs x (subst (Contains xs) (get_or_from_slice_get xs i x x is)
-      (Contains-get_or xs i x (slice_get_within xs i x is))),
-  like,
+pub has_key : (xs : List PackedOf) (i : ℕ) (x y : PackedOf) → slice_get xs i ≡ Some x → IsSameKey x y → HasKey xs y
+has_key xs i x y is same = (
+  x,
+  subst (Contains xs) (get_or_from_slice_get xs i x x is) (Contains-get_or xs i x (slice_get_within xs i x is)),
+  same,
 )
 
 pub kept_like : (kept : List SourceState) (s r : SourceState) → IsKept kept s → IsLike s r → IsKept kept r

@@ -4,7 +4,7 @@ pub mod Killed
 pub mod Kills
 pub mod Successors
 pub mod Endings
-pub mod Keeping
 pub mod Packing
+pub mod Keeping
 pub mod Ahead
 pub mod Searched

@@ -1,10 +1,10 @@
 -- How far a search has come, and what it knows at its end.
 use Rattle.std.proofs.Common.{◌≡◌, ◌<◌, ◌≤◌, ◌+◌, ℕ, zero, suc, Bool, List, [], ◌∷◌, ◌++◌, length, get_or, take, All}
 use Rattle.std.proofs.Common.{Option, Some, None, slice_get, sym, refl, ap, ◌∙◌, subst, arith, true, false, inl, inr}
-use Rattle.std.specs.Prelude.{IsSome, is_some, option_map}
+use Rattle.std.specs.Prelude.{IsSome, is_some}
 use Rattle.std.proofs.lemmas.List.{get_or_append_left, length-append, length-take, take-append-le, take_all}
 use Rattle.std.proofs.lemmas.List.Elements.{All-contains, All-more, All-weaker}
-use Rattle.std.proofs.lemmas.Option.{get_or_from_slice_get, slice_get-map, slice_get_within}
+use Rattle.std.proofs.lemmas.Option.{get_or_from_slice_get, slice_get_within}
 use Rattle.program.specs.Trees.{Program}
 use Rattle.program.specs.WellFormed.{WellFormed}
 use Rattle.meaning.specs.Labels.{Action, Cause, Faulted, Kill, Killed, Kind, Stray}
@@ -25,9 +25,7 @@ use Rattle.source_search.specs.Found.{AreFrom, AreNamed, HasFailed, IsCounted, I
 use Rattle.source_search.specs.Found.{killed_in, kills_of}
 use Rattle.source_search.specs.Found.{one_kill}
 use Rattle.source_search.specs.declared.outside.Outside.{Outside}
-use Rattle.source_search.specs.Packed.{unpacked}
-use Rattle.source_search.specs.declared.packed.Packed.{Packed as PackedOf}
-use Rattle.source_search.specs.Kept.{IsExpanded, IsLonger, IsSeen, NoneIs, states_in}
+use Rattle.source_search.specs.Kept.{IsExpanded, IsLonger, IsSeen, NoneIs}
 use Rattle.source_search.proofs.Keeping.{expanded_still, longer_none, longer_twice, none_kills, none_strays, seen_still}
 use Rattle.source_search.proofs.Killed.{killed_more, killed_opening}
 use Rattle.source_search.proofs.Successors.{expanded_like}
@@ -107,11 +105,6 @@ module _ (p : Program) (may : Outside) (first kept kept' : List SourceState) (pl
     never_aborted = λ e. one_more (λ s. HasFailed may s → ⊥) (so_far.never_aborted (unaborted e).0)
         (λ bad. (unaborted e).1 (like_failed may r c like bad));
   }
-
--- a state that is kept at a place
-pub state_at : (states : List PackedOf) (place : ℕ) (s : PackedOf) → slice_get states place ≡ Some s
-    → slice_get (states_in states) place ≡ Some (unpacked s)
-state_at states place s is = slice_get-map unpacked states place ∙ ap (option_map unpacked) is
 
 -- all were looked at
 module _ (p : Program) (may : Outside) (first kept : List SourceState) (place : ℕ) (stuck aborted : Option ℕ)

@@ -1,25 +1,28 @@
 -- The states that a search keeps, and where it has come to its end.
-use Rattle.std.specs.Prelude.{ℕ, ◌≡◌, ◌++◌, All, Bool, true, false, IsSome, List, Option, Some, None, map}
-use Rattle.std.specs.List.{slice_get}
+use Rattle.std.specs.Prelude.{ℕ, ◌≡◌, ◌++◌, All, Bool, true, false, IsSome, List, Option, None, map}
 use Rattle.program.specs.Trees.{Program}
 use Rattle.meaning.specs.Labels.{Action, Kind}
 use Rattle.meaning.specs.Runs.{IsStep}
 use Rattle.meaning.specs.States.{SourceState}
-use Rattle.proof_exploration.specs.Exploring.{IsLike}
 use Rattle.proof_exploration.specs.Searching.{IsCovered, IsKept}
 use Rattle.source_search.specs.Choices.{by}
 use Rattle.source_search.specs.Found.{IsFrom, is_any}
 use Rattle.source_search.specs.declared.outside.Outside.{Outside}
-use Rattle.source_search.specs.Packed.{unpacked}
+use Rattle.source_search.specs.Packed.{IsWithin, unpacked}
+use Rattle.source_search.specs.declared.kept.Kept.{Kept as KeptOf}
 use Rattle.source_search.specs.declared.packed.Packed.{Packed as PackedOf}
+use Rattle.source_search.specs.declared.parts.Parts.{Parts as PartsOf}
 
 -- the states that are kept
-abbrev pub states_in : List PackedOf → List SourceState
-states_in states = map unpacked states
+abbrev pub states_in : PartsOf → List PackedOf → List SourceState
+states_in parts states = map (unpacked parts) states
 
--- a state like this one is kept at the place
-abbrev pub IsKeptAt : List PackedOf → ℕ → SourceState → Type 0
-IsKeptAt states place s = (x : PackedOf) × (slice_get states place ≡ Some x) × IsLike (unpacked x) s
+abbrev pub states_of : KeptOf → List SourceState
+states_of kept = states_in kept.parts kept.states.items
+
+-- the parts of all of them are there
+abbrev pub IsSound : KeptOf → Type 0
+IsSound kept = All (IsWithin kept.parts) kept.states.items
 
 -- more is kept, behind what was
 abbrev pub IsLonger : List SourceState → List SourceState → Type 0

@@ -13,7 +13,7 @@ impl<'a> Kept<'a> {
     ghost use Rattle.source_states.specs.States.{state_of};
     ghost use Rattle.source_search.specs.Covered.{AllCovered, LeadsToCovered};
     ghost use Rattle.source_search.specs.Found.{is_any};
-    ghost use Rattle.source_search.specs.Kept.{IsLonger, IsSeen, states_in};
+    ghost use Rattle.source_search.specs.Kept.{IsLonger, IsSeen, IsSound, states_of};
 
     // Follows calm actions behind one of several, and keeps the state that they lead to; false where no more can be
     // kept.
@@ -25,10 +25,11 @@ impl<'a> Kept<'a> {
         action: &Action,
         way: Way,
     ) -> Result<bool, AllocError>
-        ensures longer { OnOk result
-            (IsLonger (states_in self.old.states.items) (states_in self.new.states.items)) }
+        requires sound { IsSound self.old }
+        ensures sound { OnOk result (IsSound self.new) }
+        ensures longer { OnOk result (IsLonger (states_of self.old) (states_of self.new)) }
         ensures kept { IfOk result (λ kept. kept ≡ true
-            → LeadsToCovered (program_of checked.now.tree) (states_in self.new.states.items)
+            → LeadsToCovered (program_of checked.now.tree) (states_of self.new)
             (state_of state.now) (action_of action.now)) }
     {
         let Some(next) = next_state(alloc, checked, state, action)? else {
@@ -36,7 +37,13 @@ impl<'a> Kept<'a> {
         };
         let mut after = next;
         let mut trail = Vec::new(alloc);
-        let followed = follow_calm(alloc, checked, &mut after, way.process, &mut trail)?;
+        let followed = follow_calm(
+            alloc,
+            checked,
+            &mut after,
+            u64::from(way.process),
+            &mut trail,
+        )?;
         if is_lost(&followed) {
             return Ok(false);
         }
@@ -52,14 +59,15 @@ impl<'a> Kept<'a> {
         actions: &[Action],
         way: Way,
     ) -> Result<bool, AllocError>
-        ensures longer { OnOk result
-            (IsLonger (states_in self.old.states.items) (states_in self.new.states.items)) }
+        requires sound { IsSound self.old }
+        ensures sound { OnOk result (IsSound self.new) }
+        ensures longer { OnOk result (IsLonger (states_of self.old) (states_of self.new)) }
         ensures kept { IfOk result (λ kept. kept ≡ true
-            → AllCovered (program_of checked.now.tree) (states_in self.new.states.items)
+            → AllCovered (program_of checked.now.tree) (states_of self.new)
             (state_of state.now) (map action_of actions.now)) }
     {
         for later in 0..actions.len() {
-            let way = Way { later, ..way };
+            let way = way.with_later(later);
             if !self.cover_one(alloc, checked, state, &actions[later], way)? {
                 return Ok(false);
             }
@@ -77,10 +85,11 @@ impl<'a> Kept<'a> {
         way: Way,
         outside: Outside,
     ) -> Result<bool, AllocError>
-        ensures longer { OnOk result
-            (IsLonger (states_in self.old.states.items) (states_in self.new.states.items)) }
+        requires sound { IsSound self.old }
+        ensures sound { OnOk result (IsSound self.new) }
+        ensures longer { OnOk result (IsLonger (states_of self.old) (states_of self.new)) }
         ensures kept { IfOk result (λ kept. kept ≡ true
-            → IsSeen (program_of checked.now.tree) (is_any outside) (states_in self.new.states.items)
+            → IsSeen (program_of checked.now.tree) (is_any outside) (states_of self.new)
             (state_of state.entry)) }
     {
         if outside.is_any() {
@@ -88,7 +97,13 @@ impl<'a> Kept<'a> {
         }
         let mut after = state;
         let mut trail = Vec::new(alloc);
-        let followed = follow_calm(alloc, checked, &mut after, way.process, &mut trail)?;
+        let followed = follow_calm(
+            alloc,
+            checked,
+            &mut after,
+            u64::from(way.process),
+            &mut trail,
+        )?;
         if is_lost(&followed) {
             return Ok(false);
         }

@@ -1,8 +1,8 @@
+use crate::packed::Packed;
 use program::{Member, Program, Statement, Target};
 use source_offers::{End, Frame, Process, Stage, Variables};
 use source_states::SourceState;
 use source_table::Hold;
-use std::alloc::{AllocError, Global};
 use std::hash::{FoldHasher, Hasher};
 use words::Cause;
 
@@ -118,18 +118,6 @@ fn feed_process(process: &Process, digest: &mut Mixer) {
     }
 }
 
-// A process, and what the table says of it.
-fn feed_entry(state: &SourceState, number: u64, digest: &mut Mixer) {
-    digest.feed(number);
-    if let Some(process) = state.process(number) {
-        feed_process(process, digest);
-    }
-    if let Some(condition) = state.waits(number) {
-        feed_member(condition, digest);
-    }
-    digest.feed(u64::from(state.claimed(number)));
-}
-
 fn feed_hold(hold: Hold, digest: &mut Mixer) {
     match hold {
         Hold::Free => digest.feed(0),
@@ -180,17 +168,12 @@ pub(crate) fn digest_variables(variables: &Variables) -> u64 {
 
 /// A number that is mostly another where the state is another. Nothing is promised of it: it decides how fast a kept
 /// state is found, and no more.
-pub(crate) fn digest(
-    alloc: Global,
-    program: &Program,
-    state: &SourceState,
-) -> Result<u64, AllocError> {
+pub(crate) fn digest_packed(packed: &Packed) -> u64 {
     let mut digest = Mixer::new();
-    let numbers = state.numbers(alloc)?;
-    for number in numbers.as_slice() {
-        feed_entry(state, *number, &mut digest);
+    digest.feed(u64::from(packed.table));
+    digest.feed(u64::from(packed.variables));
+    for part in packed.processes.as_slice() {
+        digest.feed(u64::from(*part));
     }
-    feed_holds(program, state, &mut digest);
-    digest.feed(digest_variables(state.variables()));
-    Ok(digest.number)
+    digest.number
 }

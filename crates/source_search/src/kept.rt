@@ -1,131 +1,151 @@
-ghost use Rattle.std.specs.Prelude.{◌≡◌, IfOk, IfSome, OnOk, true};
+ghost use Rattle.std.specs.Prelude.{◌≡◌, IfOk, IfSome, OnOk, Some, true};
+ghost use Rattle.std.specs.List.{slice_get};
 ghost use Rattle.proof_exploration.specs.Searching.{IsKept as IsKeptIn};
 ghost use Rattle.source_states.specs.States.{state_of};
-ghost use Rattle.source_search.specs.Kept.{states_in};
+ghost use Rattle.source_search.specs.Packed.{HasKey};
 
-use crate::digest::digest;
+use crate::digest::digest_packed;
 use crate::packed::Packed;
-use crate::parts::Parts;
+use crate::parts::{Parts, TRIES, note};
 use program::Checked;
 use source_states::SourceState;
 use std::alloc::{AllocError, Global};
-use std::collections::{BTreeMap, VecDeque};
-
-// How many places are tried for a digest.
-const TRIES: u64 = 8;
+use std::collections::HashMap;
 
 /// How a kept state was come to: from which, by which process, and by which of its choices.
 #[derive(Clone, Copy, Debug)]
 pub(crate) struct Way {
     /// The place of the state before.
-    pub before: usize,
+    pub before: u32,
     /// The process.
-    pub process: u64,
+    pub process: u32,
     /// The place of the action among the choices.
-    pub choice: usize,
+    pub choice: u32,
     /// The place of a calm action among the choices that were come to behind it, where there were several.
-    pub later: usize,
+    pub later: u32,
+}
+
+// A number, in four bytes; the greatest there is, where it is greater.
+fn short(number: u64) -> u32 {
+    u32::try_from(number).unwrap_or(u32::MAX)
+}
+
+impl Way {
+    /// From this place, by a process's choice.
+    pub fn new(before: usize, process: u64, choice: usize) -> Way {
+        Way {
+            before: short(before as u64),
+            process: short(process),
+            choice: short(choice as u64),
+            later: 0,
+        }
+    }
+
+    /// The same, and by a later choice.
+    pub fn with_later(self, later: usize) -> Way {
+        Way {
+            later: short(later as u64),
+            ..self
+        }
+    }
 }
 
 /// The states that a search keeps, in the order in which they were come to.
 #[derive(Drop)]
 pub(crate) struct Kept<'a> {
-    // The states.
-    pub states: Vec<Packed<'a>>,
-    // The parts of which they are made.
-    parts: Parts<'a>,
-    // The last of the states once more, whole, which were not looked at yet.
-    ahead: VecDeque<SourceState<'a>>,
-    // How each was come to.
+    /// The states.
+    pub states: Vec<Packed>,
+    /// The parts of which they are made.
+    pub parts: Parts<'a>,
+    /// How each was come to.
     pub ways: Vec<Way>,
     // The place of each digest, or of one shortly before it.
-    pub places: BTreeMap<u64, usize>,
+    places: HashMap<u64, u32>,
     // How many states may be kept.
     most: usize,
 }
 
-/// Whether a state like this one, whose digest is `first`, is kept at the place of that digest or of one shortly after.
-pub(crate) fn is_kept<'a>(
-    alloc: Global,
-    states: &[Packed<'a>],
-    places: &BTreeMap<u64, usize>,
-    first: u64,
-    state: &SourceState<'a>,
-) -> Result<bool, AllocError>
-    ensures { IfOk result (λ kept. kept ≡ true
-        → IsKeptIn (states_in states.now) (state_of state.now)) }
+/// Whether a state of these parts, whose digest is `first`, is kept at the place of that digest or of one shortly after.
+fn is_kept(states: &[Packed], places: &HashMap<u64, u32>, first: u64, packed: &Packed) -> bool
+    ensures { result ≡ true → HasKey states.now packed.now }
 {
     for tries in 0..TRIES {
         let Some(place) = places.get(&first.wrapping_add(tries)) else {
-            return Ok(false);
+            return false;
         };
-        let Some(kept) = states.get(*place) else {
-            return Ok(false);
+        let Some(kept) = states.get(*place as usize) else {
+            return false;
         };
-        if kept.is_like(alloc, state)? {
-            return Ok(true);
+        if kept.is_same(packed) {
+            return true;
         }
     }
-    Ok(false)
-}
-
-// The first digest from this one on, of a few, of which no place is noted.
-fn free_key(places: &BTreeMap<u64, usize>, first: u64) -> Option<u64> {
-    for tries in 0..TRIES {
-        let key = first.wrapping_add(tries);
-        if !places.contains_key(&key) {
-            return Some(key);
-        }
-    }
-    None
+    false
 }
 
 impl<'a> Kept<'a> {
     ghost use Rattle.source_states.specs.States.{state_of};
-    ghost use Rattle.source_search.specs.Kept.{IsKeptAt, IsLonger, states_in};
+    ghost use Rattle.source_search.specs.Kept.{IsLonger, IsSound, states_of};
+    ghost use Rattle.source_search.specs.Packed.{IsWithin, unpacked};
 
     /// No states yet, and how many may be kept.
-    pub fn new(alloc: Global, most: usize) -> Kept<'a> {
+    pub fn new(alloc: Global, most: usize) -> Kept<'a>
+        ensures { IsSound result }
+    {
         Kept {
             states: Vec::new(alloc),
             parts: Parts::new(alloc),
-            ahead: VecDeque::new(alloc),
             ways: Vec::new(alloc),
-            places: BTreeMap::new(alloc),
+            places: HashMap::new(alloc),
             most,
         }
     }
 
-    // Notes the place of the next state, by the first digest from this one on that is free.
-    fn note(&mut self, first: u64) -> Result<(), AllocError>
-        ensures { OnOk result (self.new.states.items ≡ self.old.states.items) }
+    /// The state that is kept at a place, whole.
+    pub fn state(&self, alloc: Global, place: usize) -> Result<Option<SourceState<'a>>, AllocError>
+        ensures { IfOk result (λ o. IfSome o
+            (λ s. slice_get (states_of self.now) place ≡ Some (state_of s))) }
     {
-        if let Some(key) = free_key(&self.places, first) {
-            let _none = self.places.insert(key, self.states.len())?;
-        }
-        Ok(())
+        let Some(packed) = self.states.get(place) else {
+            return Ok(None);
+        };
+        let Some(state) = self.parts.unpack(alloc, packed)? else {
+            return Ok(None);
+        };
+        Ok(Some(state))
     }
 
-    /// The next state that was kept, whole. It is there always; that it is the one at this place is looked at.
-    pub fn next(
-        &mut self,
-        alloc: Global,
-        place: usize,
-    ) -> Result<Option<SourceState<'a>>, AllocError>
-        ensures states { OnOk result (self.new.states.items ≡ self.old.states.items) }
-        ensures like { IfOk result (λ o. IfSome o
-            (λ s. IsKeptAt self.new.states.items place (state_of s))) }
-    {
-        let Some(state) = self.ahead.pop_front() else {
-            return Ok(None);
-        };
-        let Some(kept) = self.states.get(place) else {
-            return Ok(None);
-        };
-        if !kept.is_like(alloc, &state)? {
-            return Ok(None);
+    // The number of the values of the variables of the state that is kept at a place.
+    fn variables_at(&self, place: usize) -> u32 {
+        match self.states.get(place) {
+            None => 0,
+            Some(packed) => packed.variables,
         }
-        Ok(Some(state))
+    }
+
+    // Keeps a state of these parts, unless it is kept; false, where no more can be kept.
+    fn keep_packed(&mut self, packed: Packed, way: Way) -> Result<bool, AllocError>
+        requires sound { IsSound self.old }
+        requires within { IsWithin self.old.parts packed }
+        ensures sound { OnOk result (IsSound self.new) }
+        ensures longer { OnOk result (IsLonger (states_of self.old) (states_of self.new)) }
+        ensures kept { IfOk result (λ kept. kept ≡ true
+            → IsKeptIn (states_of self.new) (unpacked self.old.parts packed)) }
+    {
+        let first = digest_packed(&packed);
+        if is_kept(self.states.as_slice(), &self.places, first, &packed) {
+            return Ok(true);
+        }
+        if self.states.len() >= self.most {
+            return Ok(false);
+        }
+        let Ok(place) = u32::try_from(self.states.len()) else {
+            return Ok(false);
+        };
+        note(&mut self.places, first, place)?;
+        self.ways.push(way)?;
+        self.states.push(packed)?;
+        Ok(true)
     }
 
     /// Keeps a state, unless one like it is kept; false, where no more can be kept.
@@ -136,26 +156,17 @@ impl<'a> Kept<'a> {
         state: SourceState<'a>,
         way: Way,
     ) -> Result<bool, AllocError>
-        ensures longer { OnOk result
-            (IsLonger (states_in self.old.states.items) (states_in self.new.states.items)) }
+        requires sound { IsSound self.old }
+        ensures sound { OnOk result (IsSound self.new) }
+        ensures longer { OnOk result (IsLonger (states_of self.old) (states_of self.new)) }
         ensures kept { IfOk result (λ kept. kept ≡ true
-            → IsKeptIn (states_in self.new.states.items) (state_of state.entry)) }
+            → IsKeptIn (states_of self.new) (state_of state.entry)) }
     {
-        let first = digest(alloc, checked.program(), &state)?;
-        if is_kept(alloc, self.states.as_slice(), &self.places, first, &state)? {
-            return Ok(true);
-        }
-        if self.states.len() >= self.most {
+        let before = self.variables_at(way.before as usize);
+        let Some(packed) = self.parts.pack(alloc, checked.program(), &state, before)? else {
             return Ok(false);
-        }
-        let packed = self.parts.pack(alloc, checked.program(), &state)?;
-        if !packed.is_like(alloc, &state)? {
-            return Ok(false);
-        }
-        self.note(first)?;
-        self.ways.push(way)?;
-        self.states.push(packed)?;
-        self.ahead.push_back(state)?;
-        Ok(true)
+        };
+        let kept = self.keep_packed(packed, way)?;
+        Ok(kept)
     }
 }

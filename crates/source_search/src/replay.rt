@@ -26,7 +26,7 @@ fn ways_back(alloc: Global, ways: &[Way], place: usize) -> Result<Vec<Way>, Allo
             break;
         }
         back.push(*way)?;
-        at = way.before;
+        at = way.before as usize;
     }
     Ok(back)
 }
@@ -39,9 +39,9 @@ fn action_at<'a>(
     way: Way,
     outside: Outside,
 ) -> Result<Option<Action>, AllocError> {
-    match choices(alloc, checked, state, way.process, outside)? {
+    match choices(alloc, checked, state, u64::from(way.process), outside)? {
         None => Ok(None),
-        Some(actions) => Ok(actions.into_iter().nth(way.choice)),
+        Some(actions) => Ok(actions.into_iter().nth(way.choice as usize)),
     }
 }
 
@@ -53,18 +53,18 @@ fn follow_on<'a>(
     way: Way,
     actions: &mut Vec<Action>,
 ) -> Result<(), AllocError> {
-    let followed = follow_calm(alloc, checked, state, way.process, actions)?;
+    let followed = follow_calm(alloc, checked, state, u64::from(way.process), actions)?;
     let Followed::Choices(choices) = followed else {
         return Ok(());
     };
-    let Some(action) = choices.into_iter().nth(way.later) else {
+    let Some(action) = choices.into_iter().nth(way.later as usize) else {
         return Ok(());
     };
     if !state.advance(alloc, checked.program(), &action)? {
         return Ok(());
     }
     actions.push(action)?;
-    let _followed = follow_calm(alloc, checked, state, way.process, actions)?;
+    let _followed = follow_calm(alloc, checked, state, u64::from(way.process), actions)?;
     Ok(())
 }
 

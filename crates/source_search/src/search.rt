@@ -4,7 +4,7 @@ ghost use Rattle.proof_exploration.specs.Exploring.{IsStuck};
 ghost use Rattle.source_search.specs.Found.{HasFailed};
 ghost use Rattle.source_states.specs.Actions.{action_of};
 ghost use Rattle.source_states.specs.States.{state_of};
-ghost use Rattle.source_search.specs.Kept.{IsExpanded, IsLonger, NoneIs, states_in};
+ghost use Rattle.source_search.specs.Kept.{IsExpanded, IsLonger, IsSound, NoneIs, states_of};
 
 use crate::choices::choices;
 use crate::ends::{has_failed, is_stuck};
@@ -58,7 +58,7 @@ impl<'a> Kept<'a> {
     ghost use Rattle.std.specs.Prelude.{map};
     ghost use Rattle.source_states.specs.Actions.{action_of};
     ghost use Rattle.source_states.specs.States.{state_of};
-    ghost use Rattle.source_search.specs.Kept.{IsExpanded, IsFollowed, IsLonger, LeadsToKept, states_in};
+    ghost use Rattle.source_search.specs.Kept.{IsExpanded, IsFollowed, IsLonger, IsSound, LeadsToKept, states_of};
 
     // Keeps what the state leads to that an action leads to, where it is possible; false where no more can be kept.
     fn take(
@@ -70,10 +70,11 @@ impl<'a> Kept<'a> {
         way: Way,
         outside: Outside,
     ) -> Result<bool, AllocError>
-        ensures longer { OnOk result
-            (IsLonger (states_in self.old.states.items) (states_in self.new.states.items)) }
+        requires sound { IsSound self.old }
+        ensures sound { OnOk result (IsSound self.new) }
+        ensures longer { OnOk result (IsLonger (states_of self.old) (states_of self.new)) }
         ensures kept { IfOk result (λ kept. kept ≡ true
-            → LeadsToKept (program_of checked.now.tree) outside (states_in self.new.states.items)
+            → LeadsToKept (program_of checked.now.tree) outside (states_of self.new)
             (state_of state.now) (action_of action.now)) }
     {
         let found = next_state(alloc, checked, state, action)?;
@@ -94,19 +95,15 @@ impl<'a> Kept<'a> {
         actions: &[Action],
         outside: Outside,
     ) -> Result<bool, AllocError>
-        ensures longer { OnOk result
-            (IsLonger (states_in self.old.states.items) (states_in self.new.states.items)) }
+        requires sound { IsSound self.old }
+        ensures sound { OnOk result (IsSound self.new) }
+        ensures longer { OnOk result (IsLonger (states_of self.old) (states_of self.new)) }
         ensures kept { IfOk result (λ kept. kept ≡ true
-            → All (LeadsToKept (program_of checked.now.tree) outside (states_in self.new.states.items)
+            → All (LeadsToKept (program_of checked.now.tree) outside (states_of self.new)
             (state_of state.now)) (map action_of actions.now)) }
     {
         for choice in 0..actions.len() {
-            let way = Way {
-                before,
-                process,
-                choice,
-                later: 0,
-            };
+            let way = Way::new(before, process, choice);
             if !self.take(alloc, checked, state, &actions[choice], way, outside)? {
                 return Ok(false);
             }
@@ -124,10 +121,11 @@ impl<'a> Kept<'a> {
         process: u64,
         outside: Outside,
     ) -> Result<bool, AllocError>
-        ensures longer { OnOk result
-            (IsLonger (states_in self.old.states.items) (states_in self.new.states.items)) }
+        requires sound { IsSound self.old }
+        ensures sound { OnOk result (IsSound self.new) }
+        ensures longer { OnOk result (IsLonger (states_of self.old) (states_of self.new)) }
         ensures kept { IfOk result (λ kept. kept ≡ true
-            → IsFollowed (program_of checked.now.tree) outside (states_in self.new.states.items)
+            → IsFollowed (program_of checked.now.tree) outside (states_of self.new)
             (state_of state.now) process) }
     {
         if !outside.is_any() && !can_move(state, checked, process) {
@@ -150,10 +148,11 @@ impl<'a> Kept<'a> {
         before: usize,
         outside: Outside,
     ) -> Result<bool, AllocError>
-        ensures longer { OnOk result
-            (IsLonger (states_in self.old.states.items) (states_in self.new.states.items)) }
+        requires sound { IsSound self.old }
+        ensures sound { OnOk result (IsSound self.new) }
+        ensures longer { OnOk result (IsLonger (states_of self.old) (states_of self.new)) }
         ensures kept { IfOk result (λ kept. kept ≡ true
-            → IsExpanded (program_of checked.now.tree) outside (states_in self.new.states.items)
+            → IsExpanded (program_of checked.now.tree) outside (states_of self.new)
             (state_of state.now)) }
     {
         let all = state.numbers(alloc)?;
@@ -176,15 +175,15 @@ pub(crate) fn search<'a, P: Progress>(
     outside: Outside,
     progress: &mut P,
 ) -> Result<Findings, AllocError>
-    ensures longer { OnOk result
-        (IsLonger (states_in kept.old.states.items) (states_in kept.new.states.items)) }
+    requires sound { IsSound kept.old }
+    ensures longer { OnOk result (IsLonger (states_of kept.old) (states_of kept.new)) }
     ensures expanded { IfOk result (λ f. f.complete ≡ true
-        → All (IsExpanded (program_of checked.now.tree) outside (states_in kept.new.states.items))
-        (states_in kept.new.states.items)) }
+        → All (IsExpanded (program_of checked.now.tree) outside (states_of kept.new))
+        (states_of kept.new)) }
     ensures stuck { IfOk result (λ f. f.complete ≡ true
-        → NoneIs (IsStuck (program_of checked.now.tree)) (states_in kept.new.states.items) f.stuck) }
+        → NoneIs (IsStuck (program_of checked.now.tree)) (states_of kept.new) f.stuck) }
     ensures aborted { IfOk result (λ f. f.complete ≡ true
-        → NoneIs (HasFailed outside) (states_in kept.new.states.items) f.aborted) }
+        → NoneIs (HasFailed outside) (states_of kept.new) f.aborted) }
 {
     let mut findings = Findings {
         complete: false,
@@ -197,7 +196,7 @@ pub(crate) fn search<'a, P: Progress>(
             findings.complete = true;
             return Ok(findings);
         }
-        let Some(state) = kept.next(alloc, place)? else {
+        let Some(state) = kept.state(alloc, place)? else {
             return Ok(findings);
         };
         findings.look(alloc, checked, &state, place, outside)?;

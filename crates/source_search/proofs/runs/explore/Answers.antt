@@ -1,15 +1,15 @@
 use Rattle.std.proofs.Common.{subst}
 use Rattle.program.specs.Views.{program_of}
 use Rattle.source_search.specs.Found.{is_any}
-use Rattle.source_search.specs.Kept.{IsSeen, states_in}
+use Rattle.source_search.specs.Kept.{IsSeen, states_of}
 use Rattle.source_search.proofs.Searched.{nowhere_aborted, nowhere_stuck}
 use Rattle.source_search.proofs.runs.explore.Goals as goal
 
 pub returns-clause-never_stuck : goal.returns-clause-never_stuck
 returns-clause-never_stuck g c = λ complete none.
     nowhere_stuck (program_of c.args.checked.now.tree) c.program-program.ensures.well_formed c.args.outside
-    (states_in c.cover.new.self.states.items) (states_in c.search.new.kept.states.items)
-    (subst (IsSeen (program_of c.args.checked.now.tree) (is_any c.args.outside) (states_in c.cover.new.self.states.items)) c.in_ok-opening.ensures
+    (states_of c.cover.new.self) (states_of c.search.new.kept)
+    (subst (IsSeen (program_of c.args.checked.now.tree) (is_any c.args.outside) (states_of c.cover.new.self)) c.in_ok-opening.ensures
     (c.in_ok-opens.ensures.kept (c.is_complete-complete.ensures.opens complete)))
     c.in_ok-findings.ensures.longer
     (c.in_ok-findings.ensures.expanded (c.is_complete-complete.ensures.complete complete))
@@ -20,8 +20,8 @@ returns-clause-never_stuck g c = λ complete none.
 pub returns-clause-never_aborted : goal.returns-clause-never_aborted
 returns-clause-never_aborted g c = λ complete none.
     nowhere_aborted (program_of c.args.checked.now.tree) c.program-program.ensures.well_formed c.args.outside
-    (states_in c.cover.new.self.states.items) (states_in c.search.new.kept.states.items)
-    (subst (IsSeen (program_of c.args.checked.now.tree) (is_any c.args.outside) (states_in c.cover.new.self.states.items)) c.in_ok-opening.ensures
+    (states_of c.cover.new.self) (states_of c.search.new.kept)
+    (subst (IsSeen (program_of c.args.checked.now.tree) (is_any c.args.outside) (states_of c.cover.new.self)) c.in_ok-opening.ensures
     (c.in_ok-opens.ensures.kept (c.is_complete-complete.ensures.opens complete)))
     c.in_ok-findings.ensures.longer
     (c.in_ok-findings.ensures.expanded (c.is_complete-complete.ensures.complete complete))

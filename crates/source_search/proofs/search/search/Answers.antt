@@ -1,114 +1,114 @@
-use Rattle.std.proofs.Common.{◌∙◌, ◌≤◌, ap, arith, length, refl, subst}
+use Rattle.std.proofs.Common.{◌≡◌, ◌∙◌, ◌≤◌, Some, ap, arith, length, refl, slice_get}
 use Rattle.std.proofs.lemmas.Bool.Decides.{nat_tests}
 use Rattle.std.proofs.lemmas.List.{length-map}
 use Rattle.program.specs.Views.{program_of}
+use Rattle.proof_exploration.proofs.Alike.{like_self}
 use Rattle.source_states.specs.States.{state_of}
-use Rattle.source_search.specs.Kept.{IsKeptAt, IsLonger, states_in}
+use Rattle.source_search.specs.Kept.{states_of}
 use Rattle.source_search.specs.Packed.{unpacked}
-use Rattle.source_search.proofs.Searched.{all_expanded, at_first, goes_on, none_aborted, none_stuck, state_at}
+use Rattle.source_search.proofs.Searched.{all_expanded, at_first, goes_on, none_aborted, none_stuck}
 use Rattle.source_search.proofs.search.search.Goals as goal
 
 pub loop-place-init : goal.loop-place-init
 loop-place-init g c = record {
-  so_far = at_first (program_of c.args.checked.now.tree) c.args.outside (states_in c.args.kept.now.states.items);
+  sound = c.requires.sound;
+  so_far = at_first (program_of c.args.checked.now.tree) c.args.outside (states_of c.args.kept.now);
   goes_on = refl;
 }
 
 pub loop-place-preserved : goal.loop-place-preserved
 loop-place-preserved g c =
-    let states = c.loop-place.kept.states.items in
-    let there : IsKeptAt c.next.new.self.states.items c.loop-place.place (state_of c.in-Some.state) =
-    rw c.in-Some.is at c.in_ok-state.ensures.like in
-    let here : IsKeptAt states c.loop-place.place (state_of c.in-Some.state) =
-    subst (λ xs. IsKeptAt xs c.loop-place.place (state_of c.in-Some.state)) c.in_ok-state.ensures.states there in
+    let kept = states_of c.loop-place.kept in
+    let here : slice_get kept c.loop-place.place ≡ Some (state_of c.in-Some.state) =
+    rw c.in-Some.is at c.in_ok-state.ensures in
     record {
-      so_far = goes_on (program_of c.args.checked.now.tree) c.args.outside (states_in c.args.kept.now.states.items)
-          (states_in states) (states_in c.expand.new.self.states.items) c.loop-place.place c.loop-place.findings.stuck
+      sound = c.in_ok-expand.ensures.sound;
+      so_far = goes_on (program_of c.args.checked.now.tree) c.args.outside (states_of c.args.kept.now)
+          kept (states_of c.expand.new.self) c.loop-place.place c.loop-place.findings.stuck
           c.look.new.self.stuck c.loop-place.findings.aborted c.look.new.self.aborted c.loop-place.invariant.so_far
-          (subst (λ xs. IsLonger (states_in xs) (states_in c.expand.new.self.states.items)) c.in_ok-state.ensures.states
-          c.in_ok-expand.ensures.longer) (unpacked here.0) (state_of c.in-Some.state)
-          (state_at states c.loop-place.place here.0 here.1) here.2
+          c.in_ok-expand.ensures.longer (state_of c.in-Some.state) (state_of c.in-Some.state) here
+          (like_self (state_of c.in-Some.state))
           (c.in_ok-expand.ensures.kept c.if-not-branch.false) c.in_ok-look.ensures.stuck c.in_ok-look.ensures.aborted;
       goes_on = c.in_ok-look.ensures.complete ∙ c.loop-place.invariant.goes_on;
     }
 
 pub returns-then-place-known-clause-expanded : goal.returns-then-place-known-clause-expanded
 returns-then-place-known-clause-expanded g c = λ e.
-    let end : length (states_in c.loop-place.kept.states.items) ≤ c.loop-place.place =
+    let end : length (states_of c.loop-place.kept) ≤ c.loop-place.place =
     omega (
       arith,
       ap length c.as_slice-known.ensures.value,
-      length-map c.loop-place.kept.states.items unpacked,
+      length-map c.loop-place.kept.states.items (unpacked c.loop-place.kept.parts),
     ) in
-    all_expanded (program_of c.args.checked.now.tree) c.args.outside (states_in c.args.kept.now.states.items)
-    (states_in c.loop-place.kept.states.items) c.loop-place.place c.loop-place.findings.stuck
+    all_expanded (program_of c.args.checked.now.tree) c.args.outside (states_of c.args.kept.now)
+    (states_of c.loop-place.kept) c.loop-place.place c.loop-place.findings.stuck
     c.loop-place.findings.aborted c.loop-place.invariant.so_far end
 
 pub returns-then-place-known-clause-stuck : goal.returns-then-place-known-clause-stuck
 returns-then-place-known-clause-stuck g c = λ e.
-    let end : length (states_in c.loop-place.kept.states.items) ≤ c.loop-place.place =
+    let end : length (states_of c.loop-place.kept) ≤ c.loop-place.place =
     omega (
       arith,
       ap length c.as_slice-known.ensures.value,
-      length-map c.loop-place.kept.states.items unpacked,
+      length-map c.loop-place.kept.states.items (unpacked c.loop-place.kept.parts),
     ) in
-    none_stuck (program_of c.args.checked.now.tree) c.args.outside (states_in c.args.kept.now.states.items)
-    (states_in c.loop-place.kept.states.items) c.loop-place.place c.loop-place.findings.stuck
+    none_stuck (program_of c.args.checked.now.tree) c.args.outside (states_of c.args.kept.now)
+    (states_of c.loop-place.kept) c.loop-place.place c.loop-place.findings.stuck
     c.loop-place.findings.aborted c.loop-place.invariant.so_far end
 
 pub returns-then-place-known-clause-aborted : goal.returns-then-place-known-clause-aborted
 returns-then-place-known-clause-aborted g c = λ e.
-    let end : length (states_in c.loop-place.kept.states.items) ≤ c.loop-place.place =
+    let end : length (states_of c.loop-place.kept) ≤ c.loop-place.place =
     omega (
       arith,
       ap length c.as_slice-known.ensures.value,
-      length-map c.loop-place.kept.states.items unpacked,
+      length-map c.loop-place.kept.states.items (unpacked c.loop-place.kept.parts),
     ) in
-    none_aborted (program_of c.args.checked.now.tree) c.args.outside (states_in c.args.kept.now.states.items)
-    (states_in c.loop-place.kept.states.items) c.loop-place.place c.loop-place.findings.stuck
+    none_aborted (program_of c.args.checked.now.tree) c.args.outside (states_of c.args.kept.now)
+    (states_of c.loop-place.kept) c.loop-place.place c.loop-place.findings.stuck
     c.loop-place.findings.aborted c.loop-place.invariant.so_far end
 
 pub returns-clause-expanded : goal.returns-clause-expanded
 returns-clause-expanded g c = λ e.
     let few : length c.as_slice-all.result.now ≤ c.args.most = grind (arith, nat_tests, e) in
-    let end : length (states_in c.loop-place.kept.states.items) ≤ c.loop-place.place =
+    let end : length (states_of c.loop-place.kept) ≤ c.loop-place.place =
     omega (
       arith,
       few,
       c.loop-place-test.false,
       ap length c.as_slice-all.ensures.value,
-      length-map c.loop-place.kept.states.items unpacked,
+      length-map c.loop-place.kept.states.items (unpacked c.loop-place.kept.parts),
     ) in
-    all_expanded (program_of c.args.checked.now.tree) c.args.outside (states_in c.args.kept.now.states.items)
-    (states_in c.loop-place.kept.states.items) c.loop-place.place c.loop-place.findings.stuck
+    all_expanded (program_of c.args.checked.now.tree) c.args.outside (states_of c.args.kept.now)
+    (states_of c.loop-place.kept) c.loop-place.place c.loop-place.findings.stuck
     c.loop-place.findings.aborted c.loop-place.invariant.so_far end
 
 pub returns-clause-stuck : goal.returns-clause-stuck
 returns-clause-stuck g c = λ e.
     let few : length c.as_slice-all.result.now ≤ c.args.most = grind (arith, nat_tests, e) in
-    let end : length (states_in c.loop-place.kept.states.items) ≤ c.loop-place.place =
+    let end : length (states_of c.loop-place.kept) ≤ c.loop-place.place =
     omega (
       arith,
       few,
       c.loop-place-test.false,
       ap length c.as_slice-all.ensures.value,
-      length-map c.loop-place.kept.states.items unpacked,
+      length-map c.loop-place.kept.states.items (unpacked c.loop-place.kept.parts),
     ) in
-    none_stuck (program_of c.args.checked.now.tree) c.args.outside (states_in c.args.kept.now.states.items)
-    (states_in c.loop-place.kept.states.items) c.loop-place.place c.loop-place.findings.stuck
+    none_stuck (program_of c.args.checked.now.tree) c.args.outside (states_of c.args.kept.now)
+    (states_of c.loop-place.kept) c.loop-place.place c.loop-place.findings.stuck
     c.loop-place.findings.aborted c.loop-place.invariant.so_far end
 
 pub returns-clause-aborted : goal.returns-clause-aborted
 returns-clause-aborted g c = λ e.
     let few : length c.as_slice-all.result.now ≤ c.args.most = grind (arith, nat_tests, e) in
-    let end : length (states_in c.loop-place.kept.states.items) ≤ c.loop-place.place =
+    let end : length (states_of c.loop-place.kept) ≤ c.loop-place.place =
     omega (
       arith,
       few,
       c.loop-place-test.false,
       ap length c.as_slice-all.ensures.value,
-      length-map c.loop-place.kept.states.items unpacked,
+      length-map c.loop-place.kept.states.items (unpacked c.loop-place.kept.parts),
     ) in
-    none_aborted (program_of c.args.checked.now.tree) c.args.outside (states_in c.args.kept.now.states.items)
-    (states_in c.loop-place.kept.states.items) c.loop-place.place c.loop-place.findings.stuck
+    none_aborted (program_of c.args.checked.now.tree) c.args.outside (states_of c.args.kept.now)
+    (states_of c.loop-place.kept) c.loop-place.place c.loop-place.findings.stuck
     c.loop-place.findings.aborted c.loop-place.invariant.so_far end

@@ -1,12 +1,13 @@
 use Rattle.std.proofs.Common.{◌≡◌, false}
 use Rattle.program.specs.Views.{program_of}
-use Rattle.source_search.specs.Kept.{states_in}
+use Rattle.source_search.specs.Kept.{IsSound, states_of}
 use Rattle.source_search.proofs.Searched.{IsSoFar}
 use Rattle.source_search.proofs.search.search.Given as goal
 
 abbrev pub invariant-loop-place : goal.invariant-loop-place
 invariant-loop-place g l = record {
-  so_far : IsSoFar (program_of l.checked.tree) l.outside (states_in l.fn.kept.states.items)
-      (states_in l.kept.states.items) l.place l.findings.stuck l.findings.aborted;
+  sound : IsSound l.kept;
+  so_far : IsSoFar (program_of l.checked.tree) l.outside (states_of l.fn.kept)
+      (states_of l.kept) l.place l.findings.stuck l.findings.aborted;
   goes_on : l.findings.complete ≡ false;
 }

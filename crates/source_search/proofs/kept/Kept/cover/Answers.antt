@@ -6,7 +6,7 @@ use Rattle.source_states.specs.States.{state_of}
 use Rattle.source_states.specs.declared.action.Action.{Action as ActionOf}
 use Rattle.source_search.specs.Covered.{AllCovered, IsAhead, IsFollowable}
 use Rattle.source_search.specs.Found.{is_any}
-use Rattle.source_search.specs.Kept.{states_in}
+use Rattle.source_search.specs.Kept.{states_of}
 use Rattle.source_search.proofs.Ahead.{covered_by_choices, seen_covered}
 use Rattle.source_search.proofs.kept.Kept.cover.Goals as goal
 
@@ -17,8 +17,8 @@ returns-in_default-clause-kept c =
     let ahead : IsAhead p s (state_of c.follow_calm.new.state) =
     c.is_lost.ensures c.if-is_lost.false p s (state_of c.follow_calm.new.state) c.in_ok-followed.ensures in
     IfOk-weaker c.keep-in_default.result _ _ (λ b h e.
-    seen_covered p (is_any c.args.outside) (states_in c.keep-in_default.new.self.states.items) s (sym c.is_any.ensures ∙ c.if-is_any.false)
-    (ahead (states_in c.keep-in_default.new.self.states.items) 0 (h e)))
+    seen_covered p (is_any c.args.outside) (states_of c.keep-in_default.new.self) s (sym c.is_any.ensures ∙ c.if-is_any.false)
+    (ahead (states_of c.keep-in_default.new.self) 0 (h e)))
     c.keep-in_default.ensures.kept
 
 pub returns-clause-kept : goal.returns-clause-kept
@@ -26,7 +26,7 @@ returns-clause-kept c =
     let p = program_of c.args.checked.now.tree in
     let s = state_of c.args.state in
     let after = state_of c.follow_calm.new.state in
-    let kept = states_in c.cover_each.new.self.states.items in
+    let kept = states_of c.cover_each.new.self in
     let is : IsAhead p s after × ((t : ℕ) × IsFollowable p after t (map action_of c.in-Choices.actions.items)) =
     rw c.in-Choices.is at c.in_ok-followed.ensures in
     IfOk-weaker c.cover_each.result _ _ (λ b h e.

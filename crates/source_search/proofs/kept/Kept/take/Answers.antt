@@ -6,7 +6,7 @@ use Rattle.proof_exploration.specs.Exploring.{IsLike}
 use Rattle.source_states.specs.Actions.{action_of}
 use Rattle.source_states.specs.States.{state_of}
 use Rattle.source_search.specs.Found.{is_any}
-use Rattle.source_search.specs.Kept.{states_in}
+use Rattle.source_search.specs.Kept.{states_of}
 use Rattle.source_search.proofs.Keeping.{seen_like}
 use Rattle.source_search.proofs.kept.Kept.take.Goals as goal
 
@@ -23,9 +23,10 @@ returns-in-Some c =
     (action_of c.args.action.now) s → IsLike (state_of c.in-Some.next) s =
     rw c.in-Some.is at c.in_ok-found.ensures in
     record {
+      sound = c.cover.ensures.sound;
       longer = c.cover.ensures.longer;
       kept = IfOk-weaker c.cover.result _ _ (λ b h e s' x.
-          seen_like (program_of c.args.checked.now.tree) (is_any c.args.outside) (states_in c.cover.new.self.states.items)
+          seen_like (program_of c.args.checked.now.tree) (is_any c.args.outside) (states_of c.cover.new.self)
           (state_of c.in-Some.next) s' (h e) (next s' x))
           c.cover.ensures.kept;
     }

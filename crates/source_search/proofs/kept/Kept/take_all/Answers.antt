@@ -3,16 +3,17 @@ use Rattle.std.proofs.lemmas.List.{take_all}
 use Rattle.program.specs.Views.{program_of}
 use Rattle.source_states.specs.Actions.{action_of}
 use Rattle.source_states.specs.States.{state_of}
-use Rattle.source_search.specs.Kept.{LeadsToKept, states_in}
+use Rattle.source_search.specs.Kept.{LeadsToKept, states_of}
 use Rattle.source_search.proofs.Keeping.{leads_more, longer_twice}
 use Rattle.source_search.proofs.kept.Kept.take_all.Goals as goal
 
 pub loop-choice-preserved : goal.loop-choice-preserved
 loop-choice-preserved c =
-    let kept = states_in c.loop-choice.self.states.items in
-    let kept' = states_in c.take.new.self.states.items in
+    let kept = states_of c.loop-choice.self in
+    let kept' = states_of c.take.new.self in
     record {
-      longer = longer_twice (states_in c.args.self.now.states.items) kept kept' c.loop-choice.invariant.longer
+      sound = c.in_ok-take.ensures.sound;
+      longer = longer_twice (states_of c.args.self.now) kept kept' c.loop-choice.invariant.longer
           c.in_ok-take.ensures.longer;
       all = leads_more kept kept' c.in_ok-take.ensures.longer (program_of c.args.checked.now.tree)
           c.args.outside (state_of c.args.state.now) c.args.actions.now c.loop-choice.choice c.index-actions-choice.result
@@ -22,7 +23,7 @@ loop-choice-preserved c =
 
 pub returns-clause-kept : goal.returns-clause-kept
 returns-clause-kept c = λ e.
-    subst (All (LeadsToKept (program_of c.args.checked.now.tree) c.args.outside (states_in c.loop-choice.self.states.items)
+    subst (All (LeadsToKept (program_of c.args.checked.now.tree) c.args.outside (states_of c.loop-choice.self)
     (state_of c.args.state.now)))
     (ap (map action_of) (take_all c.loop-choice.choice c.args.actions.now c.loop-choice-test.false))
     c.loop-choice.invariant.all
