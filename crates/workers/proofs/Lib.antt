@@ -1,2 +1,5 @@
 pub mod Coming
+pub mod Freeing
+pub mod Moving
 pub mod Turning
+pub mod Waiting

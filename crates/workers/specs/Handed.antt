@@ -1,7 +1,8 @@
 -- What comes of the turns that a worker hands in.
-use Rattle.std.specs.Prelude.{ℕ, ◌≡◌, ◌⊎◌, ◌+◌, true, List, [], ◌∷◌, take, slice_get, Option, Some, None, is_some}
+use Rattle.std.specs.Prelude.{ℕ, ◌≡◌, ◌⊎◌, ◌+◌, Bool, true, false, List, [], ◌∷◌, take, slice_get, Option, Some, None, is_some}
 use Rattle.std.specs.Prelude.{MatchOption}
 use Rattle.isa.specs.Programs.{Program}
+use Rattle.machine.specs.ConcreteSteps.{can_move}
 use Rattle.runner.specs.declared.fault.RunFault.{RunFault}
 use Rattle.runner.specs.declared.fault.RunFault.TheVariants.{Stray, CannotMove, Limit}
 use Rattle.runner.specs.declared.next.After.{After}
@@ -9,7 +10,15 @@ use Rattle.runner.specs.declared.next.After.TheVariants.{Goes, Sleeps, Ends}
 use Rattle.runner.specs.Afters.{IsAfter}
 use Rattle.runner.specs.Entries.{Takes, RefusesEntry}
 use Rattle.runner.specs.Views.{PieceView, LogState, ShareView, log_state}
+use Rattle.workers.specs.declared.bucket_waiters.BucketWaiters.{BucketWaiters}
+use Rattle.workers.specs.BucketWaiters.{nobody, with_waiter, joined}
 use Rattle.workers.specs.SharedRuns.{SharedRunView}
+use Rattle.workers.specs.WakeReasons.{gives_up, last_event}
+
+-- who waits for a bucket behind an entry: nobody where it gave one up, and then all who waited are to be called
+abbrev pub Frees : Bool → SharedRunView → SharedRunView → Type 0
+Frees true old new = (new.waiting ≡ nobody) × (new.freed ≡ joined old.freed old.waiting)
+Frees false old new = (new.waiting ≡ old.waiting) × (new.freed ≡ old.freed)
 
 -- the piece came in as an entry, which the share counts
 pub record ComesIn (p : Program) (limit : ℕ) (old : SharedRunView) (t : ℕ) (piece : PieceView) (new : SharedRunView)
@@ -18,6 +27,7 @@ pub record ComesIn (p : Program) (limit : ℕ) (old : SharedRunView) (t : ℕ) (
   pub takes : Takes p limit (log_state old.shared) t piece (log_state new.shared)
   pub fault : new.fault ≡ None
   pub counted : share' ≡ record share { count = share.count + 1 }
+  pub frees : Frees (gives_up (last_event new.shared.log)) old new
 
 -- why the run ends before its time is as it was, or that this piece was refused
 abbrev pub IsFaultAfter : Program → ℕ → LogState → ℕ → PieceView → Option RunFault → Option RunFault → Type 0
@@ -32,12 +42,27 @@ IsAway p limit h t piece fault Sleeps =
     (fault ≡ None) × (RefusesEntry p limit h t piece Stray ⊎ RefusesEntry p limit h t piece CannotMove)
 IsAway p limit h t piece fault Ends = (is_some fault ≡ true) ⊎ RefusesEntry p limit h t piece Limit
 
+-- a worker waits for a bucket whose piece isn't let in though its thread can move
+abbrev pub noted : Bool → BucketWaiters → ℕ → BucketWaiters
+noted true waiters t = with_waiter waiters t
+noted false waiters t = waiters
+
+-- who waits for a bucket where a piece doesn't come in
+abbrev pub IsNoted : Program → ℕ → LogState → ℕ → PieceView → After → BucketWaiters → BucketWaiters → Type 0
+IsNoted p limit h t piece Goes old new = ⊥
+IsNoted p limit h t piece Sleeps old new =
+    (RefusesEntry p limit h t piece Stray × (new ≡ old))
+    ⊎ (RefusesEntry p limit h t piece CannotMove × (new ≡ noted (can_move h.concrete.concrete t) old t))
+IsNoted p limit h t piece Ends old new = new ≡ old
+
 -- the piece doesn't come in, and the run is as it was
 pub record StaysAway (p : Program) (limit : ℕ) (old : SharedRunView) (t : ℕ) (piece : PieceView) (new : SharedRunView)
     (after : After) : Type 0 where
   pub run : log_state new.shared ≡ log_state old.shared
   pub fault : IsFaultAfter p limit (log_state old.shared) t piece old.fault new.fault
   pub away : IsAway p limit (log_state old.shared) t piece new.fault after
+  pub waits : IsNoted p limit (log_state old.shared) t piece after old.waiting new.waiting
+  pub freed : new.freed ≡ old.freed
 
 -- the pieces came in, one after the other
 abbrev pub ComeIn : Program → ℕ → SharedRunView → ℕ → List PieceView → SharedRunView → ShareView → ShareView → Type 0

@@ -1,4 +1,5 @@
 pub mod SharedRuns
 pub mod Handed
 pub mod WakeReasons
+pub mod BucketWaiters
 pub mod Taken

@@ -1,23 +1,33 @@
 -- What lies under the lock of a run with several workers.
-use Rattle.std.specs.Prelude.{ℕ, ◌≡◌, ◌≤◌, ◌+◌, length, Option, Some, None}
+use Rattle.std.specs.Prelude.{ℕ, ◌≡◌, ◌≤◌, ◌+◌, ◌&&◌, length, Bool, not, Option, Some, None}
 use Rattle.words.specs.Limits.{most_threads}
 use Rattle.isa.specs.Programs.{Program}
 use Rattle.machine.specs.States.{ConcreteState}
+use Rattle.machine.specs.ConcreteSteps.{can_move}
 use Rattle.runner.specs.declared.fault.RunFault.{RunFault}
 use Rattle.runner.specs.Views.{SharedView, ShareView, log_state}
 use Rattle.runner.specs.Logs.{Outside}
 use Rattle.runner.specs.Reports.{CanFail}
+use Rattle.workers.specs.declared.bucket_waiters.BucketWaiters.{BucketWaiters}
+use Rattle.workers.specs.BucketWaiters.{waits}
 
--- the run, why it ends before its time, how many workers were started, and what the calling thread counted
+-- the run, why it ends before its time, how many workers were started, what the calling thread counted, whose workers
+-- wait for a bucket, and whose waited for one and weren't called since it was given up
 pub record SharedRunView : Type 0 where
   pub shared : SharedView
   pub fault : Option RunFault
   pub started : ℕ
   pub kept : ShareView
+  pub waiting : BucketWaiters
+  pub freed : BucketWaiters
 
 -- where the log leads, but for the phases of the threads
 abbrev pub state_of : SharedRunView → ConcreteState
 state_of d = (log_state d.shared).concrete.concrete
+
+-- whether thread t can move, and its worker doesn't wait for a bucket
+abbrev pub is_able : SharedRunView → ℕ → Bool
+is_able d t = can_move (state_of d) t && not (waits d.waiting t)
 
 -- a fault has its cause
 abbrev pub HasCause : Program → Outside → ℕ → Option RunFault → Type 0

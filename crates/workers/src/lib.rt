@@ -2,6 +2,7 @@
 //! lock.
 #![tactic(auto)]
 
+mod bucket_waiters;
 mod image_ref;
 mod lookout;
 mod parker;

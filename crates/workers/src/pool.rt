@@ -4,6 +4,7 @@ ghost use Rattle.machine.specs.ConcreteSteps.{can_move};
 ghost use Rattle.workers.specs.SharedRuns.{state_of};
 ghost use Rattle.workers.specs.Handed.{IsAfresh};
 
+use crate::bucket_waiters::BucketWaiters;
 use crate::image_ref::ImageRef;
 use crate::lookout::Lookout;
 use crate::parker::Parker;
@@ -156,7 +157,8 @@ impl<J: RunName> Pool<J> {
         false
     }
 
-    // Parks until thread `t` can move, or nobody is left to wake it. Then it goes on from the first of its turns.
+    // Parks until thread `t` can move and its worker waits for no bucket, or nobody is left to call it. Then it goes on
+    // from the first of its turns.
     fn wake<R: Wait>(&self, rt: &R, t: u32, turns: &mut Turns<J>) -> After
         ensures { IsAfresh t turns.new.pieces.items result }
     {
@@ -165,8 +167,12 @@ impl<J: RunName> Pool<J> {
         };
         for _ in rt.forever() {
             let shared_run = self.lock(rt);
-            if shared_run.can_move(t) || self.is_over(&shared_run) {
+            if shared_run.is_able(t) {
                 return shared_run.next(t, &mut turns.pieces[0]);
+            }
+            // Also where the thread can move, and waits for a bucket that nobody is left to give up.
+            if self.is_over(&shared_run) {
+                return After::Ends;
             }
             drop(shared_run);
             parker.park(rt);
@@ -194,11 +200,16 @@ impl<J: RunName> Pool<J> {
         let mut shared_run = self.lock(rt);
         let calls = parker.calls();
         let after = shared_run.hand_in(t, turns, share, parker, gate);
+        // Nobody is forgotten. Of the entries that were made now only the last one may have woken threads or made one: a
+        // piece behind another begins where that one has come, and the thread is elsewhere behind a step that does so,
+        // which refuses the piece. Further entries are of the only thread there is. Who waited for buckets was noted at
+        // each entry.
         let wake_reason = shared_run.wake_reason();
+        let freed = shared_run.take_freed();
         let is_over = after != After::Goes && self.is_over(&shared_run);
         drop(shared_run);
         self.precedence.pass_on(t, few && after == After::Goes);
-        self.tell(wake_reason);
+        self.tell(wake_reason, freed);
         if is_over {
             self.call_all();
         }
@@ -251,23 +262,24 @@ impl<J: RunName> Pool<J> {
             return true;
         }
         for t in 1..=shared_run.threads() {
-            if shared_run.can_move(t) && !self.is_refused(t) {
+            if shared_run.is_able(t) && !self.is_refused(t) {
                 return false;
             }
         }
         true
     }
 
-    // Calls the workers of the threads that an entry woke, and the calling thread where one was made.
-    fn tell(&self, wake_reason: WakeReason) {
+    // Calls the workers of the threads that an entry woke and those who waited for a bucket, and the calling thread where
+    // one was made.
+    fn tell(&self, wake_reason: WakeReason, freed: BucketWaiters) {
         if wake_reason.forked {
             self.made.notify_all();
         }
-        if wake_reason.woken.is_empty() {
+        if wake_reason.woken.is_empty() && freed.is_empty() {
             return;
         }
         for t in 1..=MOST_THREADS {
-            if wake_reason.woken.contains(t) {
+            if wake_reason.woken.contains(t) || freed.contains(t) {
                 self.call(t);
             }
         }

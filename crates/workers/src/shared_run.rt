@@ -2,11 +2,15 @@ ghost use Rattle.std.specs.Prelude.{◌≡◌, ◌≤◌, ◌<◌, ◌+◌, leng
 ghost use Rattle.std.specs.Prelude.{◌⊎◌, MatchBool, unwrap_or};
 ghost use Rattle.words.specs.Limits.{most_threads};
 ghost use Rattle.machine.specs.ConcreteSteps.{can_move};
+ghost use Rattle.machine.specs.ThreadSets.{IsThread};
 ghost use Rattle.runner.specs.declared.fault.RunFault.TheVariants.{Memory};
-ghost use Rattle.workers.specs.SharedRuns.{HasCause, KeepsWorkers, StartsWorker, state_of};
+ghost use Rattle.workers.specs.SharedRuns.{HasCause, KeepsWorkers, StartsWorker, is_able, state_of};
+ghost use Rattle.workers.specs.BucketWaiters.{nobody};
 ghost use Rattle.workers.specs.Handed.{ComesIn, StaysAway, ComeIn, StopsAt, IsNextOf, IsNextOfFirst};
-ghost use Rattle.workers.specs.WakeReasons.{Concerns, last_event};
+ghost use Rattle.workers.specs.Handed.{Frees, noted};
+ghost use Rattle.workers.specs.WakeReasons.{Concerns, gives_up, last_event};
 
+use crate::bucket_waiters::BucketWaiters;
 use crate::parker::Parker;
 use crate::turns::Turns;
 use machine::{Entry, EventName, ThreadSet};
@@ -21,6 +25,10 @@ pub struct SharedRun<J: RunName> {
     fault: Option<RunFault>,
     started: u32,
     kept: Share<J>,
+    // Whose entry was refused though their threads can move, since a bucket is held.
+    waiting: BucketWaiters,
+    // Who waited until buckets were given up, and wasn't called yet.
+    freed: BucketWaiters,
 }
 
 impl<J: RunName> Model for SharedRun<J> {
@@ -33,6 +41,8 @@ impl<J: RunName> Model for SharedRun<J> {
       fault = d.fault;
       started = d.started;
       kept = d.kept;
+      waiting = d.waiting;
+      freed = d.freed;
     } };
 
     ghost invariant = { λ d. IsSharedRun J.program J.outside J.limit d.shared.given d.started d.fault };
@@ -45,27 +55,46 @@ pub struct WakeReason {
     pub woken: ThreadSet,
     /// Whether it may have made a thread.
     pub forked: bool,
+    /// Whether it gave buckets up.
+    pub released: bool,
 }
 
 impl<J: RunName> SharedRun<J> {
     /// A run, with the calling thread's part of its count, before any worker was started.
     pub fn new(shared: Shared<J>, kept: Share<J>) -> SharedRun<J>
         requires { shared.given ≡ 1 }
-        ensures { result ≡ record { shared = shared; fault = None; started = 0; kept = kept } }
+        ensures { result ≡ record {
+          shared = shared;
+          fault = None;
+          started = 0;
+          kept = kept;
+          waiting = nobody;
+          freed = nobody;
+        } }
     {
         SharedRun {
             shared,
             fault: None,
             started: 0,
             kept,
+            waiting: BucketWaiters::new(),
+            freed: BucketWaiters::new(),
         }
     }
 
     /// Whether thread `t` can make an entry: it was made, is awake and has not ended.
     pub fn can_move(&self, t: u32) -> bool
-        ensures { result ≡ can_move (state_of self.now) t }
+        ensures value { result ≡ can_move (state_of self.now) t }
+        ensures thread { result ≡ true → IsThread t }
     {
-        self.shared.machine().can_move(t)
+        t <= self.threads() && self.shared.machine().can_move(t)
+    }
+
+    /// Whether thread `t` can move, and its worker doesn't wait for a bucket.
+    pub fn is_able(&self, t: u32) -> bool
+        ensures { result ≡ is_able self.now t }
+    {
+        self.can_move(t) && !self.waiting.contains(t)
     }
 
     /// How many threads were made.
@@ -204,9 +233,16 @@ impl<J: RunName> SharedRun<J> {
             return Some(After::Ends);
         }
         match self.shared.enter(t, piece, share) {
-            Ok(()) => None,
+            Ok(()) => {
+                self.free();
+                None
+            }
             // The thread has gone on without this worker, which goes on from where the thread is.
-            Err(RunFault::Stray | RunFault::CannotMove) => Some(After::Sleeps),
+            Err(RunFault::Stray) => Some(After::Sleeps),
+            Err(RunFault::CannotMove) => {
+                self.note(t);
+                Some(After::Sleeps)
+            }
             Err(RunFault::Limit) => {
                 parker.refuse();
                 Some(After::Ends)
@@ -222,6 +258,38 @@ impl<J: RunName> SharedRun<J> {
         }
     }
 
+    // Notes that the worker of thread `t`, whose entry was refused, waits for a bucket, where its thread can move.
+    fn note(&mut self, t: u32)
+        ensures { self.new ≡ record self.old {
+          waiting = noted (can_move (state_of self.old) t) self.old.waiting t;
+        } }
+    {
+        if self.can_move(t) {
+            self.waiting.add(t);
+        }
+    }
+
+    // Where the last entry gave a bucket up nobody waits for one any more. It may be another's bucket: then whoever waited
+    // is refused again.
+    fn free(&mut self)
+        ensures frees { Frees (gives_up (last_event self.old.shared.log)) self.old self.new }
+        ensures same { self.new ≡ record self.old { waiting = self.new.waiting; freed = self.new.freed } }
+    {
+        if !self.waiting.is_empty() && self.wake_reason().released {
+            self.freed.join(self.waiting);
+            self.waiting = BucketWaiters::new();
+        }
+    }
+
+    /// Who waited for a bucket until one was given up, since this was asked last. They are to be called.
+    pub fn take_freed(&mut self) -> BucketWaiters
+        ensures { (result ≡ self.old.freed) × (self.new ≡ record self.old { freed = nobody }) }
+    {
+        let freed = self.freed;
+        self.freed = BucketWaiters::new();
+        freed
+    }
+
     /// Whom the last entry concerns.
     pub fn wake_reason(&self) -> WakeReason
         ensures { Concerns (last_event self.now.shared.log) result }
@@ -235,10 +303,15 @@ impl<J: RunName> SharedRun<J> {
             ) => WakeReason {
                 woken: event.woken,
                 forked: event.name == EventName::Fork,
+                released: matches!(
+                    event.name,
+                    EventName::Wait | EventName::Wake | EventName::Requeue | EventName::Kill
+                ),
             },
             _ => WakeReason {
                 woken: ThreadSet::new(),
                 forked: false,
+                released: false,
             },
         }
     }
