@@ -37,7 +37,7 @@ use Rattle.meaning.specs.Labels.{Kind, Stray}
 use Rattle.meaning.specs.Runs.{IsStep as IsSourceStep}
 use Rattle.proof_commutation.specs.Deferring.{IsBehind}
 use Rattle.proof_explaining.specs.Events.{progress_told, whole_of}
-use Rattle.proof_explaining.proofs.Told.{opens, one_step, one_due, tied, step_by, killed_whole, strayed_whole}
+use Rattle.proof_explaining.proofs.Told.{opens, one_step, one_due, tied, killed_whole, strayed_whole}
 use Rattle.proof_explaining.proofs.Told.{one_stray as stray_step, one_kill as kill_step}
 use Rattle.proof_simulation.specs.Explaining.{IsDue}
 use Rattle.proof_simulation.specs.Kills.{killed_last}
@@ -55,6 +55,9 @@ use Rattle.log_simulation.specs.Entries.{progress_shared, progress_end, progress
 use Rattle.log_simulation.specs.Entries.{progress_strayed}
 use Rattle.log_simulation.specs.Entries.{entry_steps, progress_entry, ComesTo}
 use Rattle.log_simulation.specs.Going.{IsKillDue, IsStrayDue}
+
+abbrev step_by : ℕ → Event → EventStep
+step_by t event = record { thread = t; event = event }
 
 module _ (p : Program) where
   -- the local steps of an entry

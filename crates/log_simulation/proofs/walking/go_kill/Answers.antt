@@ -1,13 +1,15 @@
 -- The kill is one that is due, or of a thread that is dying.
 use Rattle.std.proofs.Common.{◌≡◌, ◌+◌, ◌∙◌, ℕ, Ok, Option, ap, length, subst, sym}
 use Rattle.std.proofs.lemmas.Bool.{eq-eqb, ne_eqb}
-use Rattle.std.specs.Prelude.{true, false}
+use Rattle.std.specs.Prelude.{◌<◌, ◌^◌, true, false}
 use Rattle.isa.specs.Programs.{Program as Image}
 use Rattle.machine.specs.States.{State, state_of as machine_state}
+use Rattle.machine.specs.Views.{View, concrete}
 use Rattle.piece_machine.specs.PieceConcrete.{kill_piece}
 use Rattle.piece_machine.specs.PieceViews.{parts, pieces}
 use Rattle.proof_explaining.specs.Events.{whole_of}
 use Rattle.proof_pieces.specs.Whole.{whole}
+use Rattle.proof_simulation.specs.Kills.{killed_last}
 use Rattle.proof_simulation.specs.Progress.{progress_kill}
 use Rattle.log_simulation.specs.Going.{IsKillDue, progress_left}
 use Rattle.log_simulation.specs.Recording.{RecordsUnlessLong}
@@ -32,7 +34,8 @@ returns-in_ok-take_kill-clause-told c = λ _ p own w events along.
     let made = made_killed p events k new g t event along.comes gives in
     let less = within_most p events k g t made.0 along.comes made.1 in
     let last = c.killed_last-last.ensures p along.of_program (some_thread k t made.0 made.1) less
-    (few_words p events k g w along.comes) in
+    (subst (λ (v : View). length v.words < 2 ^ 32) (sym c.machine.ensures.shows) (few_words p events k g w along.comes))
+    ∙ ap (λ (v : View). killed_last p (machine_state (concrete v)).word t) c.machine.ensures.shows in
     let same : shown c.take_kill.new.machine ≡ s =
     ap (λ (i : Image). whole i (pieces c.take_kill.new.machine)) (c.take_kill.ensures.program ∙ own) in
     let told = c.in_ok-take_kill.ensures p (length events) g along.of_program less along.told

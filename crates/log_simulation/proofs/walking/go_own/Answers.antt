@@ -4,6 +4,7 @@ use Rattle.lowering.specs.Pieces.{code_of}
 use Rattle.isa.specs.Programs.{Program as Image}
 use Rattle.locals.specs.Steps.{local_after}
 use Rattle.machine.specs.States.{State, state_of as machine_state, thread_of}
+use Rattle.machine.specs.Views.{View, concrete}
 use Rattle.piece_machine.specs.PieceConcrete.{PieceConcrete, with_local}
 use Rattle.piece_machine.specs.PieceViews.{parts, pieces}
 use Rattle.proof_explaining.specs.Events.{whole_of}
@@ -152,9 +153,12 @@ returns-clause-told c = λ _ p own w events along.
     along.told in
     let is = c.next_step-step.ensures ∙ ap (λ (i : Image). next_step_of (look i t here)) own in
     let less = within_most p events k g t o along.comes stood in
-    let few = subst (λ n. n < 2 ^ 32) (sym (ap (λ (m : PieceConcrete). length m.concrete.common.words) there))
+    let few = subst (λ n. n < 2 ^ 32) (sym (ap (λ (v : View). length v.words) c.machine.ensures.shows
+    ∙ ap (λ (m : PieceConcrete). length m.concrete.common.words) there))
     (few_words p events k g w along.comes) in
-    let shown = c.is_visible-visible.ensures p here own told.0 (some_thread k t o stood) less few is
+    let is_shown = c.is_visible-visible.ensures p here own told.0 (some_thread k t o stood) less few is
+    ∙ ap (λ (v : View). is_visible p (machine_state (concrete v)).word t (look (code_of p) t here) event.value)
+    c.machine.ensures.shows
     ∙ ap (λ (m : PieceConcrete). is_visible p (machine_state m.concrete).word t (look (code_of p) t here) event.value) there in
     let heard = sym c.is_piece.ensures ∙ c.if-is_piece.false in
     let same : shown c.take_shared.new.machine ≡ whole_of p new =
@@ -162,7 +166,7 @@ returns-clause-told c = λ _ p own w events along.
     ∙ ap (λ m. m.view.program) c.copy_local.ensures ∙ c.in_ok-make_room.ensures.same.0 ∙ c.requires.program ∙ own) in
     let local = progress_locally p t c.args.entry.now.local o g in
     let visible = c.in_ok-take_shared_step.ensures p (length events + c.args.entry.now.local) (machine_state k.concrete).word
-    local is shown told.0 less told.1
+    local is is_shown told.0 less told.1
     (λ is short. subst (λ (z : State). IsDue p z t local) (sym same)
     (due_at p events k new c.args.entry.now o here enters stood goes g along.comes w
     event c.in-Some.is heard is short)) in
