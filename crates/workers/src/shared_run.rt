@@ -275,7 +275,10 @@ impl<J: RunName> SharedRun<J> {
         ensures frees { Frees (gives_up (last_event self.old.shared.log)) self.old self.new }
         ensures same { self.new ≡ record self.old { waiting = self.new.waiting; freed = self.new.freed } }
     {
-        if !self.waiting.is_empty() && self.wake_reason().released {
+        if self.waiting.is_empty() {
+            return;
+        }
+        if self.wake_reason().released {
             self.freed.join(self.waiting);
             self.waiting = BucketWaiters::new();
         }
