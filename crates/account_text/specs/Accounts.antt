@@ -56,4 +56,4 @@ threads_lines k stuck (suc t) = threads_lines k stuck t ++ thread_lines k stuck 
 abbrev pub account : Report → Bool → List ℕ
 account r trace =
     (if trace then log_lines r.log.items else []) ++ verdict_line r.verdict
-    ++ threads_lines (concrete r.last) (is_stuck r.verdict) (length (concrete r.last).threads)
+    ++ threads_lines (concrete r.last.view) (is_stuck r.verdict) (length (concrete r.last.view).threads)

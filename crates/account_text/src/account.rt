@@ -35,7 +35,11 @@ pub fn append_account(text: &mut String, report: &Report, trace: bool) -> Result
         Verdict::Stuck => writeln!(text, "stuck")?,
         Verdict::Limit => writeln!(text, "limit")?,
     }
-    append_threads(text, &report.last, report.verdict == Verdict::Stuck)
+    append_threads(
+        text,
+        report.last.machine(),
+        report.verdict == Verdict::Stuck,
+    )
 }
 
 // The threads that have aborted, and, where nothing can move, those that sleep, by rising number.

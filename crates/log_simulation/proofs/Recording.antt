@@ -17,9 +17,10 @@ use Rattle.lowering.specs.Pieces.{code_of, marks_of}
 use Rattle.proof_commutation.specs.Deferring.{IsBehind}
 use Rattle.proof_commutation.specs.Placed.{actions_of, actions_up_to}
 use Rattle.proof_thread.specs.Deferrals.{deferred_by_mark, deferred_by_step, mark_of}
-use Rattle.machine.specs.FrontRuns.{EventStep, label_of, event_label}
-use Rattle.machine.specs.Runs.{Step}
-use Rattle.machine.specs.States.{State, ConcreteState, state_of as machine_state}
+use Rattle.machine.specs.FrontRuns.{EventStep}
+use Rattle.machine.specs.States.{State}
+use Rattle.piece_machine.specs.PieceConcrete.{PieceConcrete, pieces_at}
+use Rattle.words.specs.Limits.{run_buckets}
 use Rattle.meaning.specs.Labels.{Kind, Action}
 use Rattle.meaning.specs.States.{SourceState}
 use Rattle.program.specs.Names.{said_by}
@@ -27,12 +28,12 @@ use Rattle.program.specs.Trees.{Program}
 use Rattle.program.specs.declared.kinds.Member.{Member}
 use Rattle.program.specs.WellFormed.{WellFormed}
 use Rattle.words.proofs.Updates.{at_put, put_same, put_other}
-use Rattle.proof_simulation.specs.Explaining.{explanation, IsDue, IsReached}
+use Rattle.proof_explaining.proofs.Told.{tied, explained}
+use Rattle.proof_simulation.specs.Explaining.{IsDue}
 use Rattle.proof_simulation.specs.Kills.{killed_last}
 use Rattle.proof_simulation.specs.Ordering.{raises_number}
 use Rattle.proof_simulation.specs.Progress.{Progress, progress_next, progress_caught_up, progress_step, progress_stray}
 use Rattle.proof_simulation.specs.Deferred.{deferred_then}
-use Rattle.proof_simulation.proofs.Explaining.{explained_so, reached}
 use Rattle.proof_simulation.proofs.Nexts.{caught_up_behind}
 use Rattle.proof_simulation.proofs.Worlds.{put_put}
 use Rattle.source_states.specs.Actions.{action_of}
@@ -312,37 +313,29 @@ module _ (p : Program) where
       (λ h. catches_up g ahead matches h (sym many)) behind in
       (caught_up.0, caught_up.1, (caught_up_behind p t g.deferred g.source ahead (g.deferred t) behind refl).1)
 
-  pub as_many : (run : List Step) (events : List EventStep)
-      → map label_of run ≡ map event_label events → length run ≡ length events
-  as_many run events same = sym (length-map run label_of) ∙ ap length same ∙ length-map events event_label
-
   -- the whole
-  pub finishes : (w : WellFormed p) (events : List EventStep) (k : ConcreteState) (r : Recorder) (f : Follower)
+  pub finishes : (w : WellFormed p) (events : List EventStep) (k : PieceConcrete) (r : Recorder) (f : Follower)
       (actions : List Action) → (along : IsAlong p events k r) → r.is_whole ≡ true
       → ((g : Progress) (ahead : SourceState) → Matches r.follower g → CountsDeferred r.deferred.items g.deferred
-      → IsBehind p g.deferred g.source ahead → Matches f (progress_rest p (length k.threads) g))
+      → IsBehind p g.deferred g.source ahead → Matches f (progress_rest p (length k.concrete.threads) g))
       → actions ≡ map action_of f.actions.items → IsExplanationOf p events k actions
   finishes w events k r f actions along whole rest is =
       let h = when_true _ _ r.is_whole along.told whole in
       let c = along.comes in
-      let few = h.few in
-      let many = as_many c.steps events c.labels in
-      let short : length c.steps < 2 ^ 32 = omega (arith, few, many) in
-      let i = subst (λ (x : Progress). IsReached p w (length c.steps) (machine_state k) x) c.comes
-      (reached p w c.steps (machine_state k) c.run short) in
+      let i = tied p run_buckets events k along.source c w h.few in
       let g = along.source in
       let behind = subst (λ (x : ℕ → List Kind). IsBehind p x g.source i.tracks.ahead) i.deferred i.tracks.behind in
-      let e = explained_so p w c.steps (machine_state k) c.run short in
-      let same : actions ≡ explanation p c.steps (machine_state k) c.run =
-      is ∙ (rest g i.tracks.ahead h.matches h.deferred behind).actions ∙ rest_actions (length k.threads) g
-      ∙ ap (λ (x : Progress). x.actions ++ actions_up_to (length k.threads) x.deferred) (sym c.comes) in
+      let e = explained p run_buckets events k g c w h.few in
+      let told : actions ≡ g.actions ++ actions_up_to (length k.concrete.threads) g.deferred =
+      is ∙ (rest g i.tracks.ahead h.matches h.deferred behind).actions ∙ rest_actions (length k.concrete.threads) g in
       record {
         steps = c.steps;
         run = c.run;
         labels = c.labels;
-        explains = same;
+        explains = told
+            ∙ ap (λ (x : Progress). x.actions ++ actions_up_to (length k.concrete.threads) x.deferred) (sym c.comes);
         explained = e.0;
-        same = e.1 ∙ sym same;
+        same = e.1 ∙ sym told;
       }
 
 -- one local step more

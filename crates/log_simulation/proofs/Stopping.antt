@@ -7,10 +7,10 @@ use Rattle.std.proofs.lemmas.List.{append-nil, append_assoc, map-id, take_at}
 use Rattle.std.proofs.lemmas.Map.Iter.{rest_so_far}
 use Rattle.isa.specs.Programs.{Program as Image}
 use Rattle.machine.specs.FrontRuns.{EventStep}
-use Rattle.machine.specs.States.{ConcreteState, opening_concrete}
+use Rattle.piece_machine.specs.PieceConcrete.{PieceConcrete}
 use Rattle.machine.specs.declared.event.Entry.{Entry}
 use Rattle.runner.specs.LogRuns.{steps_of}
-use Rattle.runner.specs.Logs.{Enters, cost}
+use Rattle.runner.specs.Logs.{Enters, cost, opening}
 use Rattle.runner.proofs.Going.{runs_more}
 use Rattle.runner.proofs.Once.{runs_once, runs_split}
 use Rattle.lowering.specs.Pieces.{code_of}
@@ -51,29 +51,29 @@ module _ (done : List Entry) (next : Entry) where
   pub steps_next : steps_of (done ++ next ∷ []) ≡ steps_of done ++ entry_steps next
   steps_next = steps_after done (next ∷ []) ∙ ap (λ es. steps_of done ++ es) (nothing_after (entry_steps next))
 
-  module _ (image : Image) (k : ConcreteState) (legal : LeadsTo image done k) where
+  module _ (image : Image) (k : PieceConcrete) (legal : LeadsTo image done k) where
     -- where the entry is taken
-    pub leads_next : (new : ConcreteState) → Enters image k next new → LeadsTo image (done ++ next ∷ []) new
-    leads_next new enters = runs_more image (opening_concrete image) k new done next legal enters
+    pub leads_next : (new : PieceConcrete) → Enters image k next new → LeadsTo image (done ++ next ∷ []) new
+    leads_next new enters = runs_more image (opening image) k new done next legal enters
 
     -- and where it can't be
-    pub leads_nowhere : ((new : ConcreteState) → Enters image k next new → ⊥)
-        → (end : ConcreteState) → LeadsTo image (done ++ next ∷ []) end → ⊥
+    pub leads_nowhere : ((new : PieceConcrete) → Enters image k next new → ⊥)
+        → (end : PieceConcrete) → LeadsTo image (done ++ next ∷ []) end → ⊥
     leads_nowhere never end leads =
-        let cut = runs_split image (opening_concrete image) end done (next ∷ []) leads in
-        let same : cut.0 ≡ k = runs_once image (opening_concrete image) cut.0 k done cut.1 legal in
-        never cut.2.0 (subst (λ (m : ConcreteState). Enters image m next cut.2.0) same cut.2.1)
+        let cut = runs_split image (opening image) end done (next ∷ []) leads in
+        let same : cut.0 ≡ k = runs_once image (opening image) cut.0 k done cut.1 legal in
+        never cut.2.0 (subst (λ (m : PieceConcrete). Enters image m next cut.2.0) same cut.2.1)
 
 -- a recorder of the whole of a log has fewer than 2^32 steps
-pub few_steps : (p : Program) (log : List Entry) (k : ConcreteState) (r : Recorder) → IsWhole p log k r
+pub few_steps : (p : Program) (log : List Entry) (k : PieceConcrete) (r : Recorder) → IsWhole p log k r
     → cost log < 2 ^ 32
 few_steps p log k r w =
     let few = (when_true _ _ r.is_whole w.along.told w.whole).few in
-    let many = cost_steps p log k (can_run p k w.along.comes.kept) w.legal in
+    let many = cost_steps p log k (can_run p k w.along.comes.fit.well) w.legal in
     omega (arith, few, many)
 
 -- where nothing was recorded, all of it was
-pub whole_first : (p : Program) (k : ConcreteState) (r : Recorder) → IsAlong p [] k r → r.is_whole ≡ true
+pub whole_first : (p : Program) (k : PieceConcrete) (r : Recorder) → IsAlong p [] k r → r.is_whole ≡ true
 whole_first p k r along = by_whole r.is_whole along.told
   where
     by_whole : (b : Bool) → MatchBool b (Records 0 along.source r) (2 ^ 32 ≤ 0) → b ≡ true
@@ -98,7 +98,7 @@ inside log done after next read =
     omega (arith, lengths, sum)
 
 module _ (p : Program) (log done after : List Entry) (next : Entry) (read : log ≡ done ++ next ∷ after) (number : ℕ)
-    (is : number ≡ length done + 1) (k : ConcreteState) (r : Recorder) (whole : IsWhole p done k r) where
+    (is : number ≡ length done + 1) (k : PieceConcrete) (r : Recorder) (whole : IsWhole p done k r) where
   stops_by : IsNoLog (code_of p) (done ++ next ∷ []) → StopsAt (code_of p) log number
   stops_by none = record {
     before = length done;
@@ -112,15 +112,15 @@ module _ (p : Program) (log done after : List Entry) (next : Entry) (read : log 
   }
 
   -- at an entry that can't be taken
-  pub stops_illegal : ((new : ConcreteState) → Enters (code_of p) k next new → ⊥) → StopsAt (code_of p) log number
+  pub stops_illegal : ((new : PieceConcrete) → Enters (code_of p) k next new → ⊥) → StopsAt (code_of p) log number
   stops_illegal never = stops_by
       (λ end leads. absurd (leads_nowhere done next (code_of p) k whole.legal never end leads))
 
   -- or with which there are too many steps
-  pub stops_long : (new : ConcreteState) → Enters (code_of p) k next new
+  pub stops_long : (new : PieceConcrete) → Enters (code_of p) k next new
       → 2 ^ 32 ≤ length (steps_of done ++ entry_steps next) → StopsAt (code_of p) log number
   stops_long new enters over = stops_by (λ end leads.
-      let many = cost_steps p (done ++ next ∷ []) new (can_run p k whole.along.comes.kept)
+      let many = cost_steps p (done ++ next ∷ []) new (can_run p k whole.along.comes.fit.well)
       (leads_next done next (code_of p) k whole.legal new enters) in
       let steps = ap length (steps_next done next) in
       omega (arith, over, many, steps))

@@ -1,25 +1,26 @@
 -- The source behind a log of the machine, entry by entry.
-use Rattle.std.specs.Prelude.{ℕ, zero, suc, ◌≡◌, ◌++◌, Bool, List, map, replicate, Option, Some, None}
+use Rattle.std.specs.Prelude.{ℕ, zero, suc, ◌≡◌, ◌++◌, Bool, List, replicate, Option, Some, None}
+use Rattle.words.specs.Limits.{run_buckets}
 use Rattle.words.specs.Updates.{put}
 use Rattle.locals.specs.Threads.{Thread}
 use Rattle.locals.specs.Steps.{local_after}
 use Rattle.locals.specs.Looks.{Look}
 use Rattle.machine.specs.declared.event.Entry.{Entry}
 use Rattle.machine.specs.declared.event.Event.{Event}
-use Rattle.machine.specs.FrontRuns.{EventStep, label_of, event_label}
-use Rattle.machine.specs.Runs.{Doing, Own, Strayed, Killed, Step, MachineRun}
-use Rattle.machine.specs.States.{State, ConcreteState, state_of}
-use Rattle.machine.specs.Views.{IsWellFormed}
+use Rattle.machine.specs.FrontRuns.{EventStep}
+use Rattle.machine.specs.Runs.{Doing, Own, Strayed, Killed}
+use Rattle.machine.specs.States.{State}
+use Rattle.piece_machine.specs.PieceConcrete.{PieceConcrete}
 use Rattle.runner.specs.LogRuns.{local_step_of, shared_step_of}
 use Rattle.program.specs.Trees.{Program}
 use Rattle.lowering.specs.declared.mark.Mark.{Mark}
 use Rattle.lowering.specs.Pieces.{code_of, marks_of}
 use Rattle.proof_thread.specs.Deferrals.{mark_of, deferred_by_mark}
 use Rattle.meaning.specs.Labels.{Kind}
-use Rattle.proof_explaining.specs.Events.{progress_told}
+use Rattle.proof_explaining.specs.Events.{ComesTo as CameTo, progress_told, whole_of}
 pub use Rattle.proof_explaining.specs.Events.{progress_strayed, progress_killed}
 use Rattle.proof_explaining.specs.PieceProgress.{progress_answered}
-use Rattle.proof_simulation.specs.Progress.{Progress, progress, visible_step}
+use Rattle.proof_simulation.specs.Progress.{Progress, visible_step}
 use Rattle.proof_simulation.specs.Deferred.{deferred_then}
 
 -- whether the shared step of thread t that looks so, with these words before it and this value in its event, is a
@@ -48,13 +49,13 @@ abbrev pub progress_shared : Program → (t : ℕ) → Thread → (word : ℕ �
 progress_shared p t here word v s g = progress_answered p word t here v s g
 
 -- behind the shared step of an entry, if it has one: such a piece is nothing
-abbrev pub progress_end : Program → (t : ℕ) → Thread → (word : ℕ → ℕ) → Option Event → ConcreteState → Progress
+abbrev pub progress_end : Program → (t : ℕ) → Thread → (word : ℕ → ℕ) → Option Event → PieceConcrete → Progress
     → Progress
 progress_end p t here word None k g = g
-progress_end p t here word (Some event) k g = progress_told p t here word event (state_of k) g
+progress_end p t here word (Some event) k g = progress_told p t here word event (whole_of p k) g
 
 -- behind an entry whose thread stood there first, and then here, with these words before it
-abbrev pub progress_entry : Program → Entry → (there here : Thread) → (word : ℕ → ℕ) → ConcreteState → Progress
+abbrev pub progress_entry : Program → Entry → (there here : Thread) → (word : ℕ → ℕ) → PieceConcrete → Progress
     → Progress
 progress_entry p e there here word k g =
     progress_end p e.thread here word e.event k (progress_locally p e.thread e.local there g)
@@ -71,9 +72,5 @@ entry_steps e = replicate e.local (local_step_of e.thread) ++ shared_step_of e.t
 
 -- a run of the machine, which has these steps, leads to what this concrete state stands for, and the source has come to
 -- this behind it
-pub record ComesTo (p : Program) (events : List EventStep) (k : ConcreteState) (g : Progress) : Type 0 where
-  pub kept : IsWellFormed (code_of p) k
-  pub steps : List Step
-  pub run : MachineRun (code_of p) steps (state_of k)
-  pub labels : map label_of steps ≡ map event_label events
-  pub comes : progress p steps (state_of k) run ≡ g
+abbrev pub ComesTo : Program → List EventStep → PieceConcrete → Progress → Type 0
+ComesTo p events k g = CameTo p run_buckets events k g

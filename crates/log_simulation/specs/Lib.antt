@@ -1,5 +1,6 @@
 pub mod Choosing
 pub mod Waiting
+pub mod Shown
 pub mod Requests
 pub mod Going
 pub mod Deferred

@@ -2,8 +2,8 @@
 use Rattle.std.specs.Prelude.{ℕ, zero, suc, ◌≡◌, ◌+◌, ◌<◌, ◌≤◌, ◌^◌, ◌++◌, [], ◌∷◌, true, List, length, MatchBool}
 use Rattle.words.specs.Limits.{most_threads}
 use Rattle.machine.specs.FrontRuns.{EventStep}
-use Rattle.machine.specs.States.{ConcreteState}
-use Rattle.machine.specs.Views.{concrete}
+use Rattle.piece_machine.specs.PieceConcrete.{PieceConcrete}
+use Rattle.piece_machine.specs.PieceViews.{parts}
 use Rattle.machine.specs.declared.event.Entry.{Entry}
 use Rattle.machine.specs.declared.event.Event.{Event}
 use Rattle.runner.specs.LogRuns.{steps_of}
@@ -49,25 +49,25 @@ Counts more r r' =
     (r.is_whole ≡ true → 2 ^ 32 ≤ r.steps + more)
 
 -- the steps so far lead to this state of the machine, and what the source has come to is recorded
-pub record IsAlong (p : Program) (events : List EventStep) (k : ConcreteState) (r : Recorder) : Type 0 where
+pub record IsAlong (p : Program) (events : List EventStep) (k : PieceConcrete) (r : Recorder) : Type 0 where
   pub of_program : IsOf p r
   pub source : Progress
   pub comes : ComesTo p events k source
   pub told : RecordsUnlessLong (length events) source r
 
 -- an entry led from one state of the machine to another
-abbrev pub KeepsUp : Program → ConcreteState → Recorder → Entry → ConcreteState → Recorder → Type 0
+abbrev pub KeepsUp : Program → PieceConcrete → Recorder → Entry → PieceConcrete → Recorder → Type 0
 KeepsUp p k r e k' r' =
     WellFormed p → (events : List EventStep) → IsAlong p events k r → IsAlong p (events ++ entry_steps e) k' r'
 
 -- a step from outside, with this event, led from one state of the machine to another
-abbrev pub IsAlongStep : Program → ConcreteState → Recorder → ℕ → Event → ConcreteState → Recorder → Type 0
+abbrev pub IsAlongStep : Program → PieceConcrete → Recorder → ℕ → Event → PieceConcrete → Recorder → Type 0
 IsAlongStep p k r t event k' r' =
     WellFormed p → (events : List EventStep) → IsAlong p events k r
     → IsAlong p (events ++ record { thread = t; event = event } ∷ []) k' r'
 
 -- all of a log that leads to this state of the machine was recorded
-pub record IsWhole (p : Program) (log : List Entry) (k : ConcreteState) (r : Recorder) : Type 0 where
+pub record IsWhole (p : Program) (log : List Entry) (k : PieceConcrete) (r : Recorder) : Type 0 where
   pub legal : LeadsTo (code_of p) log k
   pub along : IsAlong p (steps_of log) k r
   pub whole : r.is_whole ≡ true
@@ -75,7 +75,7 @@ pub record IsWhole (p : Program) (log : List Entry) (k : ConcreteState) (r : Rec
 -- what a walk over a log came to
 abbrev pub WalksTo : Program → List Entry → Walked → Recorder → Type 0
 WalksTo p log (walked.StopsAt number) r = StopsAt (code_of p) log number
-WalksTo p log (walked.LeadsTo last) r = IsWhole p log (concrete last) r × (last.program ≡ code_of p)
+WalksTo p log (walked.LeadsTo last) r = IsWhole p log (parts last) r × (last.view.program ≡ code_of p)
 
 -- what is deferred of processes 1 to n is taken, by number
 abbrev pub progress_rest : Program → ℕ → Progress → Progress

@@ -10,7 +10,7 @@ use crate::walking::{Walked, walk};
 use isa::Image;
 use layout::Layout;
 use lowering::Mark;
-use machine::Machine;
+use piece_machine::PieceMachine;
 use packed_log::LogReader;
 use program::Checked;
 use source_states::Action;
@@ -22,7 +22,7 @@ pub struct ExplainedLog {
     /// The actions of the source, in order.
     pub actions: Vec<Action>,
     /// The machine behind the log's last entry.
-    pub last: Machine,
+    pub last: PieceMachine,
 }
 
 /// How a log of a program's image is explained.

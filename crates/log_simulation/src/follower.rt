@@ -1,7 +1,7 @@
 ghost use Rattle.std.specs.Prelude.{[], ◌≡◌, ◌<◌, ◌≤◌, ◌^◌, IfOk, Some, None, option_map, true, false, OnOk, length};
 ghost use Rattle.words.specs.Limits.{most_threads};
 ghost use Rattle.machine.specs.States.{state_of as machine_state};
-ghost use Rattle.machine.specs.Views.{concrete};
+ghost use Rattle.machine.specs.Views.{address_of, concrete};
 ghost use Rattle.program.specs.Names.{said_by};
 ghost use Rattle.program.specs.declared.kinds.Member.{Member as MemberOf};
 ghost use Rattle.lowering.specs.Layout.{layout_of};
@@ -19,6 +19,7 @@ ghost use Rattle.proof_simulation.specs.Kills.{killed_last, killed_resumed};
 ghost use Rattle.proof_simulation.specs.Next.{offer_of_process};
 ghost use Rattle.proof_simulation.specs.Strays.{stray_condition};
 ghost use Rattle.log_simulation.specs.Requests.{visible_step};
+ghost use Rattle.log_simulation.specs.Shown.{shown};
 ghost use Rattle.log_simulation.specs.Waiting.{is_awake};
 
 use crate::choosing::{is_condition, notified, visible_action};
@@ -26,11 +27,22 @@ use crate::requests::{is_visible, linked_monitor, owns_pending, pending_word};
 use layout::Layout;
 use locals::NextStep;
 use machine::Machine;
+use piece_machine::PieceMachine;
 use program::{Checked, Member};
 use source_offers::Offer;
 use source_states::{Action, ActionKind, SourceState};
 use std::alloc::{AllocError, Global};
 use words::{Addr, ImageVersion};
+
+// Where thread `t` sleeps, or has committed to.
+fn sleeps_at(machine: &PieceMachine, t: u32) -> Option<Addr>
+    ensures { address_of result ≡ (shown machine.now).asleep t }
+{
+    match machine.machine().asleep(t) {
+        Some(word) => Some(word),
+        None => machine.committed(t),
+    }
+}
 
 /// A run of the source that follows a run of the machine: where it led, and its actions.
 #[derive(Drop)]
@@ -152,23 +164,23 @@ impl<'a> Follower<'a> {
     }
 
     // Whether a process waits on a condition, and its thread doesn't sleep on this word.
-    fn has_waited(&self, machine: &Machine, condition: Member, word: Addr, t: u32) -> bool
-        ensures { result ≡ is_awake word.0 (machine_state (concrete machine.now))
+    fn has_waited(&self, machine: &PieceMachine, condition: Member, word: Addr, t: u32) -> bool
+        ensures { result ≡ is_awake word.0 (shown machine.now)
             (state_of self.now.state).table condition t }
     {
-        self.state.waits(u64::from(t)) == Some(condition) && machine.asleep(t) != Some(word)
+        self.state.waits(u64::from(t)) == Some(condition) && sleeps_at(machine, t) != Some(word)
     }
 
     // Who waits on a condition, and doesn't sleep on its word.
-    fn waiters(&self, machine: &Machine, condition: Member) -> Result<Vec<u64>, AllocError>
+    fn waiters(&self, machine: &PieceMachine, condition: Member) -> Result<Vec<u64>, AllocError>
         ensures { IfOk result (λ v. self.now.layout ≡ layout_of (said_by self.now.checked.now)
             → v.items ≡ awake_waiters (said_by self.now.checked.now)
-            (machine_state (concrete machine.now))
+            (shown machine.now)
             (state_of self.now.state).table condition) }
     {
         let word = Addr(self.layout.address(condition));
         let mut waiters = Vec::new(self.alloc);
-        for before in 0..machine.threads() {
+        for before in 0..machine.machine().threads() {
             let t = before + 1;
             if self.has_waited(machine, condition, word, t) {
                 waiters.push(u64::from(t))?;
@@ -178,11 +190,11 @@ impl<'a> Follower<'a> {
     }
 
     // Whom a process with this offer resumes, where it notifies or broadcasts a condition.
-    fn resumed(&self, machine: &Machine, offer: &Offer) -> Result<Vec<u64>, AllocError>
+    fn resumed(&self, machine: &PieceMachine, offer: &Offer) -> Result<Vec<u64>, AllocError>
         ensures some { IfOk result (λ v. self.now.layout ≡ layout_of (said_by self.now.checked.now)
             → (c : MemberOf) → resumed_only offer.now ≡ Some c
             → v.items ≡ awake_waiters (said_by self.now.checked.now)
-            (machine_state (concrete machine.now))
+            (shown machine.now)
             (state_of self.now.state).table c) }
         ensures none { IfOk result (λ v. resumed_only offer.now ≡ None → v.items ≡ []) }
     {
@@ -193,12 +205,12 @@ impl<'a> Follower<'a> {
     }
 
     // The visible action that a process takes next, where it can take one.
-    fn next_visible(&self, machine: &Machine, t: u32) -> Result<Option<ActionKind>, AllocError>
+    fn next_visible(&self, machine: &PieceMachine, t: u32) -> Result<Option<ActionKind>, AllocError>
         ensures { IfOk result (λ o. (label : Label)
             → self.now.layout ≡ layout_of (said_by self.now.checked.now)
             → CanTake (said_by self.now.checked.now) (state_of self.now.state) t label
             → is_internal label ≡ false
-            → Resumes (said_by self.now.checked.now) (machine_state (concrete machine.now))
+            → Resumes (said_by self.now.checked.now) (shown machine.now)
             (state_of self.now.state).table label → option_map kind_of o ≡ Some (name_of label)) }
     {
         let Some((offer, _)) = self.state.offered(self.alloc, self.checked, u64::from(t))? else {
@@ -210,8 +222,8 @@ impl<'a> Follower<'a> {
 
     /// Follows a step of thread `t` to this machine, which is a visible action: first come so many internal actions of
     /// its process, and then that. False where one isn't there, or isn't possible.
-    pub fn follow(&mut self, machine: &Machine, t: u32, count: u32) -> Result<bool, AllocError>
-        ensures follows { let s = machine_state (concrete machine.now) in
+    pub fn follow(&mut self, machine: &PieceMachine, t: u32, count: u32) -> Result<bool, AllocError>
+        ensures follows { let s = shown machine.now in
             IfOk result (λ b. Follows self.old s t count b self.new) }
         ensures kept { OnOk result ((self.new.checked ≡ self.old.checked)
             × (self.new.layout ≡ self.old.layout)) }
@@ -262,13 +274,13 @@ impl<'a> Follower<'a> {
     // Whom process `t` has resumed that is killed now, if its thread has raised the number of a condition's word.
     fn killed_resumed(
         &self,
-        machine: &Machine,
+        machine: &PieceMachine,
         t: u32,
         raised: bool,
     ) -> Result<Vec<u64>, AllocError>
         ensures { let p = said_by self.now.checked.now in let a = state_of self.now.state in
             IfOk result (λ v. self.now.layout ≡ layout_of p
-            → v.items ≡ killed_resumed p (machine_state (concrete machine.now)) a.table raised
+            → v.items ≡ killed_resumed p (shown machine.now) a.table raised
             (offer_of_process p a.variable (a.process t))) }
     {
         if !raised {
@@ -285,13 +297,13 @@ impl<'a> Follower<'a> {
     /// where one isn't there, or that isn't possible.
     pub fn follow_kill(
         &mut self,
-        machine: &Machine,
+        machine: &PieceMachine,
         t: u32,
         count: u32,
         raised: bool,
         last: Option<u32>,
     ) -> Result<bool, AllocError>
-        ensures follows { let s = machine_state (concrete machine.now) in
+        ensures follows { let s = shown machine.now in
             IfOk result (λ b. FollowsKill self.old s t count raised last b self.new) }
         ensures kept { OnOk result ((self.new.checked ≡ self.old.checked)
             × (self.new.layout ≡ self.old.layout)) }

@@ -2,10 +2,11 @@ ghost use Rattle.words.specs.Limits.{most_threads};
 ghost use Rattle.words.specs.Versions.{most_of};
 ghost use Rattle.lowering.specs.Pieces.{code_of};
 ghost use Rattle.locals.specs.Looks.{look};
-ghost use Rattle.machine.specs.ConcreteOutside.{kill_of, stray_of};
 ghost use Rattle.machine.specs.ConcretePieces.{is_piece};
 ghost use Rattle.machine.specs.FrontRuns.{doing_of};
-ghost use Rattle.machine.specs.States.{ConcreteState, opening_concrete, state_of};
+ghost use Rattle.machine.specs.States.{state_of};
+ghost use Rattle.piece_machine.specs.PieceConcrete.{PieceConcrete, kill_piece, stray_piece};
+ghost use Rattle.proof_explaining.specs.Events.{whole_of};
 ghost use Rattle.machine.specs.declared.event.Entry.{Entry};
 ghost use Rattle.machine.specs.declared.event.Event.{Event};
 ghost use Rattle.proof_simulation.specs.Explaining.{IsDue};
@@ -16,8 +17,8 @@ ghost use Rattle.program.specs.declared.kinds.Member.{Member};
 ghost use Rattle.program.specs.Trees.{Program};
 ghost use Rattle.program.specs.WellFormed.{WellFormed};
 ghost use Rattle.machine.specs.FrontRuns.{EventStep};
-ghost use Rattle.runner.specs.Logs.{EntersOutside, EntersOwn};
-ghost use Rattle.std.specs.Prelude.{[], ◌≡◌, ◌+◌, ◌++◌, ◌<◌, ◌≤◌, ◌^◌, List, Ok, Some, length, true};
+ghost use Rattle.runner.specs.Logs.{EntersOutside, EntersOwn, opening};
+ghost use Rattle.std.specs.Prelude.{[], ◌≡◌, ◌+◌, ◌++◌, ◌<◌, ◌≤◌, ◌^◌, false, List, Ok, Some, length, true};
 ghost use Rattle.log_simulation.specs.Entries.{ComesTo, entry_steps, is_visible, progress_entry, progress_locally};
 ghost use Rattle.log_simulation.specs.Entries.{progress_outside};
 ghost use Rattle.log_simulation.specs.Going.{IsKillDue, IsStrayDue};
@@ -34,39 +35,39 @@ ghost use Rattle.log_simulation.specs.Going.{IsKillDue, IsStrayDue};
 /// taking or giving up, if the thread owned it. Behind a kill of a thread that is dying or has ended, nothing is.
 pub fn progress_follows_logs()
     ensures opens { (p : Program) → most_of p.version ≤ most_threads
-        → ComesTo p [] (opening_concrete (code_of p)) (opening_progress p) }
-    ensures entries { (p : Program) (events : List EventStep) (k k' : ConcreteState) (e : Entry)
+        → ComesTo p [] (opening (code_of p)) (opening_progress p) }
+    ensures entries { (p : Program) (events : List EventStep) (k k' : PieceConcrete) (e : Entry)
         (g : Progress)
         → ComesTo p events k g
         → (enters : EntersOwn (code_of p) k e k')
         → ComesTo p (events ++ entry_steps e) k'
-        (progress_entry p e enters.origin enters.here (state_of k).word k' g) }
-    ensures outside { (p : Program) (events : List EventStep) (k k' : ConcreteState) (e : Entry)
+        (progress_entry p e enters.origin enters.here (state_of k.concrete).word k' g) }
+    ensures outside { (p : Program) (events : List EventStep) (k k' : PieceConcrete) (e : Entry)
         (g : Progress)
         → ComesTo p events k g
-        → (outside : EntersOutside k e k')
+        → (outside : EntersOutside (code_of p) k e k')
         → ComesTo p (events ++ entry_steps e) k' (progress_outside p e.thread
-        (doing_of outside.event.name outside.event.value) (state_of k).word (state_of k') g) }
-    ensures strays { (p : Program) (events : List EventStep) (k k' : ConcreteState) (e : Entry)
+        (doing_of outside.event.name outside.event.value) (state_of k.concrete).word (whole_of p k') g) }
+    ensures strays { (p : Program) (events : List EventStep) (k k' : PieceConcrete) (e : Entry)
         (g : Progress)
         → ComesTo p events k g
-        → (outside : EntersOutside k e k') → WellFormed p → length events + 1 < 2 ^ 32
-        → stray_of k e.thread ≡ Ok (k', outside.event) → (c : Member)
+        → (outside : EntersOutside (code_of p) k e k') → WellFormed p → length events + 1 < 2 ^ 32
+        → stray_piece k e.thread ≡ Ok (k', outside.event) → (c : Member)
         → stray_condition p outside.event.value (g.source.table.waits e.thread) ≡ Some c
         → IsStrayDue p e.thread c g }
-    ensures kills { (p : Program) (events : List EventStep) (k k' : ConcreteState) (e : Entry)
+    ensures kills { (p : Program) (events : List EventStep) (k k' : PieceConcrete) (e : Entry)
         (g : Progress)
         → ComesTo p events k g
-        → (outside : EntersOutside k e k') → WellFormed p → length events + 1 < 2 ^ 32
-        → kill_of k e.thread ≡ Ok (k', outside.event) → outside.event.value ≡ 1
-        → IsKillDue p (state_of k') e.thread (killed_last p (state_of k).word e.thread) g }
-    ensures due { (p : Program) (events : List EventStep) (k k' : ConcreteState) (e : Entry)
+        → (outside : EntersOutside (code_of p) k e k') → WellFormed p → length events + 1 < 2 ^ 32
+        → kill_piece (code_of p) k e.thread ≡ Ok (k', outside.event) → outside.event.value ≡ 1
+        → IsKillDue p (whole_of p k') e.thread (killed_last p (state_of k.concrete).word e.thread) g }
+    ensures due { (p : Program) (events : List EventStep) (k k' : PieceConcrete) (e : Entry)
         (g : Progress)
         → ComesTo p events k g
         → (enters : EntersOwn (code_of p) k e k') → WellFormed p → (event : Event)
         → e.event ≡ Some event → is_piece event.name ≡ false
-        → is_visible p (state_of k).word e.thread (look (code_of p) e.thread enters.here) event.value
+        → is_visible p (state_of k.concrete).word e.thread (look (code_of p) e.thread enters.here) event.value
         ≡ true
         → length events + e.local + 1 < 2 ^ 32
-        → IsDue p (state_of k') e.thread (progress_locally p e.thread e.local enters.origin g) }
+        → IsDue p (whole_of p k') e.thread (progress_locally p e.thread e.local enters.origin g) }
 {}

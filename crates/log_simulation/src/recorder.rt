@@ -11,8 +11,10 @@ ghost use Rattle.locals.specs.Requests.{next_step_of};
 ghost use Rattle.locals.specs.Steps.{local_after, local_step};
 ghost use Rattle.locals.specs.Threads.{Thread};
 ghost use Rattle.machine.specs.FrontRuns.{EventStep};
-ghost use Rattle.machine.specs.States.{opening_concrete, state_of as machine_state};
+ghost use Rattle.machine.specs.States.{state_of as machine_state};
 ghost use Rattle.machine.specs.Views.{concrete};
+ghost use Rattle.piece_machine.specs.PieceViews.{parts};
+ghost use Rattle.runner.specs.Logs.{opening};
 ghost use Rattle.meaning.specs.Labels.{Kind};
 ghost use Rattle.meaning.specs.States.{SourceState};
 ghost use Rattle.proof_simulation.specs.Explaining.{IsDue};
@@ -30,6 +32,7 @@ ghost use Rattle.log_simulation.specs.Going.{IsKillDue, IsStrayDue, Matches, pro
 ghost use Rattle.log_simulation.specs.Explanations.{IsExplanationOf};
 ghost use Rattle.log_simulation.specs.Recording.{Counts, IsAlong, IsOf, RecordsUnlessLong, progress_rest};
 ghost use Rattle.log_simulation.specs.Deferred.{CountsDeferred, Raises, deferral_of};
+ghost use Rattle.log_simulation.specs.Shown.{shown};
 
 use crate::deferral::{Deferral, at_mark, at_step, mark_at};
 use crate::deferred::Deferred;
@@ -40,6 +43,7 @@ use layout::Layout;
 use locals::{Local, NextStep};
 use lowering::Mark;
 use machine::{Entry, Machine};
+use piece_machine::PieceMachine;
 use program::Checked;
 use source_states::Action;
 use std::alloc::{AllocError, Global};
@@ -94,7 +98,7 @@ impl<'a> Recorder<'a> {
         requires layout { layout ≡ layout_of (said_by checked.now) }
         requires marks { marks.items ≡ marks_of (said_by checked.now) }
         ensures { let p = said_by checked.now in
-            IfOk result (λ r. IsAlong p [] (opening_concrete (code_of p)) r) }
+            IfOk result (λ r. IsAlong p [] (opening (code_of p)) r) }
     {
         Ok(Recorder {
             marks,
@@ -246,7 +250,7 @@ impl<'a> Recorder<'a> {
     /// was visible or not, and led to this machine.
     pub fn take_shared_step(
         &mut self,
-        machine: &Machine,
+        machine: &PieceMachine,
         t: u32,
         here: &Local,
         step: NextStep,
@@ -259,10 +263,10 @@ impl<'a> Recorder<'a> {
             → IsOf p self.old
             → t ≤ most_threads → RecordsUnlessLong n g self.old
             → (is_visible p word t (look (code_of p) t here.now) value ≡ true → n + 1 < 2 ^ 32
-            → IsDue p (machine_state (concrete machine.now)) t g)
+            → IsDue p (shown machine.now) t g)
             → IsOf p self.new
             × RecordsUnlessLong (n + 1)
-            (progress_shared p t here.now word value (machine_state (concrete machine.now)) g) self.new) }
+            (progress_shared p t here.now word value (shown machine.now) g) self.new) }
     {
         self.count(1);
         if !self.is_whole {
@@ -314,11 +318,11 @@ impl<'a> Recorder<'a> {
     /// last of those that its process abandons.
     pub fn take_kill(
         &mut self,
-        machine: &Machine,
+        machine: &PieceMachine,
         t: u32,
         last: Option<u32>,
     ) -> Result<(), AllocError>
-        ensures { let s = machine_state (concrete machine.now) in
+        ensures { let s = shown machine.now in
             OnOk result ((p : Program) (n : ℕ) (g : Progress) → IsOf p self.old
             → t ≤ most_threads → RecordsUnlessLong n g self.old
             → (n + 1 < 2 ^ 32 → IsKillDue p s t last g)
@@ -361,13 +365,13 @@ impl<'a> Recorder<'a> {
     }
 
     /// All actions of the log, where it led to this machine; those that are deferred come last, by rising process.
-    pub fn finish(self, machine: &Machine) -> Result<Vec<Action>, AllocError>
+    pub fn finish(self, machine: &PieceMachine) -> Result<Vec<Action>, AllocError>
         ensures { IfOk result (λ actions. (p : Program) (events : List EventStep) → WellFormed p
-            → IsAlong p events (concrete machine.now) self.entry → self.entry.is_whole ≡ true
-            → IsExplanationOf p events (concrete machine.now) (map action_of actions.items)) }
+            → IsAlong p events (parts machine.now) self.entry → self.entry.is_whole ≡ true
+            → IsExplanationOf p events (parts machine.now) (map action_of actions.items)) }
     {
         let mut recorder = self;
-        recorder.take_rest(machine.threads())?;
+        recorder.take_rest(machine.machine().threads())?;
         Ok(recorder.follower.into_actions())
     }
 }

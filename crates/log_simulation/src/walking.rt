@@ -1,37 +1,49 @@
-ghost use Rattle.std.specs.Prelude.{[], ◌≡◌, ◌<◌, ◌≤◌, ◌^◌, false, true, IfOk, MatchBool, Ok, OnOk, Some, length};
+ghost use Rattle.std.specs.Prelude.{[], ◌≡◌, ◌<◌, ◌≤◌, ◌^◌, false, true, IfOk, MatchBool, Ok, OnOk, Some, is_some, length};
 ghost use Rattle.lowering.specs.Pieces.{code_of};
+ghost use Rattle.locals.specs.Steps.{local_step};
 ghost use Rattle.locals.specs.Threads.{Thread};
-ghost use Rattle.machine.specs.States.{ConcreteState, opening_concrete, thread_of};
-ghost use Rattle.machine.specs.ConcreteOutside.{kill_of, stray_of};
+ghost use Rattle.machine.specs.States.{thread_of};
 ghost use Rattle.machine.specs.ConcretePieces.{is_piece};
 ghost use Rattle.machine.specs.ConcreteSteps.{can_move};
 ghost use Rattle.machine.specs.Views.{concrete};
+ghost use Rattle.piece_machine.specs.PieceConcrete.{PieceConcrete, kill_piece, stray_piece};
+ghost use Rattle.piece_machine.specs.PieceViews.{parts};
 ghost use Rattle.program.specs.Trees.{Program};
 ghost use Rattle.program.specs.WellFormed.{WellFormed};
-ghost use Rattle.runner.specs.Logs.{Ends, Enters, EntersOutside, EntersOwn, is_outside};
+ghost use Rattle.runner.specs.Logs.{Ends, Enters, EntersOutside, EntersOwn, is_outside, opening};
 ghost use Rattle.log_simulation.specs.Recording.{IsAlong, IsAlongStep, KeepsUp, WalksTo};
 
 use crate::recorder::Recorder;
 use isa::Image;
 use locals::Local;
 use machine::{Entry, Event, EventName, Machine};
+use piece_machine::PieceMachine;
 use packed_log::LogReader;
 use robustexit::ExitPhase;
 use std::alloc::{AllocError, Global};
 use words::BUCKETS;
 
-// Takes the shared step of thread `t`; false where it isn't this event.
-fn take_shared(machine: &mut Machine, t: u32, event: Event) -> bool
-    requires thread { (0 < t) × (t ≤ length machine.old.threads) }
-    requires room { 1 ≤ machine.old.room }
-    ensures ends { (here : Thread) → thread_of (concrete machine.old) t ≡ Some here
-        → MatchBool result
-        (Ends machine.old.program (concrete machine.old) t here (Some event) (concrete machine.new))
-        ((k : ConcreteState) → Ends machine.old.program (concrete machine.old) t here (Some event) k
-        → ⊥) }
-    ensures program { machine.new.program ≡ machine.old.program }
+// Whether thread `t` stands before a local step.
+fn is_before_local(machine: &Machine, t: u32) -> bool
+    requires { (0 < t) × (t ≤ length machine.now.threads) }
+    ensures { (here : Thread) → thread_of (concrete machine.now) t ≡ Some here
+        → result ≡ is_some (local_step machine.now.program t here) }
 {
-    if machine.is_before_local(t, machine.local(t)) {
+    machine.is_before_local(t, machine.local(t))
+}
+
+// Takes the shared step of thread `t`; false where it isn't this event.
+fn take_shared(machine: &mut PieceMachine, t: u32, event: Event) -> bool
+    requires thread { (0 < t) × (t ≤ length machine.old.view.threads) }
+    requires room { 1 ≤ machine.old.view.room }
+    ensures ends { (here : Thread) → thread_of (parts machine.old).concrete t ≡ Some here
+        → MatchBool result
+        (Ends machine.old.view.program (parts machine.old) t here (Some event) (parts machine.new))
+        ((k : PieceConcrete) → Ends machine.old.view.program (parts machine.old) t here (Some event) k
+        → ⊥) }
+    ensures program { machine.new.view.program ≡ machine.old.view.program }
+{
+    if is_before_local(machine.machine(), t) {
         return false;
     }
     match machine.step(t) {
@@ -48,12 +60,13 @@ fn is_piece(name: EventName) -> bool
 }
 
 // Copies the state of a thread, where it can move.
-fn copy_mover(machine: &Machine, t: u32, here: &mut Local) -> bool
+fn copy_mover(machine: &PieceMachine, t: u32, here: &mut Local) -> bool
     ensures { MatchBool result
-        ((can_move (concrete machine.now) t ≡ true)
-        × (thread_of (concrete machine.now) t ≡ Some here.new))
-        (can_move (concrete machine.now) t ≡ false) }
+        ((can_move (parts machine.now).concrete t ≡ true)
+        × (thread_of (parts machine.now).concrete t ≡ Some here.new))
+        (can_move (parts machine.now).concrete t ≡ false) }
 {
+    let machine = machine.machine();
     if !machine.can_move(t) {
         return false;
     }
@@ -64,19 +77,19 @@ fn copy_mover(machine: &Machine, t: u32, here: &mut Local) -> bool
 // Takes an entry of a thread's own, and records it; false where the machine can't take it. What `here` holds is lost.
 fn go_own(
     image: &Image,
-    machine: &mut Machine,
+    machine: &mut PieceMachine,
     recorder: &mut Recorder,
     here: &mut Local,
     entry: &Entry,
 ) -> Result<bool, AllocError>
-    requires program { machine.old.program ≡ image.now }
+    requires program { machine.old.view.program ≡ image.now }
     ensures enters { IfOk result (λ b. MatchBool b
-        (EntersOwn image.now (concrete machine.old) entry.now (concrete machine.new))
-        ((k : ConcreteState) → EntersOwn image.now (concrete machine.old) entry.now k → ⊥)) }
+        (EntersOwn image.now (parts machine.old) entry.now (parts machine.new))
+        ((k : PieceConcrete) → EntersOwn image.now (parts machine.old) entry.now k → ⊥)) }
     ensures told { IfOk result (λ b. b ≡ true → (p : Program) → image.now ≡ code_of p
-        → KeepsUp p (concrete machine.old) recorder.old entry.now (concrete machine.new)
+        → KeepsUp p (parts machine.old) recorder.old entry.now (parts machine.new)
         recorder.new) }
-    ensures program { OnOk result (machine.new.program ≡ image.now) }
+    ensures program { OnOk result (machine.new.view.program ≡ image.now) }
 {
     let t = entry.thread;
     if !copy_mover(machine, t, here) || !recorder.take_steps(image, here, entry) {
@@ -88,7 +101,7 @@ fn go_own(
         return Ok(true);
     };
     let step = here.next_step(image, t);
-    let visible = recorder.is_visible(image, machine, t, step, event.value);
+    let visible = recorder.is_visible(image, machine.machine(), t, step, event.value);
     if !take_shared(machine, t, event) {
         return Ok(false);
     }
@@ -101,11 +114,11 @@ fn go_own(
 }
 
 // Wakes thread `t` from outside; false where that isn't this event.
-fn take_stray(machine: &mut Machine, t: u32, event: Event) -> bool
+fn take_stray(machine: &mut PieceMachine, t: u32, event: Event) -> bool
     ensures gives { MatchBool result
-        (stray_of (concrete machine.old) t ≡ Ok (concrete machine.new, event))
-        ((k : ConcreteState) → stray_of (concrete machine.old) t ≡ Ok (k, event) → ⊥) }
-    ensures program { machine.new.program ≡ machine.old.program }
+        (stray_piece (parts machine.old) t ≡ Ok (parts machine.new, event))
+        ((k : PieceConcrete) → stray_piece (parts machine.old) t ≡ Ok (k, event) → ⊥) }
+    ensures program { machine.new.view.program ≡ machine.old.view.program }
 {
     match machine.stray(t) {
         Ok(stray) => stray == event,
@@ -114,11 +127,11 @@ fn take_stray(machine: &mut Machine, t: u32, event: Event) -> bool
 }
 
 // Kills thread `t`; false where that isn't this event.
-fn take_kill(machine: &mut Machine, t: u32, event: Event) -> bool
+fn take_kill(machine: &mut PieceMachine, t: u32, event: Event) -> bool
     ensures gives { MatchBool result
-        (kill_of (concrete machine.old) t ≡ Ok (concrete machine.new, event))
-        ((k : ConcreteState) → kill_of (concrete machine.old) t ≡ Ok (k, event) → ⊥) }
-    ensures program { machine.new.program ≡ machine.old.program }
+        (kill_piece machine.old.view.program (parts machine.old) t ≡ Ok (parts machine.new, event))
+        ((k : PieceConcrete) → kill_piece machine.old.view.program (parts machine.old) t ≡ Ok (k, event) → ⊥) }
+    ensures program { machine.new.view.program ≡ machine.old.view.program }
 {
     match machine.kill(t) {
         Ok(kill) => kill == event,
@@ -128,18 +141,18 @@ fn take_kill(machine: &mut Machine, t: u32, event: Event) -> bool
 
 // Takes a wake of thread `t` from outside with this event, and records it; false where the machine can't take it.
 fn go_stray(
-    machine: &mut Machine,
+    machine: &mut PieceMachine,
     recorder: &mut Recorder,
     t: u32,
     event: Event,
 ) -> Result<bool, AllocError>
     ensures gives { IfOk result (λ b. MatchBool b
-        (stray_of (concrete machine.old) t ≡ Ok (concrete machine.new, event))
-        ((k : ConcreteState) → stray_of (concrete machine.old) t ≡ Ok (k, event) → ⊥)) }
-    ensures told { IfOk result (λ b. b ≡ true → (p : Program)
-        → IsAlongStep p (concrete machine.old) recorder.old t event (concrete machine.new)
+        (stray_piece (parts machine.old) t ≡ Ok (parts machine.new, event))
+        ((k : PieceConcrete) → stray_piece (parts machine.old) t ≡ Ok (k, event) → ⊥)) }
+    ensures told { IfOk result (λ b. b ≡ true → (p : Program) → machine.old.view.program ≡ code_of p
+        → IsAlongStep p (parts machine.old) recorder.old t event (parts machine.new)
         recorder.new) }
-    ensures program { OnOk result (machine.new.program ≡ machine.old.program) }
+    ensures program { OnOk result (machine.new.view.program ≡ machine.old.view.program) }
 {
     if !take_stray(machine, t, event) {
         return Ok(false);
@@ -150,20 +163,20 @@ fn go_stray(
 
 // Takes a kill of thread `t` with this event, and records it; false where the machine can't take it.
 fn go_kill(
-    machine: &mut Machine,
+    machine: &mut PieceMachine,
     recorder: &mut Recorder,
     t: u32,
     event: Event,
 ) -> Result<bool, AllocError>
     ensures gives { IfOk result (λ b. MatchBool b
-        (kill_of (concrete machine.old) t ≡ Ok (concrete machine.new, event))
-        ((k : ConcreteState) → kill_of (concrete machine.old) t ≡ Ok (k, event) → ⊥)) }
-    ensures told { IfOk result (λ b. b ≡ true → (p : Program)
-        → IsAlongStep p (concrete machine.old) recorder.old t event (concrete machine.new)
+        (kill_piece machine.old.view.program (parts machine.old) t ≡ Ok (parts machine.new, event))
+        ((k : PieceConcrete) → kill_piece machine.old.view.program (parts machine.old) t ≡ Ok (k, event) → ⊥)) }
+    ensures told { IfOk result (λ b. b ≡ true → (p : Program) → machine.old.view.program ≡ code_of p
+        → IsAlongStep p (parts machine.old) recorder.old t event (parts machine.new)
         recorder.new) }
-    ensures program { OnOk result (machine.new.program ≡ machine.old.program) }
+    ensures program { OnOk result (machine.new.view.program ≡ machine.old.view.program) }
 {
-    let last = recorder.killed_last(machine, t);
+    let last = recorder.killed_last(machine.machine(), t);
     if !take_kill(machine, t, event) {
         return Ok(false);
     }
@@ -187,17 +200,17 @@ fn is_outside(entry: &Entry) -> bool
 
 // Takes an entry that came from outside, and records it; false where the machine can't take it.
 fn go_outside(
-    machine: &mut Machine,
+    machine: &mut PieceMachine,
     recorder: &mut Recorder,
     entry: &Entry,
 ) -> Result<bool, AllocError>
     ensures enters { IfOk result (λ b. MatchBool b
-        (EntersOutside (concrete machine.old) entry.now (concrete machine.new))
-        ((k : ConcreteState) → EntersOutside (concrete machine.old) entry.now k → ⊥)) }
-    ensures told { IfOk result (λ b. b ≡ true → (p : Program)
-        → KeepsUp p (concrete machine.old) recorder.old entry.now (concrete machine.new)
+        (EntersOutside machine.old.view.program (parts machine.old) entry.now (parts machine.new))
+        ((k : PieceConcrete) → EntersOutside machine.old.view.program (parts machine.old) entry.now k → ⊥)) }
+    ensures told { IfOk result (λ b. b ≡ true → (p : Program) → machine.old.view.program ≡ code_of p
+        → KeepsUp p (parts machine.old) recorder.old entry.now (parts machine.new)
         recorder.new) }
-    ensures program { OnOk result (machine.new.program ≡ machine.old.program) }
+    ensures program { OnOk result (machine.new.view.program ≡ machine.old.view.program) }
 {
     let Some(event) = entry.event else {
         return Ok(false);
@@ -214,19 +227,19 @@ fn go_outside(
 // Takes an entry, and records it; false where the machine can't take it. What `here` holds is lost.
 fn go_through(
     image: &Image,
-    machine: &mut Machine,
+    machine: &mut PieceMachine,
     recorder: &mut Recorder,
     here: &mut Local,
     entry: &Entry,
 ) -> Result<bool, AllocError>
-    requires program { machine.old.program ≡ image.now }
+    requires program { machine.old.view.program ≡ image.now }
     ensures enters { IfOk result (λ b. MatchBool b
-        (Enters image.now (concrete machine.old) entry.now (concrete machine.new))
-        ((k : ConcreteState) → Enters image.now (concrete machine.old) entry.now k → ⊥)) }
+        (Enters image.now (parts machine.old) entry.now (parts machine.new))
+        ((k : PieceConcrete) → Enters image.now (parts machine.old) entry.now k → ⊥)) }
     ensures told { IfOk result (λ b. b ≡ true → (p : Program) → image.now ≡ code_of p
-        → KeepsUp p (concrete machine.old) recorder.old entry.now (concrete machine.new)
+        → KeepsUp p (parts machine.old) recorder.old entry.now (parts machine.new)
         recorder.new) }
-    ensures program { OnOk result (machine.new.program ≡ image.now) }
+    ensures program { OnOk result (machine.new.view.program ≡ image.now) }
 {
     if is_outside(entry) {
         return go_outside(machine, recorder, entry);
@@ -240,7 +253,7 @@ pub enum Walked {
     /// The entry of this number, from 1: with it, the entries are no log of a run.
     StopsAt(u64),
     /// The machine behind the last entry.
-    LeadsTo(Machine),
+    LeadsTo(PieceMachine),
 }
 
 // A log has fewer than 2^64 entries. Nothing is done when it runs.
@@ -259,10 +272,10 @@ pub fn walk(
     recorder: &mut Recorder,
 ) -> Result<Walked, AllocError>
     ensures { IfOk result (λ w. (p : Program) → WellFormed p → image.now ≡ code_of p
-        → IsAlong p [] (opening_concrete image.now) recorder.old → WalksTo p log.entry w recorder.new) }
+        → IsAlong p [] (opening image.now) recorder.old → WalksTo p log.entry w recorder.new) }
 {
     log_is_counted(&log);
-    let mut machine = Machine::new(alloc, image, BUCKETS)?;
+    let mut machine = PieceMachine::new(alloc, image, BUCKETS)?;
     let mut here = Local::exiting(ExitPhase::Ended);
     let mut number: u64 = 0;
     for entry in log {

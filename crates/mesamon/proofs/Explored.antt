@@ -3,11 +3,14 @@ use Rattle.std.proofs.Common.{◌≡◌, ◌<◌, ◌^◌, ℕ, List, Some, leng
 use Rattle.words.specs.declared.outcome.Cause.{Cause}
 use Rattle.words.specs.declared.outcome.Outcome.TheVariants.{Aborted}
 use Rattle.isa.specs.Programs.{Program as Image}
+use Rattle.machine.specs.PieceStates.{PieceState}
+use Rattle.machine.specs.PieceSteps.{PieceRun}
 use Rattle.machine.specs.Runs.{CanStep, MachineRun, Step}
 use Rattle.machine.specs.States.{State}
 use Rattle.program.specs.Trees.{Program}
 use Rattle.lowering.specs.Pieces.{code_of}
 use Rattle.proof_exploration.specs.Exploring.{IsStuck}
+use Rattle.refinement.specs.Pieces.{RefinesInPieces, RestsInPieces}
 use Rattle.refinement.specs.Refines.{Refines}
 use Rattle.refinement.specs.Seen.{machine_end}
 use Rattle.source_search.specs.Found.{HasFailed, IsCounted, LeadsNowhere}
@@ -32,19 +35,41 @@ NeverAborts =
     → Refines p image → LeadsNowhere p may (HasFailed may) → MachineRun image steps s → length steps < 2 ^ 32
     → IsSearched p may steps → machine_end s q ≡ Some (Aborted cause) → IsCounted may cause → ⊥
 
-pub holds_of_image : NeverHangs → NeverAborts → (p : Program) (may : Outside) (e : Exploration) → Refines p (code_of p)
-    → IsFoundOf p may e → HoldsOfImage p may e
-holds_of_image hangs aborts p may e refines found = record {
+-- the same of the runs in which futex calls are taken in pieces
+abbrev PiecesNeverHang : Type 0
+PiecesNeverHang =
+    (p : Program) (image : Image) (may : Outside) (buckets : ℕ) (steps : List Step) (s : PieceState)
+    → RefinesInPieces p image → LeadsNowhere p may (IsStuck p) → 0 < buckets → PieceRun image buckets steps s
+    → length steps < 2 ^ 32 → IsSearched p may steps → RestsInPieces image s → AllOver p s.base
+
+abbrev PiecesNeverAbort : Type 0
+PiecesNeverAbort =
+    (p : Program) (image : Image) (may : Outside) (buckets : ℕ) (steps : List Step) (s : PieceState) (q : ℕ)
+    (cause : Cause)
+    → RefinesInPieces p image → LeadsNowhere p may (HasFailed may) → 0 < buckets → PieceRun image buckets steps s
+    → length steps < 2 ^ 32 → IsSearched p may steps
+    → machine_end s.base q ≡ Some (Aborted cause) → IsCounted may cause → ⊥
+
+pub holds_of_image : NeverHangs → NeverAborts → PiecesNeverHang → PiecesNeverAbort → (p : Program) (may : Outside)
+    (e : Exploration) → Refines p (code_of p) × RefinesInPieces p (code_of p) → IsFoundOf p may e → HoldsOfImage p may e
+holds_of_image hangs aborts pieces_hang pieces_abort p may e (refines, pieces) found = record {
   never_hangs = λ complete none steps s run few calm rests.
       hangs p (code_of p) may steps s refines (found.never_stuck complete none) run few calm rests;
   never_faults = λ complete none steps s q cause run few calm h counted.
       aborts p (code_of p) may steps s q cause refines (found.never_aborted complete none) run few calm h counted;
+  pieces_never_hang = λ complete none buckets steps s some run few calm rests.
+      pieces_hang p (code_of p) may buckets steps s pieces (found.never_stuck complete none) some run few calm rests;
+  pieces_never_fault = λ complete none buckets steps s q cause some run few calm h counted.
+      pieces_abort p (code_of p) may buckets steps s q cause pieces (found.never_aborted complete none) some run few calm
+      h counted;
 }
 
--- the image that a text is compiled to refines the text's one program
+-- the image that a text is compiled to refines the text's one program, with calls whole and in pieces
 pub refines_own : (text : List ℕ) (image : Image) (p : Program)
     → ((q r : Program) → AcceptsText text q → AcceptsText text r → q ≡ r) → AcceptsText text p
-    → IsCompiled text image → Refines p (code_of p)
+    → IsCompiled text image → Refines p (code_of p) × RefinesInPieces p (code_of p)
 refines_own text image p one accepts compiled =
-    subst (λ (q : Program). Refines q (code_of q)) (one compiled.program p compiled.accepts accepts)
-    (subst (λ (i : Image). Refines compiled.program i) compiled.code compiled.refines)
+    subst (λ (q : Program). Refines q (code_of q) × RefinesInPieces q (code_of q))
+    (one compiled.program p compiled.accepts accepts)
+    (subst (λ (i : Image). Refines compiled.program i × RefinesInPieces compiled.program i) compiled.code
+    (compiled.refines, compiled.pieces))

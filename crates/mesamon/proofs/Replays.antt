@@ -7,16 +7,17 @@ use Rattle.std.proofs.lemmas.List.{length-map, length-take, map-append}
 use Rattle.std.proofs.lemmas.Simd.{map-map}
 use Rattle.std.proofs.lemmas.List.Elements.{All-head, All-tail}
 use Rattle.std.proofs.lemmas.List.Sums.{sum_by-cons}
+use Rattle.words.specs.Limits.{run_buckets}
 use Rattle.isa.specs.Programs.{Program}
 use Rattle.machine.specs.declared.event.Entry.{Entry}
 use Rattle.machine.specs.declared.event.Event.{Event}
 use Rattle.machine.specs.FrontRuns.{EventStep, Label, label_of, event_label}
 use Rattle.machine.specs.Runs.{Step}
-use Rattle.machine.specs.States.{state_of}
-use Rattle.machine.specs.Views.{concrete}
-use Rattle.machine.proofs.Refusing.{breaks_so}
+use Rattle.piece_machine.specs.PieceConcrete.{pieces_at}
+use Rattle.piece_machine.specs.PieceViews.{parts}
+use Rattle.piece_machine.proofs.Refused.{piece_breaks_so}
 use Rattle.lowering.specs.Pieces.{code_of}
-use Rattle.refinement.specs.Refines.{Refines}
+use Rattle.refinement.specs.Pieces.{RefinesInPieces}
 use Rattle.runner.specs.Logs.{cost, event_cost}
 use Rattle.runner.specs.LogRuns.{local_step_of, shared_step_of, steps_of}
 use Rattle.runner.specs.Schedules.{FailsAt, IsFollowed, IsOneStep, turn_by, turn_by_event, turn_of}
@@ -24,7 +25,7 @@ use Rattle.runner.specs.declared.report.Report.{Report}
 use Rattle.runner.specs.declared.schedule.ScheduleFault.TheVariants.{Broken}
 use Rattle.runner.specs.declared.schedule.Turn.{Turn}
 use Rattle.runner.specs.declared.schedule.Turn.TheVariants as turn
-use Rattle.runner.proofs.Unrolling.{holds, runs_so}
+use Rattle.runner.proofs.Unrolling.{runs_so}
 use Rattle.compiler.specs.Compiles.{IsCompiled}
 use Rattle.runner.specs.declared.schedule.ScheduleFault.TheVariants as follow
 use Rattle.mesamon.specs.Replaying.{IsLeftSchedule, IsNoRefusal, IsRefusedReplay, IsReplayOfText, step_turn}
@@ -78,9 +79,9 @@ pub replay_explained : (text : List ℕ) (image : Program) (schedule : List Turn
 replay_explained text image schedule r c f =
     let followed : IsFollowed (code_of c.program) schedule r = subst (λ (p : Program). IsFollowed p schedule r) c.code
     f in
-    let refines : Refines c.program (code_of c.program) = subst (λ (p : Program). Refines c.program p) c.code
-    c.refines in
-    let (steps, run, count, same) = runs_so (code_of c.program) r.log.items (concrete r.last)
+    let refines : RefinesInPieces c.program (code_of c.program) = subst (λ (p : Program). RefinesInPieces c.program p)
+    c.code c.pieces in
+    let (steps, run, count, same, fit) = runs_so (code_of c.program) r.log.items (parts r.last)
     (fits_of text image c) followed.follows.legal in
     let single = followed.follows.single in
     let total = ones_cost r.log.items single in
@@ -95,7 +96,7 @@ replay_explained text image schedule r c f =
       steps = steps;
       turns = same_turns steps (steps_of r.log.items) same ∙ steps_turns r.log.items single ∙ followed.follows.turns;
       machine_run = run;
-      explained = refines.follows steps (state_of (concrete r.last)) run few;
+      explained = refines.follows run_buckets steps (pieces_at (parts r.last)) (omega arith) run few;
     }
 
 sound_at : (text : List ℕ) (image : Program) (schedule : List Turn) (number : ℕ) (c : IsCompiled text image)
@@ -104,17 +105,17 @@ sound_at text image schedule number c (inl memory) = absurd memory
 sound_at text image schedule number c (inr (before, k, turn.Stray t, comes, refuses)) = absurd refuses.2
 sound_at text image schedule number c (inr (before, k, turn.Kill t, comes, refuses)) = absurd refuses.2
 sound_at text image schedule number c (inr (before, k, turn.Step t, comes, refuses)) =
-    let refines : Refines c.program (code_of c.program) = subst (λ (p : Program). Refines c.program p) c.code
-    c.refines in
-    let fits = fits_of text image c in
-    let (steps, run, count, same) = runs_so (code_of c.program) comes.log k fits comes.follows.legal in
+    let refines : RefinesInPieces c.program (code_of c.program) = subst (λ (p : Program). RefinesInPieces c.program p)
+    c.code c.pieces in
+    let (steps, run, count, same, fit) = runs_so (code_of c.program) comes.log k (fits_of text image c)
+    comes.follows.legal in
     let total = ones_cost comes.log comes.follows.single in
     let many : length comes.log ≡ min before (length schedule) =
     sym (length-map comes.log turn_of) ∙ ap length comes.follows.turns ∙ length-take before schedule in
     let below = comes.few in
     let few : length steps < 2 ^ 32 = omega (arith, count, total, many, below) in
-    (refines.follows steps (state_of k) run few).sound t ((breaks_so (code_of c.program) k t
-    (holds (code_of c.program) comes.log k fits comes.follows.legal)).0 refuses.2.1)
+    (refines.follows run_buckets steps (pieces_at k) (omega arith) run few).sound t
+    ((piece_breaks_so (code_of c.program) k t fit).0 refuses.2.2.1)
 
 -- by no schedule compiled code meets a step that may not be
 pub replay_sound : (text : List ℕ) (image : Program) (schedule : List Turn) (number : ℕ) → IsCompiled text image

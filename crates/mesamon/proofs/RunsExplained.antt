@@ -1,13 +1,14 @@
 -- A report of a run of compiled code is explained by a run of the program.
 use Rattle.std.proofs.Common.{◌≡◌, ◌≢◌, ◌<◌, ◌^◌, ℕ, List, length, subst, arith}
+use Rattle.words.specs.Limits.{run_buckets}
 use Rattle.isa.specs.Programs.{Program}
 use Rattle.machine.specs.declared.event.Entry.{Entry}
-use Rattle.machine.specs.States.{state_of}
-use Rattle.machine.specs.Views.{concrete}
+use Rattle.piece_machine.specs.PieceConcrete.{pieces_at}
+use Rattle.piece_machine.specs.PieceViews.{parts}
 use Rattle.program.specs.Trees.{Program as ProgramOf}
 use Rattle.lowering.specs.Pieces.{code_of}
 use Rattle.meaning.specs.Labels.{Action}
-use Rattle.refinement.specs.Refines.{Refines}
+use Rattle.refinement.specs.Pieces.{RefinesInPieces}
 use Rattle.runner.specs.declared.fault.RunFault.{RunFault}
 use Rattle.runner.specs.declared.fault.RunFault.TheVariants.{Broken, Memory, Stray, CannotMove, Limit}
 use Rattle.runner.specs.declared.report.Report.{Report}
@@ -24,9 +25,9 @@ pub run_explained : RunsSo → (text : List ℕ) (image : Program) (may : Outsid
 run_explained runs text image may limit r c below report =
     let reported : IsReport (code_of c.program) may limit r = subst (λ (p : Program). IsReport p may limit r)
     c.code report in
-    let refines : Refines c.program (code_of c.program) = subst (λ (p : Program). Refines c.program p) c.code
-    c.refines in
-    let (steps, run, count, same) = runs (code_of c.program) r.log.items (concrete r.last) (fits_of text image c)
+    let refines : RefinesInPieces c.program (code_of c.program) = subst (λ (p : Program). RefinesInPieces c.program p)
+    c.code c.pieces in
+    let (steps, run, count, same, fit) = runs (code_of c.program) r.log.items (parts r.last) (fits_of text image c)
     reported.legal in
     let within = reported.within in
     let few : length steps < 2 ^ 32 = omega arith in
@@ -36,7 +37,7 @@ run_explained runs text image may limit r c below report =
       is_report = reported;
       steps = steps;
       machine_run = run;
-      explained = refines.follows steps (state_of (concrete r.last)) run few;
+      explained = refines.follows run_buckets steps (pieces_at (parts r.last)) (omega arith) run few;
     }
 
 pub run_fails : (text : List ℕ) (image : Program) (may : Outside) (limit : ℕ) (fault : RunFault)
@@ -54,14 +55,15 @@ pub run_sound : RunsSo → LocallySo → (text : List ℕ) (image : Program) (ma
 run_sound runs locally text image may limit Broken c fails below e =
     let m : MeetsBroken (code_of c.program) may limit = subst (λ (p : Program). MeetsBroken p may limit) c.code
     fails in
-    let refines : Refines c.program (code_of c.program) = subst (λ (p : Program). Refines c.program p) c.code
-    c.refines in
+    let refines : RefinesInPieces c.program (code_of c.program) = subst (λ (p : Program). RefinesInPieces c.program p)
+    c.code c.pieces in
     let fits = fits_of text image c in
-    let (steps, run, count, same) = runs (code_of c.program) m.log m.concrete fits m.legal in
+    let (steps, run, count, same, fit) = runs (code_of c.program) m.log m.concrete fits m.legal in
     let within = m.within in
     let few : length steps < 2 ^ 32 = omega arith in
     let (awake, broken) = locally (code_of c.program) may limit m fits in
-    refines.locally steps (state_of m.concrete) run few m.thread m.count m.origin m.here m.stands awake m.goes broken
+    refines.locally run_buckets steps (pieces_at m.concrete) (omega arith) run few m.thread m.count m.origin m.here
+    m.stands awake m.goes broken
 run_sound runs locally text image may limit Memory c fails below e = absurd cc
 run_sound runs locally text image may limit Stray c fails below e = absurd cc
 run_sound runs locally text image may limit CannotMove c fails below e = absurd cc

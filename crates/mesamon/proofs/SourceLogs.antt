@@ -1,13 +1,15 @@
 -- A log that comes from outside is that of a text's program, and explained or followed.
 use Rattle.std.proofs.Common.{◌≡◌, ◌<◌, ◌∙◌, ◌^◌, ℕ, List, Result, Ok, Err, IfErr, length, ap, sym, subst, arith}
 use Rattle.std.specs.Prelude.{IfOk, IsErr, IsErrAnd, MatchResult}
+use Rattle.words.specs.Limits.{run_buckets}
 use Rattle.isa.specs.Programs.{Program as Image}
 use Rattle.machine.specs.declared.event.Entry.{Entry}
-use Rattle.machine.specs.States.{state_of}
-use Rattle.machine.specs.Views.{View, concrete}
+use Rattle.machine.specs.Views.{concrete}
+use Rattle.piece_machine.specs.PieceConcrete.{pieces_at}
+use Rattle.piece_machine.specs.PieceViews.{PieceView, parts}
 use Rattle.program.specs.Trees.{Program}
 use Rattle.lowering.specs.Pieces.{code_of}
-use Rattle.refinement.specs.Refines.{Refines}
+use Rattle.refinement.specs.Pieces.{RefinesInPieces}
 use Rattle.runner.specs.LogSchedules.{IsBadLogEntry, IsFollowedLog}
 use Rattle.runner.specs.Reports.{IsVerdict}
 use Rattle.runner.specs.declared.report.Report.{Report}
@@ -40,16 +42,16 @@ answers_err (Ok x) P Q Q' h on = tt
 answers_err (Err e) P Q Q' h on = on e h
 
 -- the report of a log that leads to a state
-pub reported : (p : Program) (image : Image) (entries slice : List Entry) (last : View) (r : Report)
+pub reported : (p : Program) (image : Image) (entries slice : List Entry) (last : PieceView) (r : Report)
     → image ≡ code_of p → slice ≡ entries → IsLast image slice last → r.log.items ≡ entries → r.last ≡ last
-    → r.output.items ≡ last.output → IsVerdict (concrete last) r.verdict → IsReportOfLog p entries r
+    → r.output.items ≡ last.view.output → IsVerdict (concrete last.view) r.verdict → IsReportOfLog p entries r
 reported p image entries slice last r own same h logged is output verdict = record {
   log = logged;
-  last = subst (λ (v : View). IsLast (code_of p) entries v) (sym is)
+  last = subst (λ (v : PieceView). IsLast (code_of p) entries v) (sym is)
       (subst (λ (es : List Entry). IsLast (code_of p) es last) same
       (subst (λ (i : Image). IsLast i slice last) own h));
-  output = output ∙ ap (λ (v : View). v.output) (sym is);
-  verdict = subst (λ (v : View). IsVerdict (concrete v) r.verdict) (sym is) verdict;
+  output = output ∙ ap (λ (v : PieceView). v.view.output) (sym is);
+  verdict = subst (λ (v : PieceView). IsVerdict (concrete v.view) r.verdict) (sym is) verdict;
 }
 
 module _ (text lines : List ℕ) (p : Program) (image : Image) (entries slice : List Entry) (accepts : AcceptsText text p)
@@ -89,8 +91,9 @@ pub followed_log : (text lines : List ℕ) (image : Image) (entries slice : List
 followed_log text lines image entries slice r c reads same f =
     let followed = subst (λ (es : List Entry). IsFollowedLog (code_of c.program) es r) same
     (subst (λ (i : Image). IsFollowedLog i slice r) c.code f) in
-    let refines : Refines c.program (code_of c.program) = subst (λ (i : Image). Refines c.program i) c.code c.refines in
-    let (steps, run, count, labels) = runs_so (code_of c.program) r.log.items (concrete r.last)
+    let refines : RefinesInPieces c.program (code_of c.program) = subst (λ (i : Image). RefinesInPieces c.program i)
+    c.code c.pieces in
+    let (steps, run, count, labels, fit) = runs_so (code_of c.program) r.log.items (parts r.last)
     (fits_of text image c) followed.follows.legal in
     let below = followed.follows.few in
     let few : length steps < 2 ^ 32 = omega (arith, count, below) in
@@ -99,5 +102,5 @@ followed_log text lines image entries slice r c reads same f =
       followed = followed;
       steps = steps;
       machine_run = run;
-      explained = refines.follows steps (state_of (concrete r.last)) run few;
+      explained = refines.follows run_buckets steps (pieces_at (parts r.last)) (omega arith) run few;
     }

@@ -6,12 +6,15 @@ use Rattle.std.specs.Global.{Global}
 use Rattle.std.specs.List.{flat_map}
 use Rattle.words.specs.declared.outcome.Cause.{Cause}
 use Rattle.words.specs.declared.outcome.Outcome.TheVariants as outcome
+use Rattle.machine.specs.PieceStates.{PieceState}
+use Rattle.machine.specs.PieceSteps.{PieceRun}
 use Rattle.machine.specs.Runs.{CanStep, MachineRun, Step}
 use Rattle.machine.specs.States.{State}
 use Rattle.program.specs.Names.{Naming, said_by}
 use Rattle.program.specs.Trees.{Program}
 use Rattle.lowering.specs.Pieces.{code_of}
 use Rattle.proof_exploration.specs.Exploring.{IsStuck}
+use Rattle.refinement.specs.Pieces.{RestsInPieces}
 use Rattle.refinement.specs.Seen.{machine_end}
 use Rattle.image_ends.specs.Ending.{AllOver, IsSearched}
 use Rattle.source_states.specs.declared.action.Action.{Action}
@@ -37,7 +40,8 @@ pub record IsFoundOf (p : Program) (may : Outside) (e : Exploration) : Type 0 wh
 -- of each run of the program's image, under whatever schedule, of fewer than 2^32 steps, in which no more are killed than
 -- may be, and, where no stray wakes were searched, nobody who waits on a condition is woken from outside: where the
 -- search was complete and found no run that gets stuck, all processes are over wherever no thread can move; and where it
--- found none that aborts, no thread has aborted, or where kills were searched none but by a kill
+-- found none that aborts, no thread has aborted, or where kills were searched none but by a kill. The same of each run in
+-- which futex calls are taken in pieces, over any number of buckets, where no thread can take one
 pub record HoldsOfImage (p : Program) (may : Outside) (e : Exploration) : Type 0 where
   pub never_hangs : e.complete ≡ true → e.stuck ≡ None → (steps : List Step) (s : State)
       → MachineRun (code_of p) steps s → length steps < 2 ^ 32 → IsSearched p may steps
@@ -45,6 +49,13 @@ pub record HoldsOfImage (p : Program) (may : Outside) (e : Exploration) : Type 0
   pub never_faults : e.complete ≡ true → e.aborted ≡ None → (steps : List Step) (s : State) (q : ℕ) (cause : Cause)
       → MachineRun (code_of p) steps s → length steps < 2 ^ 32 → IsSearched p may steps
       → machine_end s q ≡ Some (outcome.Aborted cause) → IsCounted may cause → ⊥
+  pub pieces_never_hang : e.complete ≡ true → e.stuck ≡ None → (buckets : ℕ) (steps : List Step) (s : PieceState)
+      → 0 < buckets → PieceRun (code_of p) buckets steps s → length steps < 2 ^ 32 → IsSearched p may steps
+      → RestsInPieces (code_of p) s → AllOver p s.base
+  pub pieces_never_fault : e.complete ≡ true → e.aborted ≡ None → (buckets : ℕ) (steps : List Step) (s : PieceState)
+      (q : ℕ) (cause : Cause)
+      → 0 < buckets → PieceRun (code_of p) buckets steps s → length steps < 2 ^ 32 → IsSearched p may steps
+      → machine_end s.base q ≡ Some (outcome.Aborted cause) → IsCounted may cause → ⊥
 
 -- the text's program, what was found of it, and what that says of its image
 pub record IsExploredText (text : List ℕ) (may : Outside) (r : ExploredText) : Type 0 where

@@ -1,12 +1,14 @@
 -- What a run of a source text by a schedule answers.
 use Rattle.std.specs.Prelude.{◌≡◌, ◌⊎◌, ℕ, List, map}
+use Rattle.words.specs.Limits.{run_buckets}
 use Rattle.isa.specs.Programs.{Program as Image}
-use Rattle.machine.specs.Runs.{MachineRun, Step}
-use Rattle.machine.specs.States.{state_of}
-use Rattle.machine.specs.Views.{concrete}
+use Rattle.machine.specs.PieceSteps.{PieceRun}
+use Rattle.machine.specs.Runs.{Step}
+use Rattle.piece_machine.specs.PieceConcrete.{pieces_at}
+use Rattle.piece_machine.specs.PieceViews.{parts}
 use Rattle.program.specs.Trees.{Program}
 use Rattle.lowering.specs.Pieces.{code_of}
-use Rattle.refinement.specs.Refines.{Explained}
+use Rattle.refinement.specs.Pieces.{ExplainedInPieces}
 use Rattle.runner.specs.declared.report.Report.{Report}
 use Rattle.runner.specs.declared.schedule.ScheduleFault.TheVariants as follow
 use Rattle.runner.specs.declared.schedule.Turn.{Turn}
@@ -28,8 +30,8 @@ pub record IsReplayOfText (text : List ℕ) (schedule : List Turn) (report : Rep
   pub followed : IsFollowed (code_of program) schedule report
   pub steps : List Step
   pub turns : map step_turn steps ≡ schedule
-  pub machine_run : MachineRun (code_of program) steps (state_of (concrete report.last))
-  pub explained : Explained program (code_of program) steps (state_of (concrete report.last))
+  pub machine_run : PieceRun (code_of program) run_buckets steps (pieces_at (parts report.last))
+  pub explained : ExplainedInPieces program (code_of program) steps (pieces_at (parts report.last))
 
 -- why an image of a text isn't run by a schedule to its end: the first entry that is refused, or want of memory
 abbrev pub IsLeftSchedule : Image → List Turn → ReplayFault → Type 0

@@ -1,11 +1,13 @@
 -- What a run of a source text answers.
 use Rattle.std.specs.Prelude.{◌≡◌, ◌⊎◌, ℕ, List}
-use Rattle.machine.specs.Runs.{MachineRun, Step}
-use Rattle.machine.specs.States.{state_of}
-use Rattle.machine.specs.Views.{concrete}
+use Rattle.words.specs.Limits.{run_buckets}
+use Rattle.machine.specs.PieceSteps.{PieceRun}
+use Rattle.machine.specs.Runs.{Step}
+use Rattle.piece_machine.specs.PieceConcrete.{pieces_at}
+use Rattle.piece_machine.specs.PieceViews.{parts}
 use Rattle.program.specs.Trees.{Program}
 use Rattle.lowering.specs.Pieces.{code_of}
-use Rattle.refinement.specs.Refines.{Explained}
+use Rattle.refinement.specs.Pieces.{ExplainedInPieces}
 use Rattle.runner.specs.declared.fault.RunFault.{RunFault}
 use Rattle.runner.specs.declared.report.Report.{Report}
 use Rattle.runner.specs.Logs.{Outside}
@@ -22,8 +24,8 @@ pub record IsRunOfText (text : List ℕ) (may : Outside) (limit : ℕ) (report :
   pub accepts : AcceptsText text program
   pub is_report : IsReport (code_of program) may limit report
   pub steps : List Step
-  pub machine_run : MachineRun (code_of program) steps (state_of (concrete report.last))
-  pub explained : Explained program (code_of program) steps (state_of (concrete report.last))
+  pub machine_run : PieceRun (code_of program) run_buckets steps (pieces_at (parts report.last))
+  pub explained : ExplainedInPieces program (code_of program) steps (pieces_at (parts report.last))
 
 -- the run of that code can fail so
 pub record IsFailedRun (text : List ℕ) (may : Outside) (limit : ℕ) (fault : RunFault) : Type 0 where

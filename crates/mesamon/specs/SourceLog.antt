@@ -1,15 +1,18 @@
 -- What a log that comes from outside answers, as the text of its lines: explained, or run again.
 use Rattle.std.specs.Prelude.{◌≡◌, ◌<◌, ◌^◌, ◌⊎◌, ℕ, List, map}
+use Rattle.words.specs.Limits.{run_buckets}
 use Rattle.isa.specs.Programs.{Program as Image}
 use Rattle.machine.specs.declared.event.Entry.{Entry}
-use Rattle.machine.specs.Runs.{MachineRun, Step}
-use Rattle.machine.specs.States.{ConcreteState, state_of}
+use Rattle.machine.specs.PieceSteps.{PieceRun}
+use Rattle.machine.specs.Runs.{Step}
 use Rattle.machine.specs.Views.{concrete}
+use Rattle.piece_machine.specs.PieceConcrete.{PieceConcrete, pieces_at}
+use Rattle.piece_machine.specs.PieceViews.{parts}
 use Rattle.scanner.specs.Refusals.{out_of_memory}
 use Rattle.program.specs.Names.{said_by}
 use Rattle.program.specs.Trees.{Program}
 use Rattle.lowering.specs.Pieces.{code_of}
-use Rattle.refinement.specs.Refines.{Explained}
+use Rattle.refinement.specs.Pieces.{ExplainedInPieces}
 use Rattle.source_states.specs.Actions.{action_of}
 use Rattle.backend.specs.Refusals.{CodeFits}
 use Rattle.runner.specs.LogSchedules.{IsBadLogEntry, IsFollowedLog}
@@ -45,8 +48,8 @@ FollowsNot image entries fault = ⊥
 pub record IsReportOfLog (p : Program) (entries : List Entry) (r : Report) : Type 0 where
   pub log : r.log.items ≡ entries
   pub last : IsLast (code_of p) entries r.last
-  pub output : r.output.items ≡ (concrete r.last).common.output
-  pub verdict : IsVerdict (concrete r.last) r.verdict
+  pub output : r.output.items ≡ (concrete r.last.view).common.output
+  pub verdict : IsVerdict (concrete r.last.view) r.verdict
 
 -- the lines are those of a log of the code of the text's program, and the actions are its explanation
 pub record IsExplanationOfLog (text lines : List ℕ) (r : ExplainedRun) : Type 0 where
@@ -95,7 +98,7 @@ pub record LinesOfRun (text lines : List ℕ) : Type 0 where
   pub fits : CodeFits program
   pub entries : List Entry
   pub reads : IsLogText lines entries
-  pub machine : ConcreteState
+  pub machine : PieceConcrete
   pub legal : LeadsTo (code_of program) entries machine
   pub short : cost entries < 2 ^ 32
 
@@ -111,8 +114,8 @@ pub record IsReplayOfLog (text lines : List ℕ) (report : Report) : Type 0 wher
   pub log : ReadsLog text lines
   pub followed : IsFollowedLog (code_of log.program) log.entries report
   pub steps : List Step
-  pub machine_run : MachineRun (code_of log.program) steps (state_of (concrete report.last))
-  pub explained : Explained log.program (code_of log.program) steps (state_of (concrete report.last))
+  pub machine_run : PieceRun (code_of log.program) run_buckets steps (pieces_at (parts report.last))
+  pub explained : ExplainedInPieces log.program (code_of log.program) steps (pieces_at (parts report.last))
 
 -- the entry of this number is the first that the code of the text's program can't follow
 pub record CannotFollow (text lines : List ℕ) (number : ℕ) : Type 0 where

@@ -1,5 +1,5 @@
 ghost use Rattle.std.specs.Prelude.{◌≡◌, ◌<◌, ◌^◌, is_some, IfOk, IfErr, List, MatchResult, map, ℕ};
-ghost use Rattle.machine.specs.States.{ConcreteState};
+ghost use Rattle.piece_machine.specs.PieceConcrete.{PieceConcrete};
 ghost use Rattle.program.specs.Names.{said_by};
 ghost use Rattle.program.specs.Trees.{Program};
 ghost use Rattle.source_states.specs.Actions.{action_of};
@@ -117,7 +117,7 @@ fn explain_run(
     log: LogReader<'_>,
 ) -> Result<Vec<Action>, ExplainSourceFault>
     requires own { IsLowered (said_by checked.now) lowered }
-    requires legal { (k : ConcreteState) × LeadsTo lowered.image log k }
+    requires legal { (k : PieceConcrete) × LeadsTo lowered.image log k }
     requires few { cost log < 2 ^ 32 }
     ensures { MatchResult result
         (λ actions. IsExplainedLog (said_by checked.now) lowered.image log.entry

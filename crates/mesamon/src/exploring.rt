@@ -42,7 +42,7 @@ pub struct ExploredText<'a> {
 ///
 /// Where the search was complete and found none, there is none, and so no schedule of the text's image hangs, or has a
 /// thread that aborts: with strays whatever wakes come from outside, else as long as none do; and as long as no more
-/// threads are killed.
+/// threads are killed. That is so where futex calls are whole, and where they are taken in pieces.
 ///
 /// How far the search has come is told as it goes.
 ///

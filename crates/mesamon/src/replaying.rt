@@ -20,8 +20,8 @@ pub enum ReplayFault {
     /// The text has no image.
     #[error("{0}")]
     Refused(Refusal),
-    /// The entry of the schedule that has this number, from 1, is a step of a thread that can't move, or a stray wake
-    /// of one that doesn't sleep; or its number is past 4294967295.
+    /// The entry of the schedule that has this number, from 1, is a step of a thread that can't move, or whose step a
+    /// held bucket is in the way of, or a stray wake of one that doesn't sleep; or its number is past 4294967295.
     #[error("schedule entry {0}")]
     BadEntry(u64),
     /// There is no memory for the run.
@@ -56,12 +56,13 @@ pub fn follow_compiled(
 }
 
 /// Compiles a source text and runs its image by a schedule: at each of its turns a thread takes one step of the
-/// machine, local or shared, or a thread that sleeps is woken from outside. Each turn is an entry of the log.
+/// machine, local, shared or a piece of its futex call, or a thread that sleeps is woken from outside. Each turn is an
+/// entry of the log.
 ///
 /// Some run of the text's program explains the report, as with `run_source`. The verdict is Limit where some thread can
-/// still move. A text that `compile` refuses has the same refusal; else the first turn of a thread that can't move, or
-/// that is to be woken and doesn't sleep, is refused. No step of a program's code may not be, so there is no other
-/// fault but want of memory.
+/// still move. A text that `compile` refuses has the same refusal; else the first turn of a thread that can't move, for
+/// a held bucket too, or that is to be woken and doesn't sleep, is refused. No step of a program's code may not be, so
+/// there is no other fault but want of memory.
 pub fn replay(alloc: Global, text: &[u8], schedule: &[Turn]) -> Result<Report, ReplayFault>
     ensures report { IfOk result (λ report. IsReplayOfText text.now schedule.now report) }
     ensures fault { IfErr result (λ fault. IsRefusedReplay text.now schedule.now fault) }

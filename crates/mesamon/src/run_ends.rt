@@ -22,7 +22,7 @@ fn has_aborted(machine: &Machine) -> bool {
 
 // Whether anything is to be told of a run.
 fn is_told(report: &Report) -> bool {
-    report.verdict != Verdict::Done || has_aborted(&report.last)
+    report.verdict != Verdict::Done || has_aborted(report.last.machine())
 }
 
 // How many steps a log has.

@@ -7,7 +7,7 @@ use Rattle.machine.specs.declared.event.Entry.{Entry}
 use Rattle.machine.specs.declared.event.Event.{Event}
 use Rattle.machine.specs.declared.thread_set.ThreadSet.{ThreadSet}
 use Rattle.packed_log.specs.Packing.{event_of, name_of, sets_of, kept, set_at, kind_in, thread_in, local_in}
-use Rattle.packed_log.specs.Packing.{wakes_in, moves_in, value_in}
+use Rattle.packed_log.specs.Packing.{wakes_in, moves_in, value_in, widened}
 use Rattle.packed_log.specs.Views.{IsHeadOf, HasHead}
 
 -- the head of these parts
@@ -72,7 +72,8 @@ pub record Parts (entry : Entry) (event : Event) (k : ℕ) : Type 0 where
   pub value : event.value < 4294967296
 
 step_head_is : (entry : Entry) (event : Event) (k : ℕ) → Parts entry event k
-    → IsHeadOf entry (of_parts entry.thread entry.local k (beside event.woken.bits) (beside event.moved.bits) event.value)
+    → IsHeadOf entry
+    (widened (of_parts entry.thread entry.local k (beside event.woken.bits) (beside event.moved.bits) event.value))
 step_head_is entry event k is =
     let t = entry.thread in
     let l = entry.local in
@@ -113,5 +114,13 @@ step_head_is entry event k is =
 -- the same of numbers that are these parts
 pub step_head : (entry : Entry) (event : Event) (t l k a b v : ℕ) → Parts entry event k
     → t ≡ entry.thread → l ≡ entry.local → a ≡ beside event.woken.bits → b ≡ beside event.moved.bits → v ≡ event.value
-    → IsHeadOf entry (of_parts t l k a b v)
+    → IsHeadOf entry (widened (of_parts t l k a b v))
 step_head entry event t l k a b v is ti li ai bi vi = rw (ti, li, ai, bi, vi) (step_head_is entry event k is)
+
+-- a head whose thread and local steps stand beside it
+pub wide_head : (entry : Entry) (head : ℕ) → IsHeadOf (record entry { thread = 0; local = 0 }) (widened head)
+    → IsHeadOf entry (record { thread = entry.thread; local = entry.local; head = head })
+wide_head entry head is = record {
+  reads = λ more i. record { thread = entry.thread; local = entry.local; event = (is.reads more i).event };
+  beside = is.beside;
+}

@@ -1,12 +1,14 @@
--- A log in words: a head for each entry, and beside them the sets of threads that aren't empty.
+-- A log in words: a head for each entry, and beside them the sets of threads that aren't empty. Where an entry's thread
+-- and local steps have no room in a head, they stand beside it.
 use Rattle.std.specs.Prelude.{ℕ, ◌+◌, ◌/◌, ◌%◌, ◌^◌, ◌==◌, if◌then◌else◌}
-use Rattle.std.specs.Prelude.{List, [], ◌∷◌, ◌++◌, drop, get_or, Option, Some, None}
+use Rattle.std.specs.Prelude.{List, [], ◌∷◌, ◌++◌, map, drop, get_or, Option, Some, None}
 use Rattle.machine.specs.declared.event.Entry.{Entry}
 use Rattle.machine.specs.declared.event.Event.{Event}
 use Rattle.machine.specs.declared.event.EventName.{EventName}
 use Rattle.machine.specs.declared.event.EventName.TheVariants as name
 use Rattle.machine.specs.declared.thread_set.ThreadSet.{ThreadSet}
 use Rattle.machine.specs.ThreadSets.{set_of}
+use Rattle.packed_log.specs.declared.wide_head.WideHead.{WideHead}
 
 -- the kind of step of a number; of another one there is none
 abbrev pub name_of : ℕ → Option EventName
@@ -75,23 +77,31 @@ event_of (Some kind) head sets = Some (record {
   moved = set_at (moves_in head) sets (wakes_in head);
 })
 
--- the entry of a head, where these are its sets and those that follow
-abbrev pub entry_of : ℕ → List ThreadSet → Entry
-entry_of head sets = record {
-  thread = thread_in head;
-  local = local_in head;
-  event = event_of (name_of (kind_in head)) head sets;
+-- a head with its thread and its local steps beside it
+abbrev pub widened : ℕ → WideHead
+widened head = record { thread = thread_in head; local = local_in head; head = head }
+
+-- the entry of such a head, where these are its sets and those that follow
+abbrev pub entry_of : WideHead → List ThreadSet → Entry
+entry_of wide sets = record {
+  thread = wide.thread;
+  local = wide.local;
+  event = event_of (name_of (kind_in wide.head)) wide.head sets;
 }
 
+-- the heads of a log: those that have their threads and local steps, and then those with these beside them
+abbrev pub heads_of : List ℕ → List WideHead → List WideHead
+heads_of heads wide = map widened heads ++ wide
+
 -- the entries of heads, with the sets beside them
-abbrev pub entries_of : List ℕ → List ThreadSet → List Entry
+abbrev pub entries_of : List WideHead → List ThreadSet → List Entry
 entries_of [] sets = []
-entries_of (head ∷ heads) sets = entry_of head sets ∷ entries_of heads (drop (sets_in head) sets)
+entries_of (wide ∷ heads) sets = entry_of wide sets ∷ entries_of heads (drop (sets_in wide.head) sets)
 
 -- how many sets stand beside heads
-abbrev pub sets_of_heads : List ℕ → ℕ
+abbrev pub sets_of_heads : List WideHead → ℕ
 sets_of_heads [] = 0
-sets_of_heads (head ∷ heads) = sets_in head + sets_of_heads heads
+sets_of_heads (wide ∷ heads) = sets_in wide.head + sets_of_heads heads
 
 -- a set as it stands beside a head: where it is empty it doesn't
 abbrev pub kept : ThreadSet → List ThreadSet

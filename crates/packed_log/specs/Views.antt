@@ -3,18 +3,19 @@ use Rattle.std.specs.Prelude.{ℕ, ◌≡◌, ◌<◌, ◌^◌, ◌/◌, min, Li
 use Rattle.machine.specs.declared.event.Entry.{Entry}
 use Rattle.machine.specs.declared.thread_set.ThreadSet.{ThreadSet}
 use Rattle.packed_log.specs.Packing.{entry_of, sets_of, sets_in, sets_of_heads}
+use Rattle.packed_log.specs.declared.wide_head.WideHead.{WideHead}
 
 -- its entries, and for how many more there is room
 pub record PackedView : Type 0 where
   pub items : List Entry
   pub room : ℕ
 
--- for how many entries more there is room, with this room for heads, for sets and for whole entries
+-- for how many entries more there is room, with this room for heads of both kinds and for sets
 abbrev pub room_for : ℕ → ℕ → ℕ → ℕ
-room_for heads sets whole = min (min heads (sets / 2)) whole
+room_for heads sets wide = min (min heads (sets / 2)) wide
 
 -- no set is missing, and none stands behind the last entry's
-abbrev pub IsPacked : List ℕ → List ThreadSet → Type 0
+abbrev pub IsPacked : List WideHead → List ThreadSet → Type 0
 IsPacked heads sets = length sets ≡ sets_of_heads heads
 
 -- an entry whose thread and local steps have room in a head
@@ -23,6 +24,6 @@ pub record HasHead (entry : Entry) : Type 0 where
   pub local : entry.local < 2 ^ 9
 
 -- a head is an entry's: with the entry's sets behind it, it is read as the entry, and has no other sets
-pub record IsHeadOf (entry : Entry) (head : ℕ) : Type 0 where
-  pub reads : (more : List ThreadSet) → entry_of head (sets_of entry.event ++ more) ≡ entry
-  pub beside : sets_in head ≡ length (sets_of entry.event)
+pub record IsHeadOf (entry : Entry) (wide : WideHead) : Type 0 where
+  pub reads : (more : List ThreadSet) → entry_of wide (sets_of entry.event ++ more) ≡ entry
+  pub beside : sets_in wide.head ≡ length (sets_of entry.event)

@@ -1,9 +1,10 @@
 //! The head of an entry, as the crate's page has its bits.
 ghost use Rattle.std.specs.Prelude.{◌≡◌, ◌==◌, ◌<◌, if◌then◌else◌, MatchBool};
-ghost use Rattle.packed_log.specs.Packing.{entry_of, event_of, kind_in, name_of, set_at as set_in, sets_in};
+ghost use Rattle.packed_log.specs.Packing.{entry_of, event_of, kind_in, name_of, set_at as set_in, sets_in, widened};
 ghost use Rattle.packed_log.specs.Views.{IsHeadOf, HasHead};
 
 use crate::names::{name_at, number_of};
+use crate::wide_head::WideHead;
 use machine::{Entry, Event, ThreadSet};
 
 // The lowest bit of each part but the first.
@@ -27,10 +28,9 @@ pub fn has_head(entry: Entry) -> bool
 }
 
 /// The head of an entry that has one.
-
 pub fn head_of(entry: Entry) -> u64
     requires { HasHead entry }
-    ensures { IsHeadOf entry result }
+    ensures { IsHeadOf entry (widened result) }
 {
     let turn = u64::from(entry.thread) + u64::from(entry.local) * LOCAL;
     match entry.event {
@@ -44,6 +44,33 @@ pub fn head_of(entry: Entry) -> u64
     }
 }
 
+/// The head of any entry, with its thread and its local steps beside it.
+pub fn wide_head_of(entry: Entry) -> WideHead
+    ensures { IsHeadOf entry result }
+{
+    let head = head_of(Entry {
+        thread: 0,
+        local: 0,
+        event: entry.event,
+    });
+    WideHead {
+        thread: entry.thread,
+        local: entry.local,
+        head,
+    }
+}
+
+/// A head with the thread and the local steps that it says beside it.
+pub fn widen(head: u64) -> WideHead
+    ensures { result ≡ widened head }
+{
+    WideHead {
+        thread: (head % LOCAL) as u32,
+        local: (head / LOCAL % (KIND / LOCAL)) as u32,
+        head,
+    }
+}
+
 // How often a set stands beside its head.
 fn beside(set: ThreadSet) -> u64
     ensures { result ≡ (if set.bits == 0 then 0 else 1) }
@@ -52,13 +79,13 @@ fn beside(set: ThreadSet) -> u64
 }
 
 /// The entry of a head, where these are its sets and those that follow.
-pub fn entry_at(head: u64, sets: &[ThreadSet]) -> Entry
-    ensures { result ≡ entry_of head sets.now }
+pub fn entry_at(wide: WideHead, sets: &[ThreadSet]) -> Entry
+    ensures { result ≡ entry_of wide sets.now }
 {
     Entry {
-        thread: (head % LOCAL) as u32,
-        local: (head / LOCAL % (KIND / LOCAL)) as u32,
-        event: event_at(head, sets),
+        thread: wide.thread,
+        local: wide.local,
+        event: event_at(wide.head, sets),
     }
 }
 

@@ -17,14 +17,16 @@
 //! The numbers of 1,000 threads have room, and so have 8 kinds more. Sets of so many threads will want two forms, one
 //! thread in 8 bytes and several as bits in 128: the numbers 2 and 3 of bits 24 to 27 are free for that.
 //!
-//! An entry of a thread above 1,023, or of more than 511 local steps, has no head. From the first such entry on a log's
-//! entries stand whole, in a third list. No run makes such an entry, but a log that somebody wrote may have one.
+//! The thread and the local steps of an entry have no room in a head where the thread is above 1,023, or the steps are more
+//! than 511. From the first such entry on these two numbers stand beside each head, in a third list, and the head says none:
+//! 16 bytes for an entry. No run makes such an entry, but a log that somebody wrote may have one.
 #![tactic(auto)]
 
 mod head;
 mod names;
 mod packed_log;
 mod reader;
+mod wide_head;
 
 pub use packed_log::PackedLog;
 pub use reader::LogReader;

@@ -1,10 +1,11 @@
 ghost use Rattle.std.specs.Prelude.{◌≡◌, ◌≢◌, ◌≤◌, ◌<◌, ◌+◌, ◌-◌, ◌^◌, ◌++◌, ◌∷◌, [], length, slice_get};
 ghost use Rattle.std.specs.Prelude.{OnOk, IfOk, MatchBool, is_ok, if◌then◌else◌, vec_len, vec_capacity};
-ghost use Rattle.packed_log.specs.Packing.{entries_of, kept, sets_of};
-ghost use Rattle.packed_log.specs.Views.{HasHead, IsPacked as IsPackedIn};
+ghost use Rattle.packed_log.specs.Packing.{entries_of, heads_of, kept, sets_of};
+ghost use Rattle.packed_log.specs.Views.{IsPacked as IsPackedIn};
 
-use crate::head::{entry_at, has_head, head_of, sets_beside};
+use crate::head::{entry_at, has_head, head_of, sets_beside, wide_head_of, widen};
 use crate::reader::LogReader;
+use crate::wide_head::WideHead;
 use machine::{Entry, Event, ThreadSet};
 use std::alloc::{AllocError, Global};
 use std::marker::Model;
@@ -13,26 +14,26 @@ use std::marker::Model;
 #[derive(Drop)]
 pub struct PackedLog {
     heads: Vec<u64>,
-    // The sets beside the heads, in the order of the entries, of each entry that of the woken threads first.
+    // The heads from the first entry on whose thread or local steps have no room in one.
+    wide: Vec<WideHead>,
+    // The sets beside all heads, in the order of the entries, of each entry that of the woken threads first.
     sets: Vec<ThreadSet>,
-    // The entries from the first on that has no head.
-    whole: Vec<Entry>,
 }
 
 impl Model for PackedLog {
-    ghost use Rattle.std.specs.Prelude.{◌++◌, ◌-◌, vec_len, vec_capacity};
-    ghost use Rattle.packed_log.specs.Packing.{entries_of};
+    ghost use Rattle.std.specs.Prelude.{◌-◌, vec_len, vec_capacity};
+    ghost use Rattle.packed_log.specs.Packing.{entries_of, heads_of};
     ghost use Rattle.packed_log.specs.Views.{PackedView, room_for, IsPacked};
 
     ghost Value = { PackedView };
 
     ghost view = { λ l. record {
-      items = entries_of l.heads.items l.sets.items ++ l.whole.items;
+      items = entries_of (heads_of l.heads.items l.wide.items) l.sets.items;
       room = room_for (vec_capacity l.heads - vec_len l.heads) (vec_capacity l.sets - vec_len l.sets)
-          (vec_capacity l.whole - vec_len l.whole);
+          (vec_capacity l.wide - vec_len l.wide);
     } };
 
-    ghost invariant = { λ l. IsPacked l.heads.items l.sets.items };
+    ghost invariant = { λ l. IsPacked (heads_of l.heads.items l.wide.items) l.sets.items };
 }
 
 impl PackedLog {
@@ -42,8 +43,8 @@ impl PackedLog {
     {
         PackedLog {
             heads: Vec::new(alloc),
+            wide: Vec::new(alloc),
             sets: Vec::new(alloc),
-            whole: Vec::new(alloc),
         }
     }
 
@@ -53,27 +54,16 @@ impl PackedLog {
     {
         Ok(PackedLog {
             heads: Vec::with_capacity(alloc, count)?,
+            wide: Vec::new(alloc),
             sets: Vec::new(alloc),
-            whole: Vec::new(alloc),
         })
-    }
-
-    /// A log of the entries of a list, which are left as they stand.
-    pub fn of(alloc: Global, entries: Vec<Entry>) -> PackedLog
-        ensures { result.items ≡ entries.items }
-    {
-        PackedLog {
-            heads: Vec::new(alloc),
-            sets: Vec::new(alloc),
-            whole: entries,
-        }
     }
 
     /// How many entries it has.
     pub fn len(&self) -> usize
         ensures { result ≡ length self.now.items }
     {
-        self.heads.len() + self.whole.len()
+        self.heads.len() + self.wide.len()
     }
 
     /// Whether it has none.
@@ -88,10 +78,11 @@ impl PackedLog {
     pub fn last(&self) -> Option<Entry>
         ensures { result ≡ slice_get self.now.items (length self.now.items - 1) }
     {
-        if let Some(entry) = self.whole.last() {
-            return Some(*entry);
-        }
-        last_packed(self.heads.as_slice(), self.sets.as_slice())
+        last_packed(
+            self.heads.as_slice(),
+            self.wide.as_slice(),
+            self.sets.as_slice(),
+        )
     }
 
     /// Makes room for one entry more at least.
@@ -102,7 +93,7 @@ impl PackedLog {
     {
         self.heads.reserve(1)?;
         self.sets.reserve(2)?;
-        self.whole.reserve(1)
+        self.wide.reserve(1)
     }
 
     /// Puts an entry, for which there is room, at the end.
@@ -111,10 +102,11 @@ impl PackedLog {
         ensures entries { self.new.items ≡ self.old.items ++ entry ∷ [] }
         ensures room { self.old.room ≤ self.new.room + 1 }
     {
-        if self.whole.is_empty() && has_head(entry) {
-            push_packed(&mut self.heads, &mut self.sets, entry);
+        push_sets(&mut self.sets, entry.event);
+        if self.wide.is_empty() && has_head(entry) {
+            self.heads.push_reserved(head_of(entry));
         } else {
-            self.whole.push_reserved(entry);
+            self.wide.push_reserved(wide_head_of(entry));
         }
     }
 
@@ -134,8 +126,8 @@ impl PackedLog {
     {
         LogReader::new(
             self.heads.as_slice(),
+            self.wide.as_slice(),
             self.sets.as_slice(),
-            self.whole.as_slice(),
         )
     }
 
@@ -152,30 +144,25 @@ impl PackedLog {
 }
 
 // The last entry of packed ones.
-fn last_packed(heads: &[u64], sets: &[ThreadSet]) -> Option<Entry>
-    requires { IsPackedIn heads.now sets.now }
-    ensures { let entries = entries_of heads.now sets.now in
+fn last_packed(heads: &[u64], wide: &[WideHead], sets: &[ThreadSet]) -> Option<Entry>
+    requires { IsPackedIn (heads_of heads.now wide.now) sets.now }
+    ensures { let entries = entries_of (heads_of heads.now wide.now) sets.now in
         result ≡ slice_get entries (length entries - 1) }
 {
-    let head = *heads.last()?;
-    let before = sets.len() - sets_beside(head);
+    let head = last_head(heads, wide)?;
+    let before = sets.len() - sets_beside(head.head);
     Some(entry_at(head, &sets[before..]))
 }
 
-// Puts an entry that has a head behind packed ones.
-fn push_packed(heads: &mut Vec<u64>, sets: &mut Vec<ThreadSet>, entry: Entry)
-    requires room { vec_len heads.old < vec_capacity heads.old }
-    requires sets_room { vec_len sets.old + 2 ≤ vec_capacity sets.old }
-    requires packed { IsPackedIn heads.old.items sets.old.items }
-    requires has { HasHead entry }
-    ensures entries { entries_of heads.new.items sets.new.items
-        ≡ entries_of heads.old.items sets.old.items ++ entry ∷ [] }
-    ensures packed { IsPackedIn heads.new.items sets.new.items }
-    ensures room { (vec_capacity heads.new ≡ vec_capacity heads.old) × (vec_len heads.new ≡ vec_len heads.old + 1) }
-    ensures sets_room { (vec_capacity sets.new ≡ vec_capacity sets.old) × (vec_len sets.new ≤ vec_len sets.old + 2) }
+// The last head, with its entry's thread and local steps.
+fn last_head(heads: &[u64], wide: &[WideHead]) -> Option<WideHead>
+    ensures { let all = heads_of heads.now wide.now in result ≡ slice_get all (length all - 1) }
 {
-    push_sets(sets, entry.event);
-    heads.push_reserved(head_of(entry));
+    if let Some(head) = wide.last() {
+        return Some(*head);
+    }
+    let head = heads.last()?;
+    Some(widen(*head))
 }
 
 // Puts the sets of a step at the end.
@@ -255,10 +242,10 @@ mod tests {
         }
         let list = log.to_vec(rt.alloc())?;
         assert_eq!(rt; list.as_slice(), &entries[..]);
-        let mut whole = PackedLog::of(rt.alloc(), list);
-        whole.make_room()?;
-        whole.push_reserved(entries[0]);
-        assert_eq!(rt; whole.len(), 6);
+        log.make_room()?;
+        log.push_reserved(entries[0]);
+        assert_eq!(rt; log.len(), 6);
+        assert_eq!(rt; log.last(), Some(entries[0]));
         assert!(rt; PackedLog::with_capacity(rt.alloc(), 6)?.is_empty());
         let mut reader = LogReader::of(&entries);
         assert_eq!(rt; reader.len(), 5);

@@ -1,20 +1,29 @@
 -- Runs of the machine with pieces itself are runs of the relation.
-use Rattle.std.proofs.Common.{◌≡◌, ◌<◌, ◌≤◌, ◌==◌, ℕ, List, [], ◌∷◌, Ok, false, map, refl, ap, sym, subst, inl, inr}
+use Rattle.std.proofs.Common.{◌≡◌, ◌<◌, ◌≤◌, ◌==◌, ◌+◌, ℕ, zero, suc, List, [], ◌∷◌, ◌++◌, Some, map, replicate}
+use Rattle.std.proofs.Common.{refl, ap, sym, ◌∙◌, subst, inl, inr, arith}
+use Rattle.std.proofs.lemmas.List.{replicate_more}
 use Rattle.words.specs.Limits.{most_threads}
 use Rattle.words.specs.Versions.{most_of}
 use Rattle.isa.specs.Programs.{Program}
+use Rattle.locals.specs.Threads.{Thread}
+use Rattle.locals.specs.Steps.{local_after}
+use Rattle.machine.specs.declared.event.EventName.TheVariants as name
+use Rattle.machine.specs.ConcreteServing.{plain}
 use Rattle.machine.specs.FrontRuns.{EventStep, label_of, event_label}
 use Rattle.machine.specs.PieceStates.{PieceState, IsHeldRight, opening_pieces}
 use Rattle.machine.specs.PieceSteps.{GoesByPieces, IsPieceStep}
 use Rattle.machine.specs.Runs.{Step}
+use Rattle.machine.proofs.Placing.{thread_at-put}
 use Rattle.machine.proofs.Stepping.{opens_so}
 use Rattle.proof_pieces.proofs.Runs.{runs_so}
-use Rattle.piece_machine.specs.PieceConcrete.{PieceConcrete, pieces_at, opening_at}
+use Rattle.piece_machine.specs.PieceConcrete.{PieceConcrete, pieces_at, opening_at, with_local}
 use Rattle.piece_machine.specs.PieceDetermined.{IsFit}
 use Rattle.piece_machine.specs.PieceFronts.{FrontPiece, FrontPieces, PiecesRunSo}
 use Rattle.piece_machine.specs.PieceViews.{own_step, stray_step, kill_step}
 use Rattle.piece_machine.proofs.Beyond.{pieces_open_so, piece_strays_so, piece_kills_so}
+use Rattle.piece_machine.proofs.Cases.{Stands}
 use Rattle.piece_machine.proofs.Determined.{piece_steps_so}
+use Rattle.piece_machine.proofs.Locally.{before_last, local_is, set_same, twice}
 
 -- a step of the relation that is one of the machine itself
 pub record IsStepOf (p : Program) (k : PieceConcrete) (s : EventStep) (k' : PieceConcrete) : Type 0 where
@@ -90,3 +99,34 @@ pub pieces_run_so : PiecesRunSo
 pieces_run_so p n k steps some fits runs =
     let r = run_of p (opening_at p n) k steps (opening_fit p n some fits) runs in
     (r.run, subst (λ (s : PieceState). GoesByPieces p s r.run (pieces_at k)) (pieces_open_so p n) r.goes, r.same, r.fit)
+
+-- steps after steps
+pub fronts_on : (p : Program) (a b c : PieceConcrete) (xs ys : List EventStep) → FrontPieces p a xs b
+    → FrontPieces p b ys c → FrontPieces p a (xs ++ ys) c
+fronts_on p a b c [] ys same more = subst (λ (q : PieceConcrete). FrontPieces p q ys c) (sym same) more
+fronts_on p a b c (x ∷ xs) ys runs more = (runs.0, runs.1, fronts_on p runs.0 b c xs ys runs.2 more)
+
+-- local steps of a thread that is awake, one by one
+abbrev local_step_of : ℕ → EventStep
+local_step_of t = record { thread = t; event = plain name.Local 0 }
+
+pub locals_front : (p : Program) (k : PieceConcrete) (t : ℕ) (x here : Thread) (n : ℕ) → Stands p k t x
+    → local_after p t n x ≡ Some here → FrontPieces p k (replicate n (local_step_of t)) (with_local k t here)
+locals_front p k t x here zero stands goes =
+    let same : x ≡ here = cc in λ i. record k {
+      concrete = record {
+        common = k.concrete.common;
+        threads = sym (set_same k.concrete.threads t here (stands.0 ∙ ap (λ y. Some y) same)) i;
+      };
+    }
+locals_front p k t x here (suc n) stands goes =
+    let b = before_last p t (local_after p t n x) here goes in
+    let mid = with_local k t b.0 in
+    let one = local_is p mid t b.0 here (thread_at-put k.concrete.threads t x b.0 stands.0, stands.1) b.2 in
+    let run = fronts_on p k mid (with_local mid t here) (replicate n (local_step_of t)) (local_step_of t ∷ [])
+    (locals_front p k t x b.0 n stands b.1) (with_local mid t here, inl one, refl) in
+    let count : n + 1 ≡ suc n = omega arith in
+    let many : replicate n (local_step_of t) ++ local_step_of t ∷ [] ≡ replicate (suc n) (local_step_of t) =
+    replicate_more n (local_step_of t) ∙ ap (λ (j : ℕ). replicate j (local_step_of t)) count in
+    subst (λ (q : PieceConcrete). FrontPieces p k (replicate (suc n) (local_step_of t)) q) (twice k t b.0 here)
+    (subst (λ (xs : List EventStep). FrontPieces p k xs (with_local mid t here)) many run)

@@ -13,3 +13,4 @@ pub mod Taken
 pub mod Beyond
 pub mod Locally
 pub mod Fronts
+pub mod Committed

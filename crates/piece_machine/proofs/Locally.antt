@@ -17,11 +17,12 @@ use Rattle.machine.specs.Runs.{Step}
 use Rattle.machine.specs.Views.{View, concrete}
 use Rattle.machine.proofs.Placing.{thread_at-put}
 use Rattle.machine.proofs.Refusing.{moves_so}
-use Rattle.piece_machine.specs.PieceConcrete.{PieceConcrete, pieces_at, with_local}
+use Rattle.piece_machine.specs.PieceConcrete.{PieceConcrete, pieces_at, piece_of, whole_at, with_local}
 use Rattle.piece_machine.specs.PieceDetermined.{IsFit}
-use Rattle.piece_machine.specs.PieceViews.{parts, own_step, IsKept, IsComeTo, GoesTo}
+use Rattle.piece_machine.specs.PieceViews.{parts, own_step, IsApart, IsKept, IsComeTo, GoesTo}
 use Rattle.piece_machine.proofs.Cases.{Stands, apart}
 use Rattle.piece_machine.proofs.Determined.{whole_done}
+use Rattle.piece_machine.proofs.Given.{whole_is}
 use Rattle.piece_machine.proofs.Owns.{goes_more, kept_fit}
 
 set_twice : {A : Type 0} → (xs : List A) (i : ℕ) (x y : A) → slice_set (slice_set xs i x) i y ≡ slice_set xs i y
@@ -29,7 +30,7 @@ set_twice [] i x y = refl
 set_twice (z ∷ zs) zero x y = refl
 set_twice (z ∷ zs) (suc i) x y = ap (λ ws. z ∷ ws) (set_twice zs i x y)
 
-twice : (k : PieceConcrete) (t : ℕ) (x y : Thread) → with_local (with_local k t x) t y ≡ with_local k t y
+pub twice : (k : PieceConcrete) (t : ℕ) (x y : Thread) → with_local (with_local k t x) t y ≡ with_local k t y
 twice k t x y = λ i. record k {
   concrete = record { common = k.concrete.common; threads = set_twice k.concrete.threads (t - 1) x y i };
 }
@@ -40,7 +41,7 @@ put_back [] i x h = refl
 put_back (y ∷ ys) zero x h = let e : y ≡ x = cc in ap (λ z. z ∷ ys) (sym e)
 put_back (y ∷ ys) (suc i) x h = ap (λ zs. y ∷ zs) (put_back ys i x h)
 
-set_same : (threads : List Thread) (t : ℕ) (x : Thread) → thread_at threads t ≡ Some x
+pub set_same : (threads : List Thread) (t : ℕ) (x : Thread) → thread_at threads t ≡ Some x
     → slice_set threads (t - 1) x ≡ threads
 set_same threads zero x h = absurd cc
 set_same threads (suc t) x h =
@@ -67,15 +68,29 @@ look_goes (Leaves phase) z h = absurd cc
 look_goes Breaks z h = absurd cc
 look_goes Rests z h = absurd cc
 
+goes_apart : (p : Program) (k : PieceConcrete) (t : ℕ) (y z : Thread) → Stands p k t y → local_step p t y ≡ Some z
+    → IsApart p (pieces_at k) t
+goes_apart p k t y z stands goes =
+    apart p k t y (Goes z) stands (look_goes (look p t y) z goes) refl (λ b. b)
+
+goes_on : (p : Program) (k : PieceConcrete) (t : ℕ) (y z : Thread) → Stands p k t y → local_step p t y ≡ Some z
+    → step_of p k.concrete t ≡ Ok (put_thread k.concrete t z, plain name.Local 0)
+goes_on p k t y z stands goes =
+    ap (step_thread p k.concrete t) stands.0 ∙ ap (step_awake p k.concrete t y) stands.1
+    ∙ ap (λ l. on_machine k.concrete t (thread_step (length k.concrete.threads) t k.concrete.common l))
+    (look_goes (look p t y) z goes)
+
+-- a local step is one of the machine with pieces
+pub local_is : (p : Program) (k : PieceConcrete) (t : ℕ) (y z : Thread) → Stands p k t y → local_step p t y ≡ Some z
+    → piece_of p k t ≡ Ok (with_local k t z, plain name.Local 0)
+local_is p k t y z stands goes =
+    whole_is p k t (goes_apart p k t y z stands goes) ∙ ap (whole_at k) (goes_on p k t y z stands goes)
+
 local_one : (p : Program) (k : PieceConcrete) (t : ℕ) (y z : Thread) → IsIn p k → Stands p k t y → local_step p t y ≡ Some z
     → IsIn p (with_local k t z)
 local_one p k t y z here stands goes =
-    let looks = look_goes (look p t y) z goes in
-    let done : step_of p k.concrete t ≡ Ok (put_thread k.concrete t z, plain name.Local 0) =
-    ap (step_thread p k.concrete t) stands.0 ∙ ap (step_awake p k.concrete t y) stands.1
-    ∙ ap (λ l. on_machine k.concrete t (thread_step (length k.concrete.threads) t k.concrete.common l)) looks in
     let r = whole_done p k (put_thread k.concrete t z) t (plain name.Local 0) here.fit
-    (apart p k t y (Goes z) stands looks refl (λ b. b)) done in
+    (goes_apart p k t y z stands goes) (goes_on p k t y z stands goes) in
     record {
       fit = r.1;
       come = come_on p (pieces_at k) (pieces_at (with_local k t z))
@@ -83,7 +98,7 @@ local_one p k t y z here stands goes =
     }
 
 -- the thread of the step before the last
-before_last : (p : Program) (t : ℕ) (o : Option Thread) (z : Thread) → and_step p t o ≡ Some z
+pub before_last : (p : Program) (t : ℕ) (o : Option Thread) (z : Thread) → and_step p t o ≡ Some z
     → (y : Thread) × (o ≡ Some y) × (local_step p t y ≡ Some z)
 before_last p t None z h = absurd cc
 before_last p t (Some y) z h = (y, refl, h)

@@ -7,6 +7,7 @@ mod local_steps;
 mod movers;
 mod outside;
 mod piece_machine;
+mod sleeping;
 
 pub use laws::functions_are_steps;
 pub use piece_machine::PieceMachine;

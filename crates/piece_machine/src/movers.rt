@@ -1,11 +1,12 @@
 //! Which threads can take a step, and what one would be refused for.
 ghost use Rattle.std.specs.Prelude.{◌≡◌, ◌≤◌, ◌<◌, ℕ, Some, None, true, length, MatchBool};
+ghost use Rattle.futexcalls.specs.declared.pieces.FutexPhase.TheVariants.{First};
 ghost use Rattle.machine.specs.PieceSteps.{BlocksCall, CanTakePiece};
 ghost use Rattle.piece_machine.specs.PieceConcrete.{can_take, piece_fault_at};
 ghost use Rattle.piece_machine.specs.PieceViews.{pieces, parts, GoesTo, IsBlocked, IsAtRest, RefusesCall};
 
 use crate::piece_machine::{PieceMachine, call_in};
-use futexcalls::FutexCall;
+use futexcalls::{FutexCall, FutexPhase};
 use locals::{Local, NextStep};
 use machine::StepFault;
 
@@ -31,6 +32,26 @@ impl PieceMachine {
             }
         }
         true
+    }
+
+    /// Whether nobody holds a bucket, since no thread is within a call.
+    pub fn holds_none(&self) -> bool
+        ensures { result ≡ true → (b : ℕ) → (pieces self.now).holder b ≡ None }
+    {
+        for t in 0..self.machine.threads() {
+            if !self.is_outside(t + 1) {
+                return false;
+            }
+        }
+        true
+    }
+
+    // Whether thread `t` is outside calls.
+    fn is_outside(&self, t: u32) -> bool
+        requires { (0 < t) × (t ≤ length self.now.view.threads) }
+        ensures { result ≡ true → (pieces self.now).phase t ≡ First }
+    {
+        matches!(self.phases[t as usize], FutexPhase::First)
     }
 
     /// What a step of thread `t` would be refused for, if its local steps had led it to `here`.

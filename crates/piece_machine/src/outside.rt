@@ -114,7 +114,7 @@ impl PieceMachine {
     }
 
     // The futex call that thread `t` makes, if it makes one.
-    fn call_at(&self, t: u32) -> Option<FutexCall>
+    pub(crate) fn call_at(&self, t: u32) -> Option<FutexCall>
         requires { (0 < t) × (t ≤ length self.now.view.threads) }
         ensures { result ≡ called self.now.view.program t (thread_of (concrete self.now.view) t) }
     {

@@ -1,7 +1,7 @@
 -- A step of the machine in pieces leads the source where its event says.
-use Rattle.std.proofs.Common.{◌≡◌, ◌≢◌, ℕ, ◌+◌, ◌<◌, ◌%◌, ◌==◌, Bool, true, false, not, List, [], ◌∷◌, length, Option}
+use Rattle.std.proofs.Common.{◌≡◌, ◌≢◌, ℕ, ◌+◌, ◌<◌, ◌%◌, ◌==◌, Bool, true, false, List, [], ◌∷◌, length}
 use Rattle.std.proofs.Common.{Some, None, Result, Ok, Err, refl, ap, sym, ◌∙◌, subst, arith, ◌++◌, inl, inr}
-use Rattle.std.specs.Prelude.{◌^◌, if◌then◌else◌, map}
+use Rattle.std.specs.Prelude.{◌≤◌, ◌^◌, if◌then◌else◌, map}
 use Rattle.std.proofs.lemmas.List.{length-map}
 use Rattle.words.specs.Limits.{most_threads}
 use Rattle.words.specs.Updates.{put}
@@ -11,7 +11,7 @@ use Rattle.futexcalls.specs.declared.pieces.FutexCall.{FutexCall}
 use Rattle.futexcalls.specs.declared.pieces.FutexCall.TheVariants.{Wait, Wake, Requeue}
 use Rattle.futexcalls.specs.declared.pieces.FutexPhase.{FutexPhase}
 use Rattle.futexcalls.specs.declared.pieces.FutexPhase.TheVariants.{First, Second, Compare, Act}
-use Rattle.futexcalls.specs.Pieces.{buckets_of, takes_at, after_lock, again_of}
+use Rattle.futexcalls.specs.Pieces.{buckets_of, takes_at, after_lock}
 use Rattle.locals.specs.Threads.{Thread, Exits}
 use Rattle.locals.specs.Looks.{Request, AskWait, AskWake, AskRequeue, Look, Goes, Asks, Leaves, look}
 use Rattle.machine.specs.declared.event.Event.{Event}
@@ -21,40 +21,37 @@ use Rattle.machine.specs.declared.event.StepFault.{StepFault}
 use Rattle.machine.specs.declared.thread_set.ThreadSet.{ThreadSet}
 use Rattle.machine.specs.ConcretePieces.{is_piece}
 use Rattle.machine.specs.ConcreteSteps.{step_of, step_thread, step_awake, on_machine, thread_step as machine_step}
-use Rattle.machine.specs.FrontRuns.{EventStep, Label, label_of, event_label, doing_of}
-use Rattle.machine.specs.PieceStates.{PieceState, IsHeldRight, call_at, call_of, called, request_of, opening_pieces}
+use Rattle.machine.specs.FrontRuns.{EventStep, Label, label_of, event_label}
+use Rattle.machine.specs.PieceStates.{PieceState, IsHeldRight, call_at, call_of, called, opening_pieces}
 use Rattle.machine.specs.PieceSteps.{goes_outside, Piece, IsOwnPiece, IsPieceStep, IsLocal, IsPlain, IsExit, IsLock}
 use Rattle.machine.specs.PieceSteps.{IsEqual, IsAgain, IsAct}
 use Rattle.machine.specs.Runs.{Doing, Own, Strayed, Killed, IsKillStep, Step}
-use Rattle.machine.specs.States.{State, ConcreteState, thread_of, state_of, opening_concrete}
+use Rattle.machine.specs.States.{State, ConcreteState, thread_of, state_of}
 use Rattle.machine.specs.ThreadSets.{set_of}
-use Rattle.machine.specs.AbstractServing.{Serves, with_shared}
+use Rattle.machine.specs.AbstractServing.{with_shared}
 use Rattle.machine.proofs.Placing.{put-here}
 use Rattle.machine.proofs.Stepping.{opens_so as opens_machine}
 use Rattle.piece_machine.specs.PieceConcrete.{PieceConcrete, Outcome, pieces_at, opening_at, whole_at, call_step}
 use Rattle.piece_machine.specs.PieceConcrete.{look_step, awake_step, thread_step, piece_of, stray_piece, kill_piece}
-use Rattle.piece_machine.specs.PieceDetermined.{IsFit}
-use Rattle.piece_machine.specs.PieceViews.{Steps, Tells, kill_step, own_step}
+use Rattle.piece_machine.specs.PieceViews.{Tells, kill_step, own_step}
 use Rattle.piece_machine.proofs.Beyond.{piece_strays_so, piece_kills_so, pieces_open_so}
 use Rattle.piece_machine.proofs.Determined.{piece_steps_so}
 use Rattle.program.specs.Trees.{Program}
 use Rattle.program.specs.WellFormed.{WellFormed}
 use Rattle.lowering.specs.Pieces.{code_of, marks_of}
-use Rattle.lowering.specs.declared.mark.Mark.{Mark}
 use Rattle.proof_thread.specs.Deferrals.{mark_of, deferred_by_step}
-use Rattle.proof_pieces.specs.Silence.{is_wait, is_silent, piece_answer}
+use Rattle.proof_pieces.specs.Silence.{is_silent}
 use Rattle.proof_pieces.specs.Whole.{whole}
-use Rattle.proof_pieces.proofs.Calls.{called_is}
 use Rattle.proof_pieces.proofs.Rests.{sleeps_so}
 use Rattle.proof_pieces.proofs.Runs.{opening_held, reduces}
 use Rattle.proof_simulation.specs.Explaining.{IsDue, IsReached}
-use Rattle.proof_simulation.specs.Ordering.{completes, raises_number}
+use Rattle.proof_simulation.specs.Ordering.{raises_number}
 use Rattle.proof_simulation.specs.Progress.{Progress, visible_step, progress_step, opening_progress}
 use Rattle.proof_simulation.proofs.Local.{put_again}
 use Rattle.refinement.specs.Pieces.{ExplainedInPieces}
 use Rattle.proof_commutation.specs.Placed.{actions_up_to}
 use Rattle.proof_explaining.specs.PieceProgress.{progress_answered, progress_piece, progress_in_pieces}
-use Rattle.proof_explaining.specs.PieceProgress.{progress_of_pieces, progress_by_pieces, piece_is_visible}
+use Rattle.proof_explaining.specs.PieceProgress.{progress_of_pieces, piece_is_visible}
 use Rattle.proof_explaining.specs.Events.{ComesTo, progress_told, progress_strayed, progress_killed, whole_of}
 use Rattle.proof_explaining.proofs.Along.{pieces_go_on, pieces_reach, piece_due, pieces_explained}
 use Rattle.proof_explaining.proofs.Values.{completes_told, deferral_told}
@@ -127,7 +124,7 @@ whole_gave : (k k' : PieceConcrete) (event : Event) (r : Result (ConcreteState �
 whole_gave k k' event (Ok q) h = (
   q.0,
   let is = event_in (record k { concrete = q.0 }, q.1) (k', event) h in
-  ap (λ (e : Event). Ok (q.0, e)) (ap (λ (z : PieceConcrete × Event). z.1) is),
+      ap (λ (e : Event). Ok (q.0, e)) (ap (λ (z : PieceConcrete × Event). z.1) is),
 )
 whole_gave k k' event (Err fault) h = absurd cc
 
@@ -160,8 +157,8 @@ module _ (p : Program) (k k' : PieceConcrete) (t : ℕ) (event : Event) (x : Thr
       let gave = whole_gave k k' event (step_of (code_of p) k.concrete t) same in (
         gave.0,
         sym (ap (step_thread (code_of p) k.concrete t) stands
-        ∙ ap (step_awake (code_of p) k.concrete t x) awake
-        ∙ ap (λ l. on_machine k.concrete t (machine_step (length k.concrete.threads) t k.concrete.common l)) looks)
+            ∙ ap (step_awake (code_of p) k.concrete t x) awake
+            ∙ ap (λ l. on_machine k.concrete t (machine_step (length k.concrete.threads) t k.concrete.common l)) looks)
             ∙ gave.1,
       )
 

@@ -136,7 +136,7 @@ explained_in_pieces p image steps s right e actions same = (
     output = e.output;
     variables = e.variables;
     ends = λ q. sym (whole_end image q (s.base.word (process_word q 5)) (s.phase q) (s.base.thread q)) ∙ e.ends q;
-    goes_on = λ b u holds. let r = holders_go_on image s b u right holds in (r.0, r.2);
+    goes_on = λ b u holds. holders_go_on image s b u right holds;
     free = λ rest. (rests image s right rest).0;
     at_rest = λ rest. e.at_rest (rests image s right rest).2;
     sleepers = λ outside t sleeps.

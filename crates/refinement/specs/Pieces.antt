@@ -7,7 +7,7 @@ use Rattle.locals.specs.Threads.{Thread}
 use Rattle.locals.specs.Steps.{local_after}
 use Rattle.machine.specs.States.{with_thread}
 use Rattle.machine.specs.Runs.{Step}
-use Rattle.machine.specs.PieceStates.{PieceState}
+use Rattle.machine.specs.PieceStates.{PieceState, IsWithin}
 use Rattle.machine.specs.PieceSteps.{PieceRun, CanTakePiece, NextPieceIsBroken}
 use Rattle.program.specs.declared.kinds.Member.{Member}
 use Rattle.program.specs.Trees.{Program}
@@ -36,9 +36,9 @@ pub record ExplainedInPieces (p : Program) (image : Image) (steps : List Step) (
   pub variables : (m : Member) (i : ℕ) → IsVariable p m i → s.base.word (variable_address p m i) ≡ word_of
       (source.variable m.monitor m.number i)
   pub ends : (q : ℕ) → machine_end s.base q ≡ source_end source q
-  -- no thread waits for a bucket for ever: where one is held, some thread can take a piece
-  pub goes_on : (b u : ℕ) → s.holder b ≡ Some u → (t : ℕ) × CanTakePiece image s t
-  -- so none is held where no thread can. No wake was lost: there no process can move
+  -- buckets lock nobody up: where one is held, some thread within a call can take its next piece
+  pub goes_on : (b u : ℕ) → s.holder b ≡ Some u → (t : ℕ) × IsWithin image s t × CanTakePiece image s t
+  -- so none is held where no thread can take one. No wake was lost: there no process can move
   pub free : RestsInPieces image s → (b : ℕ) → s.holder b ≡ None
   pub at_rest : RestsInPieces image s → (q : ℕ) → CanMove p source q → ⊥
   -- nor can one whose thread sleeps, where all others are outside the taking and giving up of locks: a thread within a

@@ -47,7 +47,9 @@ fn append_refusal(
 ) -> Result<(), AllocError> {
     let said = match refused {
         Refused::Step(_) if follower.state.over(process).is_some() => return Ok(()),
-        Refused::Step(_) => " can't move there, since it sleeps, or its step is another one\n",
+        Refused::Step(_) => {
+            " can't move there: it sleeps, waits for a held bucket, or its step is another one\n"
+        }
         Refused::Stray(_) => " doesn't sleep there, so it can't be woken\n",
         Refused::Kill(_) => " can't be killed so there\n",
     };

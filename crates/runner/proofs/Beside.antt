@@ -1,5 +1,5 @@
 -- What a step of one thread leaves to the others: they stay where they are, and who is awake stays awake.
-use Rattle.std.proofs.Common.{◌≡◌, ◌≢◌, ◌≤◌, ℕ, suc, ◌==◌, Bool, true, false, cond, inl, inr, List, [], ◌∷◌}
+use Rattle.std.proofs.Common.{◌≡◌, ◌≢◌, ◌≤◌, ◌+◌, ℕ, suc, ◌==◌, Bool, true, false, cond, inl, inr, List, [], ◌∷◌, length}
 use Rattle.std.proofs.Common.{Option, Some, None, refl, ap, sym, ◌∙◌, arith, subst}
 use Rattle.std.specs.Prelude.{ℤ, ◌||◌}
 use Rattle.std.proofs.lemmas.Bool.{cases_eq, ne_eqb}
@@ -9,14 +9,22 @@ use Rattle.robustexit.specs.RobustExit.{Shared, IsIdle, EntryStep, PendingStep, 
 use Rattle.robustexit.specs.RobustExit.{IsOwned, ExitStep, put}
 use Rattle.buckets.specs.Places.{names, with_place}
 use Rattle.futexcalls.specs.FutexCalls.{Wakes, Moves as Requeued, Requeues, Sleeps}
+use Rattle.futexcalls.specs.declared.pieces.FutexCall.{FutexCall}
+use Rattle.futexcalls.specs.declared.pieces.FutexCall.TheVariants.{Wait, Wake, Requeue}
+use Rattle.futexcalls.specs.declared.pieces.FutexPhase.{FutexPhase}
+use Rattle.futexcalls.specs.declared.pieces.FutexPhase.TheVariants.{First, Act}
+use Rattle.futexcalls.specs.Pieces.{Acts, after_lock, buckets_of}
+use Rattle.isa.specs.Programs.{Program}
 use Rattle.words.specs.declared.outcome.Cause.TheVariants.{Killed}
-use Rattle.locals.specs.Threads.{Thread, Dies, opening_thread}
+use Rattle.locals.specs.Threads.{Thread, Dies, Exits, opening_thread}
 use Rattle.locals.specs.Looks.{Request, AskLoad, AskStore, AskSwap, AskCompareSwap, AskOr, AskAdd, AskFork, AskPrint}
-use Rattle.locals.specs.Looks.{AskWait, AskWake, AskRequeue, AskReturn, AskReturnValue, AskFault, Look, Goes}
-use Rattle.locals.specs.Looks.{Asks, Leaves, Breaks, Rests}
+use Rattle.locals.specs.Looks.{AskWait, AskWake, AskRequeue, AskReturn, AskReturnValue, AskFault}
 use Rattle.machine.specs.States.{State, with_thread, with_word, with_sleepers}
 use Rattle.machine.specs.AbstractServing.{Serves, with_child, shared_of, with_shared}
-use Rattle.machine.specs.Runs.{Moves, killed_to}
+use Rattle.machine.specs.Runs.{Step, killed_to}
+use Rattle.machine.specs.PieceStates.{PieceState}
+use Rattle.machine.specs.PieceSteps.{Piece, IsLocal, IsPlain, IsExit, IsLock, IsEqual, IsAgain, IsAct, IsOwnPiece}
+use Rattle.machine.specs.PieceSteps.{IsPieceStray, IsPieceKill, goes_outside, killed_piece, again_of}
 
 -- who was awake, but for thread t, still is
 abbrev StaysAwake : ℕ → (ℕ → Option ℕ) → (ℕ → Option ℕ) → Type 0
@@ -78,11 +86,15 @@ wakes_awake t a n before after woken wakes u other h = ap (λ (f : ℕ → Optio
     ∙ still_by (names woken u) (before u) h
 
 -- a sleep of thread t
+joins_awake : (t a : ℕ) (before after : ℕ → Option ℕ) → after ≡ with_place before (t ∷ []) (Some a)
+    → StaysAwake t before after
+joins_awake t a before after joins u other h =
+    ap (λ (f : ℕ → Option ℕ). f u) joins
+    ∙ ap (λ (b : Bool). cond (b || false) (Some a) (before u)) (ne_eqb u t other) ∙ h
+
 sleeps_awake : (t a expected : ℕ) (word : ℕ → ℕ) (before after : ℕ → Option ℕ)
     → Sleeps word before t a expected after → StaysAwake t before after
-sleeps_awake t a expected word before after sleeps u other h =
-    ap (λ (f : ℕ → Option ℕ). f u) sleeps.joins
-    ∙ ap (λ (b : Bool). cond (b || false) (Some a) (before u)) (ne_eqb u t other) ∙ h
+sleeps_awake t a expected word before after sleeps = joins_awake t a before after sleeps.joins
 
 -- a move, of sleepers
 not_named : (b : ℕ) (n : Bool) (o : Option ℕ) → o ≡ None → (n ≡ true → ⊥) → cond n (Some b) o ≡ None
@@ -188,17 +200,79 @@ kill_beside t s s' true is =
     then_thread t s mid s' (Dies Killed) (outside_beside t s mid refl) is
 kill_beside t s s' false is = to t s s s' is (same t s)
 
--- any step
-pub beside : (t : ℕ) (s : State) (woken : List ℕ) (l : Look) (s' : State) → IsNumbered s → Moves s t woken l s'
-    → Beside t s s'
-beside t s woken (Goes x) s' numbered h = then_thread t s s s' x (same t s) h.1
-beside t s woken (Asks request go) s' numbered h =
-    then_thread t s h.1 s' (go h.0) (serves t request s woken h.0 h.1 numbered h.2) h.3
-beside t s woken (Leaves phase) s' numbered h =
-    then_thread t s (with_shared s h.0) s' _ (record {
-      stay = λ u x other is. is;
-      awake = exit_awake s.size t phase (shared_of s) woken h.0 h.1 h.2;
+-- what the act of thread t's call does
+acts_awake : (t : ℕ) (call : FutexCall) (asleep after : ℕ → Option ℕ) (woken moved : List ℕ)
+    → Acts t call asleep woken moved after → StaysAwake t asleep after
+acts_awake t (Wait a expected) asleep after woken moved acts = joins_awake t a.0 asleep after acts.2
+acts_awake t (Wake a wakes) asleep after woken moved acts =
+    wakes_awake t a.0 wakes asleep after woken acts.1
+acts_awake t (Requeue a b wakes moves expected) asleep after woken moved acts = λ u other h.
+    moves_awake t a.0 b.0 moves (with_place asleep woken None) after moved acts.moves u other
+    (wakes_awake t a.0 wakes asleep (with_place asleep woken None) woken acts.wakes u other h)
+
+-- what a step of thread t leaves to the others, with their phases
+pub record BesidePiece (t : ℕ) (s s' : PieceState) : Type 0 where
+  pub base : Beside t s.base s'.base
+  pub phases : (u : ℕ) → u ≢ t → s'.phase u ≡ s.phase u
+
+outside_piece : (t : ℕ) (s s' : PieceState) (mid : State) (buckets : List ℕ) (x : Thread) → Beside t s.base mid
+    → s' ≡ goes_outside s t mid buckets x → BesidePiece t s s'
+outside_piece t s s' mid buckets x b is = record {
+  base = then_thread t s.base mid s'.base x b (ap (λ (q : PieceState). q.base) is);
+  phases = λ u other. ap (λ (q : PieceState). q.phase u) is ∙ at_other u t First (s.phase u) other;
+}
+
+within_piece : (t : ℕ) (s s' : PieceState) (phase : FutexPhase) → s'.base ≡ s.base → s'.phase ≡ put s.phase t phase
+    → BesidePiece t s s'
+within_piece t s s' phase is phases = record {
+  base = to t s.base s.base s'.base is (same t s.base);
+  phases = λ u other. ap (λ (f : ℕ → FutexPhase). f u) phases ∙ at_other u t phase (s.phase u) other;
+}
+
+-- any step of its own
+piece_beside : (p : Program) (s s' : PieceState) (t : ℕ) (x : Thread) (woken : List ℕ) → IsNumbered s.base
+    → Piece p s t x woken s' → BesidePiece t s s'
+piece_beside p s s' t x woken numbered (IsLocal y looks first quiet is) =
+    outside_piece t s s' s.base [] y (same t s.base) is
+piece_beside p s s' t x woken numbered (IsPlain request go answer mid looks plain first served is) =
+    outside_piece t s s' mid [] (go answer) (serves t request s.base woken answer mid numbered served) is
+piece_beside p s s' t x woken numbered (IsExit phase after next looks first step free is) =
+    outside_piece t s s' (with_shared s.base after) [] (Exits next) (record {
+      stay = λ u y other h. h;
+      awake = exit_awake s.base.size t phase (shared_of s.base) woken after next step;
       made = omega arith;
-    }) h.3
-beside t s woken Breaks s' numbered h = absurd h
-beside t s woken Rests s' numbered h = absurd h
+    }) is
+piece_beside p s s' t x woken numbered (IsLock call go b looks lies takes free quiet is) =
+    within_piece t s s' (after_lock s.buckets (s.phase t) call) (ap (λ (q : PieceState). q.base) is)
+    (ap (λ (q : PieceState). q.phase) is)
+piece_beside p s s' t x woken numbered (IsEqual call go a v looks compares at equal quiet is) =
+    within_piece t s s' Act (ap (λ (q : PieceState). q.base) is) (ap (λ (q : PieceState). q.phase) is)
+piece_beside p s s' t x woken numbered (IsAgain call go a v looks compares at differs quiet is) =
+    outside_piece t s s' s.base (buckets_of s.buckets call) (go (again_of call)) (same t s.base) is
+piece_beside p s s' t x woken numbered (IsAct call go moved after looks at acts is) =
+    outside_piece t s s' (with_sleepers s.base after) (buckets_of s.buckets call) (go (length woken + length moved))
+    (by_sleepers t s.base after (acts_awake t call s.base.asleep after woken moved acts)) is
+
+pub own_beside : (p : Program) (s s' : PieceState) (step : Step) → IsNumbered s.base → IsOwnPiece p s step s'
+    → BesidePiece step.thread s s'
+own_beside p s s' step numbered own = piece_beside p s s' step.thread own.thread step.woken numbered own.piece
+
+-- a wake from outside
+pub stray_beside : (a : ℕ) (s s' : PieceState) (step : Step) → IsPieceStray a s step s' → BesidePiece step.thread s s'
+stray_beside a s s' step stray = record {
+  base = outside_beside step.thread s.base s'.base stray.strays.after;
+  phases = λ u other. ap (λ (q : PieceState). q.phase u) stray.others;
+}
+
+-- a kill
+killed_phases : (p : Program) (begins : Bool) (s : PieceState) (t u : ℕ) → u ≢ t
+    → (killed_piece p begins s t).phase u ≡ s.phase u
+killed_phases p true s t u other = at_other u t First (s.phase u) other
+killed_phases p false s t u other = refl
+
+pub kills_beside : (p : Program) (begins : Bool) (s s' : PieceState) (step : Step) → IsPieceKill p begins s step s'
+    → BesidePiece step.thread s s'
+kills_beside p begins s s' step kill = record {
+  base = kill_beside step.thread s.base s'.base begins kill.kills.after;
+  phases = λ u other. ap (λ (q : PieceState). q.phase u) kill.after ∙ killed_phases p begins s step.thread u other;
+}

@@ -39,7 +39,7 @@ none_stopped p limit h t is = absurd (none_true 65 t is)
 
 -- where each thread that can move was refused or is passed over, none can make its next entry
 pub idle_so : (p : Program) (limit : ℕ) (h : LogState) (refused passed : List Bool) → AllPast p limit h refused
-    → AllStopped p limit h passed → NoneLeft h.concrete refused passed → Idle p limit h
+    → AllStopped p limit h passed → NoneLeft h.concrete.concrete refused passed → Idle p limit h
 idle_so p limit h refused passed past stopped none t moves =
     elim (none t moves) [
       | inl was ↦ stops p limit h t (past t was)
@@ -55,9 +55,9 @@ wake_more limit old new t takes =
     (omega (arith, more), takes.within)
 
 -- a kill was made
-pub kill_more : (limit : ℕ) (old new : LogState) (t : ℕ) → TakesKill limit old t new
+pub kill_more : (p : Program) (limit : ℕ) (old new : LogState) (t : ℕ) → TakesKill p limit old t new
     → (cost old.log < cost new.log) × (cost new.log ≤ limit)
-kill_more limit old new t takes =
+kill_more p limit old new t takes =
     let more : cost new.log ≡ cost old.log + (0 + 1) = ap cost takes.log
     ∙ cost_more old.log t 0 (Some takes.event) in
     (omega (arith, more), takes.within)
@@ -68,7 +68,7 @@ if_made (Ok x) so h = so h
 if_made (Err e) so h = h
 
 fails_by : (p : Program) (may : Outside) (limit : ℕ) (h : LogState) (t : ℕ) (fault : RunFault)
-    → IsAsleep h.concrete t → cost h.log < limit → RefusesOutside limit h t fault → CanFail p may limit fault
+    → IsAsleep h.concrete.concrete t → cost h.log < limit → RefusesOutside limit h t fault → CanFail p may limit fault
 fails_by p may limit h t Stray sleeps room refuses = refuses
 fails_by p may limit h t CannotMove sleeps room refuses = absurd (sleeps refuses)
 fails_by p may limit h t Broken sleeps room refuses = absurd refuses
@@ -78,14 +78,14 @@ fails_by p may limit h t Memory sleeps room refuses = tt
 
 -- where a thread sleeps and the limit leaves room, its wake is refused for want of memory alone
 pub wake_fails : {T : Type 0} → (A B : Type 0) (p : Program) (may : Outside) (limit : ℕ) (h : LogState) (t : ℕ)
-    (r : Result T RunFault) → IsAsleep h.concrete t → cost h.log < limit
+    (r : Result T RunFault) → IsAsleep h.concrete.concrete t → cost h.log < limit
     → IfErr r (λ fault. A × B × RefusesOutside limit h t fault) → IfErr r (λ fault. CanFail p may limit fault)
 wake_fails A B p may limit h t (Ok x) sleeps room refuses = refuses
 wake_fails A B p may limit h t (Err fault) sleeps room refuses =
     fails_by p may limit h t fault sleeps room refuses.2
 
 kill_fails_by : (p : Program) (may : Outside) (limit : ℕ) (h : LogState) (t : ℕ) (fault : RunFault)
-    → thread_of h.concrete t ≢ None → cost h.log < limit → RefusesKill limit h t fault → CanFail p may limit fault
+    → thread_of h.concrete.concrete t ≢ None → cost h.log < limit → RefusesKill limit h t fault → CanFail p may limit fault
 kill_fails_by p may limit h t Stray made room refuses = refuses
 kill_fails_by p may limit h t CannotMove made room refuses = absurd (made refuses)
 kill_fails_by p may limit h t Broken made room refuses = absurd refuses
@@ -95,7 +95,7 @@ kill_fails_by p may limit h t Memory made room refuses = tt
 
 -- where a thread was made and the limit leaves room, its kill is refused for want of memory alone
 pub kill_fails : {T : Type 0} → (A B : Type 0) (p : Program) (may : Outside) (limit : ℕ) (h : LogState) (t : ℕ)
-    (r : Result T RunFault) → thread_of h.concrete t ≢ None → cost h.log < limit
+    (r : Result T RunFault) → thread_of h.concrete.concrete t ≢ None → cost h.log < limit
     → IfErr r (λ fault. A × B × RefusesKill limit h t fault) → IfErr r (λ fault. CanFail p may limit fault)
 kill_fails A B p may limit h t (Ok x) made room refuses = refuses
 kill_fails A B p may limit h t (Err fault) made room refuses =

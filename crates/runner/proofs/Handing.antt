@@ -1,20 +1,25 @@
 -- What comes of a piece.
 use Rattle.std.proofs.Common.{◌≡◌, ℕ, ◌-◌, ◌+◌, ◌<◌, ◌≤◌, Bool, true, false, not, Option, Some, None, Result, Ok}
 use Rattle.std.proofs.Common.{Err, is_some, length, refl, ap, sym, ◌∙◌, arith, length-set}
-use Rattle.std.specs.Prelude.{if◌then◌else◌}
+use Rattle.std.specs.Prelude.{if◌then◌else◌, IsOk}
 use mir.Val.{bool_byte}
 use Rattle.isa.specs.Programs.{Program}
 use Rattle.locals.specs.Threads.{Thread}
 use Rattle.locals.specs.Looks.{Look, Goes, Asks, Leaves, Breaks, Rests, look}
-use Rattle.locals.specs.Steps.{local_step, local_next}
+use Rattle.locals.specs.Steps.{local_step, local_after, local_next}
 use Rattle.machine.specs.declared.event.Event.{Event}
+use Rattle.machine.specs.declared.event.EventName.TheVariants as name
 use Rattle.machine.specs.declared.event.StepFault.{StepFault}
-use Rattle.machine.specs.States.{Common, ConcreteState, thread_of}
+use Rattle.machine.specs.States.{ConcreteState, thread_of}
 use Rattle.machine.specs.Runs.{has_ended}
-use Rattle.machine.specs.ConcreteServing.{serve}
-use Rattle.machine.specs.ConcreteSteps.{Stepped, thread_step, on_machine, fault_of, fault_at, step_of, step_awake}
-use Rattle.machine.specs.ConcreteSteps.{go_on_with, step_thread, put_thread, can_move, thread_can_move}
+use Rattle.machine.specs.ConcreteServing.{plain}
+use Rattle.machine.specs.ConcreteSteps.{thread_step, on_machine, fault_of, step_of, step_awake}
+use Rattle.machine.specs.ConcreteSteps.{step_thread, put_thread, can_move, thread_can_move}
+use Rattle.machine.specs.Views.{View, concrete}
 use Rattle.machine.proofs.Placing.{thread_at-put}
+use Rattle.piece_machine.specs.PieceConcrete.{PieceConcrete, Outcome, look_step, awake_step, whole_at}
+use Rattle.piece_machine.specs.PieceConcrete.{thread_step as piece_at_thread, piece_of, with_local, piece_fault_at}
+use Rattle.piece_machine.specs.PieceViews.{GoesTo}
 use Rattle.runner.specs.declared.fault.RunFault.TheVariants.{Limit}
 use Rattle.runner.specs.Views.{PieceView, LogState}
 use Rattle.runner.specs.Logs.{event_cost, cost}
@@ -54,91 +59,116 @@ step_there p k t o here awake stands =
     ∙ ap (λ made. on_machine there t (thread_step made t k.common (look p t here)))
     (length-set k.threads (t - 1) here)
 
+-- the same of a machine with pieces: its step is that of what the thread looks like there
+pub piece_there : (p : Program) (k : PieceConcrete) (t : ℕ) (o here : Thread) → k.concrete.common.asleep t ≡ None
+    → thread_of k.concrete t ≡ Some o
+    → piece_of p (with_local k t here) t ≡ look_step p (with_local k t here) t (look p t here)
+piece_there p k t o here awake stands =
+    let there = with_local k t here in
+    ap (piece_at_thread p there t) (thread_at-put k.concrete.threads t o here stands)
+    ∙ ap (awake_step p there t here) awake
+
+-- where a local step leads
+look_goes : (l : Look) (z : Thread) → local_next l ≡ Some z → l ≡ Goes z
+look_goes (Goes x) z h = let e : x ≡ z = cc in ap (λ y. Goes y) e
+look_goes (Asks request go) z h = absurd cc
+look_goes (Leaves phase) z h = absurd cc
+look_goes Breaks z h = absurd cc
+look_goes Rests z h = absurd cc
+
+-- a local step is one of the machine
+pub piece_goes : (p : Program) (k : PieceConcrete) (t : ℕ) (o here next : Thread) → k.concrete.common.asleep t ≡ None
+    → thread_of k.concrete t ≡ Some o → local_step p t here ≡ Some next
+    → piece_of p (with_local k t here) t ≡ Ok (with_local (with_local k t here) t next, plain name.Local 0)
+piece_goes p k t o here next awake stands goes =
+    let there = with_local k t here in
+    let looks = look_goes (look p t here) next goes in
+    piece_there p k t o here awake stands
+    ∙ ap (look_step p there t) looks
+    ∙ ap (whole_at there) (step_there p k.concrete t o here awake stands
+    ∙ ap (λ l. on_machine there.concrete t (thread_step (length k.concrete.threads) t k.concrete.common l)) looks)
+
 -- before a local step it comes in as a turn
-turn_by : (there : ConcreteState) (r : Result (ConcreteState × Event) StepFault) (o : Option Thread) → true ≡ is_some o
+turn_by : (there : PieceConcrete) (r : Outcome) (o : Option Thread) → true ≡ is_some o
     → entry_end_by there r o ≡ Ok (there, None)
 turn_by there r (Some x) h = refl
 turn_by there r None h = absurd cc
 
-pub turn_end : (p : Program) (k : ConcreteState) (t : ℕ) (here : Thread) → true ≡ is_some (local_step p t here)
-    → entry_end p k t here ≡ Ok (put_thread k t here, None)
-turn_end p k t here h = turn_by (put_thread k t here) (step_of p (put_thread k t here) t) (local_step p t here) h
+pub turn_end : (p : Program) (k : PieceConcrete) (t : ℕ) (here : Thread) → true ≡ is_some (local_step p t here)
+    → entry_end p k t here ≡ Ok (with_local k t here, None)
+turn_end p k t here h = turn_by (with_local k t here) (piece_of p (with_local k t here) t) (local_step p t here) h
 
 -- and else with its step
-step_by : (there : ConcreteState) (r : Result (ConcreteState × Event) StepFault) (k : ConcreteState) (e : Event)
+step_by : (there : PieceConcrete) (r : Outcome) (k : PieceConcrete) (e : Event)
     (o : Option Thread) → false ≡ is_some o → r ≡ Ok (k, e) → entry_end_by there r o ≡ Ok (k, Some e)
 step_by there r k e (Some x) h is = absurd cc
 step_by there r k e None h is = ap (λ y. entry_end_by there y None) is
 
-pub step_end : (p : Program) (k : ConcreteState) (t : ℕ) (here : Thread) (k' : ConcreteState) (e : Event)
-    → false ≡ is_some (local_step p t here) → step_of p (put_thread k t here) t ≡ Ok (k', e)
+pub step_end : (p : Program) (k : PieceConcrete) (t : ℕ) (here : Thread) (k' : PieceConcrete) (e : Event)
+    → false ≡ is_some (local_step p t here) → piece_of p (with_local k t here) t ≡ Ok (k', e)
     → entry_end p k t here ≡ Ok (k', Some e)
 step_end p k t here k' e h is =
-    step_by (put_thread k t here) (step_of p (put_thread k t here) t) k' e (local_step p t here) h is
+    step_by (with_local k t here) (piece_of p (with_local k t here) t) k' e (local_step p t here) h is
 
 -- what an entry costs, by what comes behind its local steps
-pub costs_so : (there new : ConcreteState) (r : Result (ConcreteState × Event) StepFault) (ls : Option Thread)
+pub costs_so : (there new : PieceConcrete) (r : Outcome) (ls : Option Thread)
     (event : Option Event) → entry_end_by there r ls ≡ Ok (new, event) → event_cost event ≡ step_cost ls
 costs_so there new r (Some x) event h =
-    ap (λ (q : ConcreteState × Option Event). event_cost q.1) (sym (inside _ _ h))
+    ap (λ (q : PieceConcrete × Option Event). event_cost q.1) (sym (inside _ _ h))
 costs_so there new (Ok x) None event h =
-    ap (λ (q : ConcreteState × Option Event). event_cost q.1) (sym (inside _ _ h))
+    ap (λ (q : PieceConcrete × Option Event). event_cost q.1) (sym (inside _ _ h))
 costs_so there new (Err f) None event h = absurd cc
 
 -- an entry is refused just where its shared step is
-pub refused_by : (there : ConcreteState) (r : Result (ConcreteState × Event) StepFault) (ls : Option Thread)
+pub refused_by : (there : PieceConcrete) (r : Outcome) (ls : Option Thread)
     (f : StepFault)
-    → (let R : Type 0 = Result (ConcreteState × Option Event) StepFault in
+    → (let R : Type 0 = Result (PieceConcrete × Option Event) StepFault in
     (let a : R = entry_end_by there r ls in a) ≡ (let b : R = Err f in b)) → (ls ≡ None) × (r ≡ Err f)
 refused_by there r (Some x) f h = absurd cc
 refused_by there (Ok x) None f h = absurd cc
 refused_by there (Err g) None f h = let e : g ≡ f = cc in (refl, ap Err e)
 
-pub refused_end : (there : ConcreteState) (r : Result (ConcreteState × Event) StepFault) (ls : Option Thread)
+pub refused_end : (there : PieceConcrete) (r : Outcome) (ls : Option Thread)
     (f : StepFault) → ls ≡ None → r ≡ Err f → entry_end_by there r ls ≡ Err f
 refused_end there r ls f none fails = λ i. entry_end_by there (fails i) (none i)
 
-refused_step : (there : ConcreteState) (t : ℕ) (r : Result Stepped StepFault) (f : StepFault) → Some f ≡ fault_of r
-    → entry_end_by there (on_machine there t r) None ≡ Err f
-refused_step there t (Ok r) f is = absurd cc
-refused_step there t (Err g) f is = let e : g ≡ f = cc in ap Err e
+fault_is : (r : Outcome) (f : StepFault) → Some f ≡ fault_of r → r ≡ Err f
+fault_is (Ok q) f is = absurd cc
+fault_is (Err g) f is = let e : g ≡ f = cc in ap Err e
 
-refused_look : (there : ConcreteState) (made t : ℕ) (c : Common) (l : Look) (f : StepFault)
-    → Some f ≡ fault_of (thread_step made t c l)
-    → entry_end_by there (on_machine there t (thread_step made t c l)) (local_next l) ≡ Err f
-refused_look there made t c (Goes x) f is = absurd cc
-refused_look there made t c (Asks request go) f is =
-    refused_step there t (go_on_with go (serve made t request c)) f is
-refused_look there made t c (Leaves phase) f is = absurd cc
-refused_look there made t c Breaks f is = refused_step there t (thread_step made t c Breaks) f is
-refused_look there made t c Rests f is = refused_step there t (thread_step made t c Rests) f is
+done_fault : (r : Outcome) (q : PieceConcrete × Event) (f : StepFault) → r ≡ Ok q → Some f ≡ fault_of r → ⊥
+done_fault (Ok x) q f done is = cc
+done_fault (Err g) q f done is = cc
 
 -- where a fault stands, the piece is refused with it
-pub refused_at : (p q : Program) (k : ConcreteState) (t : ℕ) (o here : Thread) (f : StepFault) → q ≡ p
-    → k.common.asleep t ≡ None → thread_of k t ≡ Some o → Some f ≡ fault_at q k t here → entry_end p k t here ≡ Err f
+pub refused_at : (p q : Program) (k : PieceConcrete) (t : ℕ) (o here : Thread) (f : StepFault) → q ≡ p
+    → k.concrete.common.asleep t ≡ None → thread_of k.concrete t ≡ Some o → Some f ≡ piece_fault_at q k t here
+    → entry_end p k t here ≡ Err f
 refused_at p q k t o here f same awake stands is =
-    let there = put_thread k t here in
-    ap (λ x. entry_end x k t here) (sym same)
-    ∙ ap (λ d. entry_end_by there d (local_step q t here)) (step_there q k t o here awake stands)
-    ∙ refused_look there (length k.threads) t k.common (look q t here) f is
+    let there = with_local k t here in
+    ap (λ x. entry_end x k t here) (sym same) ∙ by (local_step q t here) refl
+  where
+    by : (ls : Option Thread) → local_step q t here ≡ ls
+        → entry_end_by (with_local k t here) (piece_of q (with_local k t here) t) ls ≡ Err f
+    by (Some next) goes = absurd (done_fault (piece_of q (with_local k t here) t) _ f
+        (piece_goes q k t o here next awake stands goes) is)
+    by None none = refused_end (with_local k t here) (piece_of q (with_local k t here) t) None f refl
+        (fault_is (piece_of q (with_local k t here) t) f is)
 
-fine_by : (there : ConcreteState) (t : ℕ) (r : Result Stepped StepFault) (ls : Option Thread) → None ≡ fault_of r
-    → (concrete : ConcreteState) × (event : Option Event)
-    × (entry_end_by there (on_machine there t r) ls ≡ Ok (concrete, event))
+fine_by : (there : PieceConcrete) (r : Outcome) (ls : Option Thread) → None ≡ fault_of r
+    → (concrete : PieceConcrete) × (event : Option Event)
+    × (entry_end_by there r ls ≡ Ok (concrete, event))
     × (event_cost event ≡ (if not (is_some ls) then 1 else 0))
-fine_by there t r (Some x) f = (there, None, refl, refl)
-fine_by there t (Ok s) None f = (_, Some _, refl, refl)
-fine_by there t (Err fault) None f = absurd cc
+fine_by there r (Some x) f = (there, None, refl, refl)
+fine_by there (Ok s) None f = (s.0, Some s.1, refl, refl)
+fine_by there (Err fault) None f = absurd cc
 
 -- where no fault stands, the piece comes in
-pub comes_in : (p : Program) (k : ConcreteState) (t : ℕ) (o here : Thread) → k.common.asleep t ≡ None
-    → thread_of k t ≡ Some o → None ≡ fault_at p k t here
-    → (concrete : ConcreteState) × (event : Option Event) × (entry_end p k t here ≡ Ok (concrete, event))
+pub comes_in : (p : Program) (k : PieceConcrete) (t : ℕ) (here : Thread) → None ≡ piece_fault_at p k t here
+    → (concrete : PieceConcrete) × (event : Option Event) × (entry_end p k t here ≡ Ok (concrete, event))
     × (event_cost event ≡ (if not (is_some (local_step p t here)) then 1 else 0))
-comes_in p k t o here awake stands none =
-    let there = put_thread k t here in
-    let r = fine_by there t (thread_step (length k.threads) t k.common (look p t here)) (local_step p t here) none in
-    (r.0, r.1, ap (λ d. entry_end_by there d (local_step p t here)) (step_there p k t o here awake stands) ∙ r.2, r.3)
+comes_in p k t here none =
+    fine_by (with_local k t here) (piece_of p (with_local k t here) t) (local_step p t here) none
 
 by_test : (b : Bool) → (if not b then 1 else 0) ≡ bool_byte (not b)
 by_test true = refl
@@ -146,12 +176,11 @@ by_test false = refl
 
 -- the same of a piece, with what it costs
 comes : (p q : Program) (h : LogState) (a : PieceView) (t : ℕ) (b : Bool) → q ≡ p → Stands h t a
-    → can_move h.concrete t ≡ true → None ≡ fault_at q h.concrete t a.here → b ≡ is_some (local_step q t a.here)
-    → (concrete : ConcreteState) × (event : Option Event) × (entry_end p h.concrete t a.here ≡ Ok (concrete, event))
+    → can_move h.concrete.concrete t ≡ true → None ≡ piece_fault_at q h.concrete t a.here → b ≡ is_some (local_step q t a.here)
+    → (concrete : PieceConcrete) × (event : Option Event) × (entry_end p h.concrete t a.here ≡ Ok (concrete, event))
     × (event_cost event ≡ bool_byte (not b))
 comes p q h a t b same stands moves none is_b =
-    let u = up h.concrete t moves in
-    let r = comes_in q h.concrete t a.origin a.here u.awake stands.1 none in (
+    let r = comes_in q h.concrete t a.here none in (
       r.0,
       r.1,
       ap (λ x. entry_end x h.concrete t a.here) (sym same) ∙ r.2,
@@ -160,7 +189,7 @@ comes p q h a t b same stands moves none is_b =
     )
 
 pub past_limit : (p q : Program) (limit : ℕ) (h : LogState) (a : PieceView) (t steps limited extra : ℕ) (b : Bool)
-    → q ≡ p → Stands h t a → can_move h.concrete t ≡ true → None ≡ fault_at q h.concrete t a.here
+    → q ≡ p → Stands h t a → can_move h.concrete.concrete t ≡ true → None ≡ piece_fault_at q h.concrete t a.here
     → b ≡ is_some (local_step q t a.here) → extra ≡ bool_byte (not b) → steps ≡ cost h.log → limited ≡ limit
     → steps ≤ limited → limited - steps < a.count + extra → RefusesEntry p limit h t a Limit
 past_limit p q limit h a t steps limited extra b same stands moves none is_b is_extra is_steps is_limit within past =
@@ -168,7 +197,7 @@ past_limit p q limit h a t steps limited extra b same stands moves none is_b is_
     (stands, moves, r.0, r.1, r.2, omega (arith, r.3, is_extra))
 
 pub in_limit : (p q : Program) (limit : ℕ) (h : LogState) (a : PieceView) (t steps limited extra : ℕ) (b : Bool)
-    → q ≡ p → Stands h t a → can_move h.concrete t ≡ true → None ≡ fault_at q h.concrete t a.here
+    → q ≡ p → Stands h t a → can_move h.concrete.concrete t ≡ true → None ≡ piece_fault_at q h.concrete t a.here
     → b ≡ is_some (local_step q t a.here) → extra ≡ bool_byte (not b) → steps ≡ cost h.log → limited ≡ limit
     → steps ≤ limited → a.count + extra ≤ limited - steps → IsFine p limit h t a
 in_limit p q limit h a t steps limited extra b same stands moves none is_b is_extra is_steps is_limit within fits =
@@ -182,3 +211,38 @@ in_limit p q limit h a t steps limited extra b same stands moves none is_b is_ex
       within =
           omega (arith, r.3, is_extra);
     }
+
+-- a piece of a thread that stands where it began
+pub goes_to : (p : Program) (v : View) (t : ℕ) (a : PieceView) → v.program ≡ p
+    → (a.thread ≡ t) × (thread_of (concrete v) t ≡ Some a.origin) → local_after p a.thread a.count a.origin ≡ Some a.here
+    → GoesTo v t a.here
+goes_to p v t a same stands goes = record {
+  origin = a.origin;
+  count = a.count;
+  stands = stands.1;
+  goes = (λ i. local_after (same i) (sym stands.0 i) a.count a.origin) ∙ goes;
+}
+
+-- what a refused piece is refused with
+pub refused_with : (p q : Program) (h : LogState) (t : ℕ) (a : PieceView) (f : StepFault) → q ≡ p → Stands h t a
+    → can_move h.concrete.concrete t ≡ true → Some f ≡ piece_fault_at q h.concrete t a.here
+    → entry_end p h.concrete t a.here ≡ Err f
+refused_with p q h t a f same stands moves is =
+    refused_at p q h.concrete t a.origin a.here f same (up h.concrete.concrete t moves).awake stands.1 is
+
+no_step : (o : Option Thread) → false ≡ is_some o → o ≡ None
+no_step None h = refl
+no_step (Some x) h = absurd cc
+
+-- a piece that comes in isn't refused
+ok_or_not : (r : Result (PieceConcrete × Option Event) StepFault) (f : StepFault) → IsOk r → r ≡ Err f → ⊥
+ok_or_not (Ok q) f fine fails = cc
+ok_or_not (Err g) f fine fails = cc
+
+pub not_refused : (p : Program) (k : PieceConcrete) (t : ℕ) (here : Thread) (f : StepFault)
+    → IsOk (entry_end p k t here) → false ≡ is_some (local_step p t here) → piece_of p (with_local k t here) t ≡ Err f
+    → ⊥
+not_refused p k t here f fine shared fails =
+    ok_or_not (entry_end p k t here) f fine
+    (refused_end (with_local k t here) (piece_of p (with_local k t here) t) (local_step p t here) f
+    (no_step (local_step p t here) shared) fails)

@@ -7,6 +7,8 @@ pub mod Unrolling
 pub mod OneByOne
 pub mod Passing
 pub mod Lives
+pub mod Waiting
+pub mod Resting
 pub mod InPlace
 pub mod Scheduling
 pub mod Locally

@@ -1,6 +1,6 @@
--- A thread that can move comes to no end by local steps, so its step behind them is refused where it may not be alone.
+-- A thread that can move comes to no end by local steps, so it can move where they lead it.
 use Rattle.std.proofs.Common.{◌≡◌, ℕ, zero, suc, ◌+◌, Bool, true, false, List, [], ◌∷◌, length}
-use Rattle.std.proofs.Common.{Option, Some, None, Err, refl, ap, sym, ◌∙◌}
+use Rattle.std.proofs.Common.{Option, Some, None, refl, ap, sym, ◌∙◌}
 use Rattle.std.specs.Prelude.{nat_lt}
 use Rattle.isa.specs.Programs.{Program}
 use Rattle.isa.specs.declared.instr.Instr.{Instr}
@@ -14,15 +14,12 @@ use Rattle.locals.specs.Looks.{Asks, Leaves, Breaks, Rests, Effect, Then, Keeps,
 use Rattle.locals.specs.Looks.{Returns, ReturnsValue, Fails, Misses, Guards, Checks, effect, if_so, or_dies}
 use Rattle.locals.specs.Looks.{return_look, at_place, look_at, look}
 use Rattle.locals.specs.Steps.{local_step, local_after, and_step, local_next}
-use Rattle.machine.specs.declared.event.StepFault.{StepFault}
-use Rattle.machine.specs.declared.event.StepFault.TheVariants.{Broken, CannotMove}
-use Rattle.machine.specs.States.{ConcreteState, state_of, thread_of}
-use Rattle.machine.specs.Runs.{CanStep, has_ended}
-use Rattle.machine.specs.ConcreteSteps.{step_of, put_thread, can_move}
+use Rattle.machine.specs.States.{ConcreteState, thread_of}
+use Rattle.machine.specs.Runs.{has_ended}
+use Rattle.machine.specs.ConcreteSteps.{put_thread, can_move}
 use Rattle.machine.proofs.Placing.{thread_at-put}
-use Rattle.machine.proofs.Refusing.{refuses_so}
-use Rattle.runner.specs.Reports.{IsHeldUp}
-use Rattle.runner.proofs.Handing.{refused_by, up}
+use Rattle.machine.proofs.Refusing.{moves_so}
+use Rattle.runner.proofs.Handing.{up}
 
 -- there is a next step, and a local one leads to no end
 abbrev IsGoing : Look → Type 0
@@ -97,29 +94,15 @@ after_lives p t zero o here h after = ap has_ended (sym after) ∙ h
 after_lives p t (suc n) o here h after =
     last_lives p t (local_after p t n o) here (λ m is. after_lives p t n o m h is) after
 
--- a thread that can move can step where its local steps lead it
-pub steps_there : (p : Program) (k : ConcreteState) (t n : ℕ) (o here : Thread) → can_move k t ≡ true
-    → thread_of k t ≡ Some o → local_after p t n o ≡ Some here → CanStep (state_of (put_thread k t here)) t
-steps_there p k t n o here moves stands goes =
+-- a thread that can move can move where its local steps lead it
+pub moves_there : (p : Program) (k : ConcreteState) (t n : ℕ) (o here : Thread) → can_move k t ≡ true
+    → thread_of k t ≡ Some o → local_after p t n o ≡ Some here → can_move (put_thread k t here) t ≡ true
+moves_there p k t n o here moves stands goes =
     let u = up k t moves in
     let origin : Some o ≡ Some u.thread = sym stands ∙ u.stands in
-    record {
+    (moves_so (put_thread k t here) t).1 (record {
       thread = here;
       stands = thread_at-put k.threads t o here stands;
       awake = u.awake;
       goes_on = after_lives p t n o here (ap has_ended origin ∙ u.lives) goes;
-    }
-
--- so its step there is refused where it may not be alone
-pub only_broken : (p : Program) (k : ConcreteState) (t n : ℕ) (o here : Thread) (f : StepFault) → can_move k t ≡ true
-    → thread_of k t ≡ Some o → local_after p t n o ≡ Some here → step_of p (put_thread k t here) t ≡ Err f → f ≡ Broken
-only_broken p k t n o here Broken moves stands goes fails = refl
-only_broken p k t n o here CannotMove moves stands goes fails =
-    absurd ((refuses_so p (put_thread k t here) t).0 fails (steps_there p k t n o here moves stands goes))
-
--- and it isn't held up
-pub not_held_up : (p : Program) (k : ConcreteState) (t : ℕ) → IsHeldUp p k t → ⊥
-not_held_up p k t w =
-    let there = put_thread k t w.here in
-    let b = refused_by there (step_of p there t) (local_step p t w.here) CannotMove w.waits in
-    (refuses_so p there t).0 b.1 (steps_there p k t w.count w.origin w.here w.moves w.stands w.goes)
+    })

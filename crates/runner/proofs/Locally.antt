@@ -10,12 +10,13 @@ use Rattle.locals.specs.Steps.{local_step}
 use Rattle.machine.specs.AbstractServing.{IsUnserved, Lies}
 use Rattle.machine.specs.Runs.{IsBroken}
 use Rattle.machine.specs.States.{State, state_of, with_thread}
-use Rattle.machine.specs.ConcreteSteps.{put_thread, step_of}
+use Rattle.machine.specs.declared.event.StepFault.TheVariants.{Broken}
 use Rattle.machine.proofs.Placing.{thread_at-put}
-use Rattle.machine.proofs.Refusing.{breaks_so}
+use Rattle.piece_machine.specs.PieceConcrete.{piece_of, with_local}
+use Rattle.piece_machine.proofs.Refused.{piece_breaks_so}
 use Rattle.runner.specs.LogRuns.{LocallySo}
-use Rattle.runner.proofs.Handing.{up}
-use Rattle.runner.proofs.Unrolling.{breaks_by, holds, kept_put}
+use Rattle.runner.proofs.Handing.{refused_by, up}
+use Rattle.runner.proofs.Unrolling.{holds, kept_put}
 
 out_there : (s s' : State) (a : ℕ) → s'.size ≡ s.size → (Lies s a → ⊥) → Lies s' a → ⊥
 out_there s s' a same out lies = out (subst (λ (n : ℕ). a < n) same lies)
@@ -56,22 +57,27 @@ pub locally_so : LocallySo
 locally_so p may limit m fits =
     let k = m.concrete in
     let t = m.thread in
-    let there = put_thread k t m.here in
-    let u = up k t m.moves in
-    let kept = kept_put p k t m.here (holds p m.log k fits m.legal) in
-    let gives = breaks_by there (step_of p there t) (local_step p t m.here) m.breaks in
-    let n = (breaks_so p there t kept).0 gives in
-    let same : Some m.here ≡ Some n.thread = sym (thread_at-put k.threads t m.origin m.here m.stands) ∙ n.stands in
+    let there = with_local k t m.here in
+    let u = up k.concrete t m.moves in
+    let fit = kept_put p k t m.count m.origin m.here (holds p m.log k fits m.legal) u.awake m.stands m.goes in
+    let gives = (refused_by there (piece_of p there t) (local_step p t m.here) Broken m.breaks).1 in
+    let b = (piece_breaks_so p there t fit).0 gives in
+    let n = b.1 in
+    let same : Some m.here ≡ Some n.thread = sym (thread_at-put k.concrete.threads t m.origin m.here m.stands)
+    ∙ n.stands in
     let is : n.thread ≡ m.here = cc in
-    let breaks : IsBroken (state_of there) (look p t m.here) = subst
-    (λ (x : Thread). IsBroken (state_of there) (look p t x)) is n.breaks in
-    let s' = with_thread (state_of k) t m.here in (
+    let breaks : IsBroken (state_of there.concrete) (look p t m.here) = subst
+    (λ (x : Thread). IsBroken (state_of there.concrete) (look p t x)) is n.breaks in
+    let s' = with_thread (state_of k.concrete) t m.here in (
       u.awake,
-      record {
-        thread = m.here;
-        stands = put_there (state_of k).thread t (Some m.here);
-        awake = u.awake;
-        breaks = broken_there (look p t m.here) (state_of there) s' refl
-            (omega (arith, length-set k.threads (t - 1) m.here)) refl breaks;
-      },
+      (
+        b.0,
+        record {
+          thread = m.here;
+          stands = put_there (state_of k.concrete).thread t (Some m.here);
+          awake = u.awake;
+          breaks = broken_there (look p t m.here) (state_of there.concrete) s' refl
+              (omega (arith, length-set k.concrete.threads (t - 1) m.here)) refl breaks;
+        },
+      ),
     )

@@ -13,14 +13,14 @@ use Rattle.machine.specs.declared.event.StepFault.{StepFault}
 use Rattle.machine.specs.declared.event.StepFault.TheVariants.{Broken, CannotMove}
 use Rattle.machine.specs.States.{ConcreteState, thread_of, state_of}
 use Rattle.machine.specs.Runs.{IsBroken}
-use Rattle.machine.specs.ConcreteSteps.{step_of, put_thread, can_move, thread_can_move}
-use Rattle.machine.specs.ConcreteOutside.{kill_of, stray_of}
-use Rattle.machine.specs.Views.{IsWellFormed}
-use Rattle.machine.proofs.Killing.{kills_so}
-use Rattle.machine.proofs.Outside.{strays_so}
+use Rattle.machine.specs.ConcreteSteps.{put_thread, can_move, thread_can_move}
 use Rattle.machine.proofs.Placing.{get_set_other, thread_at-other, thread_at-put}
-use Rattle.machine.proofs.Refusing.{breaks_so}
-use Rattle.machine.proofs.Stepping.{steps_so}
+use Rattle.piece_machine.specs.PieceConcrete.{PieceConcrete, pieces_at, piece_of, with_local, stray_piece, kill_piece}
+use Rattle.piece_machine.specs.PieceDetermined.{IsFit}
+use Rattle.piece_machine.specs.PieceViews.{own_step, stray_step, kill_step}
+use Rattle.piece_machine.proofs.Beyond.{piece_strays_so, piece_kills_so}
+use Rattle.piece_machine.proofs.Determined.{piece_steps_so}
+use Rattle.piece_machine.proofs.Refused.{piece_breaks_so}
 use Rattle.runner.specs.declared.fault.RunFault.TheVariants.{Limit}
 use Rattle.runner.specs.declared.fault.RunFault.TheVariants.{CannotMove as CannotMove'}
 use Rattle.runner.specs.Views.{PieceView, LogState}
@@ -30,15 +30,16 @@ use Rattle.runner.specs.Reports.{IsHeldUp, IsStopped}
 use Rattle.runner.specs.Rounds.{AllPast, IsPast}
 use Rattle.runner.proofs.Handing.{costs_so, refused_by, refused_end, up}
 use Rattle.runner.proofs.Growing.{cost_more, ends}
-use Rattle.runner.proofs.Beside.{Beside, beside, kill_beside, outside_beside}
+use Rattle.runner.proofs.Beside.{Beside, kills_beside, own_beside, stray_beside}
 use Rattle.runner.proofs.Locally.{broken_there}
 use Rattle.runner.proofs.Once.{no_stray}
 use Rattle.runner.proofs.Unrolling.{kept_put}
 
 -- what an entry leaves to the other threads
-record Apart (p : Program) (k k' : ConcreteState) (t : ℕ) : Type 0 where
-  pub beside : Beside t (state_of k) (state_of k')
-  pub concrete : IsWellFormed p k'
+record Apart (p : Program) (k k' : PieceConcrete) (t : ℕ) : Type 0 where
+  pub beside : Beside t (state_of k.concrete) (state_of k'.concrete)
+  pub phases : (u : ℕ) → u ≢ t → k'.phase u ≡ k.phase u
+  pub fit : IsFit p k'
 
 numbered : (k : ConcreteState) (u : ℕ) (x : Thread) → thread_of k u ≡ Some x → u ≤ length k.threads
 numbered k zero x h = absurd cc
@@ -60,75 +61,96 @@ both t k mid k' a b = record {
   made = omega (arith, a.made, b.made);
 }
 
-ends_apart : (p : Program) (k k' : ConcreteState) (t : ℕ) (o here : Thread) (event : Option Event)
-    → IsWellFormed p k → thread_of k t ≡ Some o → Ends p (put_thread k t here) t here event k' → Apart p k k' t
-ends_apart p k k' t o here None concrete stands is =
-    subst (λ (q : ConcreteState). Apart p k q t) (sym is)
-    (record { beside = put_beside k t o here stands; concrete = kept_put p k t here concrete })
-ends_apart p k k' t o here (Some e) concrete stands is =
-    let there = put_thread k t here in
-    let s = steps_so p there k' t e (kept_put p k t here concrete) is.1 in
+ends_apart : (p : Program) (k k' : PieceConcrete) (t : ℕ) (o here : Thread) (event : Option Event)
+    → IsFit p (with_local k t here) → thread_of k.concrete t ≡ Some o → Ends p (with_local k t here) t here event k'
+    → Apart p k k' t
+ends_apart p k k' t o here None fit stands is =
+    subst (λ (q : PieceConcrete). Apart p k q t) (sym is)
+    (record { beside = put_beside k.concrete t o here stands; phases = λ u other. refl; fit = fit })
+ends_apart p k k' t o here (Some e) fit stands is =
+    let there = with_local k t here in
+    let s = piece_steps_so p there k' t e fit is.1 in
+    let b = own_beside p (pieces_at there) (pieces_at k') (own_step (pieces_at k') t s.0.woken)
+    (numbered there.concrete) s.0.step in
     record {
-      beside = both t k there k' (put_beside k t o here stands)
-          (beside t (state_of there) s.0 _ (state_of k') (numbered there) s.2.moves);
-      concrete = s.3;
+      beside = both t k.concrete there.concrete k'.concrete (put_beside k.concrete t o here stands) b.base;
+      phases = b.phases;
+      fit = s.1;
     }
 
-apart : (p : Program) (k k' : ConcreteState) (t : ℕ) (o here : Thread) (event : Option Event) → IsWellFormed p k
-    → thread_of k t ≡ Some o → entry_end p k t here ≡ Ok (k', event) → Apart p k k' t
-apart p k k' t o here event concrete stands given =
-    ends_apart p k k' t o here event concrete stands (ends p k k' t here event given)
+apart : (p : Program) (k k' : PieceConcrete) (t n : ℕ) (o here : Thread) (event : Option Event) → IsFit p k
+    → can_move k.concrete t ≡ true → thread_of k.concrete t ≡ Some o → local_after p t n o ≡ Some here
+    → entry_end p k t here ≡ Ok (k', event) → Apart p k k' t
+apart p k k' t n o here event fit moves stands goes given =
+    ends_apart p k k' t o here event (kept_put p k t n o here fit (up k.concrete t moves).awake stands goes) stands
+    (ends p k k' t here event given)
 
-outside_apart : (p : Program) (k k' : ConcreteState) (t : ℕ) (event : Event) → IsWellFormed p k
-    → stray_of k t ≡ Ok (k', event) → Apart p k k' t
-outside_apart p k k' t event concrete gives =
-    let s = strays_so p k k' t event concrete gives in
-    record { beside = outside_beside t (state_of k) (state_of k') s.1.after; concrete = s.2 }
+outside_apart : (p : Program) (k k' : PieceConcrete) (t : ℕ) (event : Event) → IsFit p k
+    → stray_piece k t ≡ Ok (k', event) → Apart p k k' t
+outside_apart p k k' t event fit gives =
+    let s = piece_strays_so p k k' t event fit gives in
+    let b = stray_beside event.value (pieces_at k) (pieces_at k') (stray_step t event.value) s.0.step in
+    record { beside = b.base; phases = b.phases; fit = s.1 }
 
-kill_apart : (p : Program) (k k' : ConcreteState) (t : ℕ) (event : Event) → IsWellFormed p k
-    → kill_of k t ≡ Ok (k', event) → Apart p k k' t
-kill_apart p k k' t event concrete gives =
-    let s = kills_so p k k' t event concrete gives in
-    record { beside = kill_beside t (state_of k) (state_of k') (event.value == 1) s.1.after; concrete = s.2 }
+kill_apart : (p : Program) (k k' : PieceConcrete) (t : ℕ) (event : Event) → IsFit p k
+    → kill_piece p k t ≡ Ok (k', event) → Apart p k k' t
+kill_apart p k k' t event fit gives =
+    let s = piece_kills_so p k k' t event fit gives in
+    let b = kills_beside p (event.value == 1) (pieces_at k) (pieces_at k') (kill_step t (event.value == 1)) s.0.step in
+    record { beside = b.base; phases = b.phases; fit = s.1 }
 
 -- a thread that can move still can after another's entry
-moves_stay : (p : Program) (k k' : ConcreteState) (t u : ℕ) → Apart p k k' t → u ≢ t → can_move k u ≡ true
-    → can_move k' u ≡ true
+moves_stay : (p : Program) (k k' : PieceConcrete) (t u : ℕ) → Apart p k k' t → u ≢ t → can_move k.concrete u ≡ true
+    → can_move k'.concrete u ≡ true
 moves_stay p k k' t u a other moves =
-    let is = up k u moves in
+    let is = up k.concrete u moves in
     let awake = a.beside.awake u other is.awake in
     let stands = a.beside.stay u is.thread other is.stands in
     (λ i. thread_can_move (awake i) (stands i)) ∙ ap not is.lives
 
 -- its next entry isn't broken by that either
-may_be_still : (p : Program) (k k' : ConcreteState) (t u : ℕ) (o here : Thread) → IsWellFormed p k → Apart p k k' t
-    → thread_of k u ≡ Some o → k.common.asleep u ≡ None → thread_of k' u ≡ Some o → entry_end p k' u here ≡ Err Broken
+may_be_still : (p : Program) (k k' : PieceConcrete) (t u n : ℕ) (o here : Thread) → IsFit p k → Apart p k k' t → u ≢ t
+    → thread_of k.concrete u ≡ Some o → k.concrete.common.asleep u ≡ None → thread_of k'.concrete u ≡ Some o
+    → k'.concrete.common.asleep u ≡ None → local_after p u n o ≡ Some here → entry_end p k' u here ≡ Err Broken
     → entry_end p k u here ≡ Err Broken
-may_be_still p k k' t u o here kept a stands awake stands' breaks =
-    let there = put_thread k u here in
-    let there' = put_thread k' u here in
-    let b = refused_by there' (step_of p there' u) (local_step p u here) Broken breaks in
-    let n = (breaks_so p there' u (kept_put p k' u here a.concrete)).0 b.1 in
-    let same : Some here ≡ Some n.thread = sym (thread_at-put k'.threads u o here stands') ∙ n.stands in
+may_be_still p k k' t u n o here kept a other stands awake stands' awake' goes breaks =
+    let there = with_local k u here in
+    let there' = with_local k' u here in
+    let b = refused_by there' (piece_of p there' u) (local_step p u here) Broken breaks in
+    let fit = kept_put p k u n o here kept awake stands goes in
+    let fit' = kept_put p k' u n o here a.fit awake' stands' goes in
+    let m = (piece_breaks_so p there' u fit').0 b.1 in
+    let n = m.1 in
+    let same : Some here ≡ Some n.thread = sym (thread_at-put k'.concrete.threads u o here stands') ∙ n.stands in
     let is : n.thread ≡ here = cc in
-    let broken : IsBroken (state_of there') (look p u here) = subst
-    (λ (x : Thread). IsBroken (state_of there') (look p u x)) is n.breaks in
-    let step : step_of p there u ≡ Err Broken = (breaks_so p there u (kept_put p k u here kept)).1 (record {
-      thread = here;
-      stands = thread_at-put k.threads u o here stands;
-      awake = awake;
-      breaks = broken_there (look p u here) (state_of there') (state_of there) (kept.sized ∙ sym a.concrete.sized)
-          (omega (arith, a.beside.made, length-set k.threads (u - 1) here, length-set k'.threads (u - 1) here))
-          (kept.most ∙ sym a.concrete.most) broken;
-    }) in
-    refused_end there (step_of p there u) (local_step p u here) Broken b.0 step
+    let broken : IsBroken (state_of there'.concrete) (look p u here) = subst
+    (λ (x : Thread). IsBroken (state_of there'.concrete) (look p u x)) is n.breaks in
+    let step : piece_of p there u ≡ Err Broken = (piece_breaks_so p there u fit).1 (
+      sym (a.phases u other) ∙ m.0,
+      record {
+        thread = here;
+        stands = thread_at-put k.concrete.threads u o here stands;
+        awake = awake;
+        breaks = broken_there (look p u here) (state_of there'.concrete) (state_of there.concrete)
+            (kept.well.sized ∙ sym a.fit.well.sized)
+            (omega (
+              arith,
+              a.beside.made,
+              length-set k.concrete.threads (u - 1) here,
+              length-set k'.concrete.threads (u - 1) here,
+            ))
+            (kept.well.most ∙ sym a.fit.well.most) broken;
+      },
+    ) in
+    refused_end there (piece_of p there u) (local_step p u here) Broken b.0 step
 
-past_stays : (p : Program) (limit : ℕ) (h h' : LogState) (t u : ℕ) → IsWellFormed p h.concrete
+past_stays : (p : Program) (limit : ℕ) (h h' : LogState) (t u : ℕ) → IsFit p h.concrete
     → Apart p h.concrete h'.concrete t → u ≢ t → cost h.log ≤ cost h'.log
     → IsPast p limit h.log h.concrete u → IsPast p limit h'.log h'.concrete u
 past_stays p limit h h' t u kept a other more w =
-    let is = up h.concrete u w.moves in
+    let is = up h.concrete.concrete u w.moves in
     let stands = a.beside.stay u w.origin other w.stands in
+    let awake = a.beside.awake u other is.awake in
     let before = w.past in
     record {
       count = w.count;
@@ -139,8 +161,8 @@ past_stays p limit h h' t u kept a other more w =
       goes = w.goes;
       turn = w.turn;
       whole = w.whole;
-      may_be = λ breaks. w.may_be (may_be_still p h.concrete h'.concrete t u w.origin w.here kept a w.stands is.awake
-          stands breaks);
+      may_be = λ breaks. w.may_be (may_be_still p h.concrete h'.concrete t u w.count w.origin w.here kept a other
+          w.stands is.awake stands awake w.goes breaks);
       past = omega (arith, before, more);
     }
 
@@ -149,10 +171,13 @@ clash h = cc
 
 -- an entry of a thread that wasn't refused
 pub all_past : (p : Program) (limit : ℕ) (old new : LogState) (t : ℕ) (a : PieceView) (refused : List Bool)
-    → IsWellFormed p old.concrete → Takes p limit old t a new → slice_get refused t ≡ Some false
-    → AllPast p limit old refused → AllPast p limit new refused
-all_past p limit old new t a refused concrete takes free past u is =
-    let m = apart p old.concrete new.concrete t a.origin a.here takes.event concrete takes.stands.1 takes.gives in
+    → IsFit p old.concrete → local_after p a.thread a.count a.origin ≡ Some a.here → Takes p limit old t a new
+    → slice_get refused t ≡ Some false → AllPast p limit old refused → AllPast p limit new refused
+all_past p limit old new t a refused concrete goes takes free past u is =
+    let here : local_after p t a.count a.origin ≡ Some a.here =
+    ap (λ v. local_after p v a.count a.origin) (sym takes.stands.0) ∙ goes in
+    let m = apart p old.concrete new.concrete t a.count a.origin a.here takes.event concrete takes.moves takes.stands.1
+    here takes.gives in
     let other : u ≢ t = λ e. clash (sym is ∙ ap (slice_get refused) e ∙ free) in
     let more : cost new.log ≡ cost old.log + (a.count + event_cost takes.event) = ap cost takes.log
     ∙ cost_more old.log t a.count takes.event in
@@ -160,20 +185,20 @@ all_past p limit old new t a refused concrete takes free past u is =
 
 -- a wake from outside
 pub wake_past : (p : Program) (limit : ℕ) (old new : LogState) (t : ℕ) (refused : List Bool)
-    → IsWellFormed p old.concrete → TakesOutside limit old t new → AllPast p limit old refused
+    → IsFit p old.concrete → TakesOutside limit old t new → AllPast p limit old refused
     → AllPast p limit new refused
 wake_past p limit old new t refused concrete takes past u is =
     let m = outside_apart p old.concrete new.concrete t takes.event concrete takes.gives in
-    let awake = (up old.concrete u (past u is).moves).awake in
+    let awake = (up old.concrete.concrete u (past u is).moves).awake in
     let other : u ≢ t = λ e. no_stray old.concrete u (new.concrete, takes.event) awake
-    (ap (stray_of old.concrete) e ∙ takes.gives) in
+    (ap (stray_piece old.concrete) e ∙ takes.gives) in
     let more : cost new.log ≡ cost old.log + (0 + event_cost (Some takes.event)) = ap cost takes.log
     ∙ cost_more old.log t 0 (Some takes.event) in
     past_stays p limit old new t u concrete m other (omega (arith, more)) (past u is)
 
 -- a kill of a thread that wasn't refused
 pub kill_past : (p : Program) (limit : ℕ) (old new : LogState) (t : ℕ) (refused : List Bool)
-    → IsWellFormed p old.concrete → TakesKill limit old t new → slice_get refused t ≡ Some false
+    → IsFit p old.concrete → TakesKill p limit old t new → slice_get refused t ≡ Some false
     → AllPast p limit old refused → AllPast p limit new refused
 kill_past p limit old new t refused concrete takes free past u is =
     let m = kill_apart p old.concrete new.concrete t takes.event concrete takes.gives in
@@ -201,7 +226,7 @@ pub none_past : (p : Program) (limit : ℕ) (h : LogState) → AllPast p limit h
 none_past p limit h t is = absurd (none_true 65 t is)
 
 -- what comes of an entry that may be
-ended_so : (r : Result (ConcreteState × Option Event) StepFault) (k : ConcreteState) (e : Option Event) → r ≡ Ok (k, e)
+ended_so : (r : Result (PieceConcrete × Option Event) StepFault) (k : PieceConcrete) (e : Option Event) → r ≡ Ok (k, e)
     → r ≡ Err Broken → ⊥
 ended_so r k e done breaks = absurd (cc (sym done ∙ breaks))
 
@@ -211,7 +236,7 @@ pub passes : (p : Program) (limit : ℕ) (h : LogState) (t : ℕ) (a : PieceView
     → (a.count < 256 → local_step p a.thread a.here ≡ None)
     → IsPast p limit h.log h.concrete t
 passes p limit h t a refused goes turn whole =
-    let costs = costs_so (put_thread h.concrete t a.here) refused.2 (step_of p (put_thread h.concrete t a.here) t)
+    let costs = costs_so (with_local h.concrete t a.here) refused.2 (piece_of p (with_local h.concrete t a.here) t)
     (local_step p t a.here) refused.3 refused.4 in
     let past = refused.5 in
     record {
@@ -229,10 +254,10 @@ passes p limit h t a refused goes turn whole =
 
 -- one that a held bucket is in the way of is held up
 pub holds_up : (p : Program) (limit : ℕ) (h : LogState) (t : ℕ) (a : PieceView) → RefusesEntry p limit h t a CannotMove'
-    → can_move h.concrete t ≡ true → local_after p a.thread a.count a.origin ≡ Some a.here → a.count ≤ 256
+    → can_move h.concrete.concrete t ≡ true → local_after p a.thread a.count a.origin ≡ Some a.here → a.count ≤ 256
     → (a.count < 256 → local_step p a.thread a.here ≡ None)
     → IsHeldUp p h.concrete t
-holds_up p limit h t a (stands, inl rests) moves goes turn whole = absurd (both_ways (can_move h.concrete t) rests moves)
+holds_up p limit h t a (stands, inl rests) moves goes turn whole = absurd (both_ways (can_move h.concrete.concrete t) rests moves)
 holds_up p limit h t a (stands, inr waits) moves goes turn whole = record {
   count = a.count;
   origin = a.origin;
@@ -250,13 +275,13 @@ pub stops : (p : Program) (limit : ℕ) (h : LogState) (t : ℕ) → IsPast p li
     → IsStopped p limit h.log h.concrete t
 stops p limit h t w = by (entry_end p h.concrete t w.here) refl
   where
-    k : ConcreteState
+    k : PieceConcrete
     k = h.concrete
 
-    by : (r : Result (ConcreteState × Option Event) StepFault) → entry_end p k t w.here ≡ r
+    by : (r : Result (PieceConcrete × Option Event) StepFault) → entry_end p k t w.here ≡ r
         → IsStopped p limit h.log k t
     by (Ok q) is =
-        let costs = costs_so (put_thread k t w.here) q.0 (step_of p (put_thread k t w.here) t) (local_step p t w.here) q.1
+        let costs = costs_so (with_local k t w.here) q.0 (piece_of p (with_local k t w.here) t) (local_step p t w.here) q.1
         is in
         let past = w.past in
         inl (record {
@@ -289,9 +314,9 @@ stops p limit h t w = by (entry_end p h.concrete t w.here) refl
 
 -- one thread more of a round
 pub none_step : (p : Program) (limit : ℕ) (old new : LogState) (was one : Bool) (t : ℕ)
-    → (was ≡ false → (u : ℕ) → u < t → can_move old.concrete u ≡ true → IsStopped p limit old.log old.concrete u)
-    → (one ≡ false → (new ≡ old) × (can_move new.concrete t ≡ true → IsStopped p limit new.log new.concrete t))
-    → (was || one) ≡ false → (u : ℕ) → u < t + 1 → can_move new.concrete u ≡ true
+    → (was ≡ false → (u : ℕ) → u < t → can_move old.concrete.concrete u ≡ true → IsStopped p limit old.log old.concrete u)
+    → (one ≡ false → (new ≡ old) × (can_move new.concrete.concrete t ≡ true → IsStopped p limit new.log new.concrete t))
+    → (was || one) ≡ false → (u : ℕ) → u < t + 1 → can_move new.concrete.concrete u ≡ true
     → IsStopped p limit new.log new.concrete u
 none_step p limit old new true one t before here still u within moves = absurd cc
 none_step p limit old new false true t before here still u within moves = absurd cc
@@ -299,9 +324,9 @@ none_step p limit old new false false t before here still u within moves =
     let now = here refl in
     elim (cases_eq u t) [
       | inl e ↦ subst (λ (v : ℕ). IsStopped p limit new.log new.concrete v) (sym e)
-          (now.1 (ap (can_move new.concrete) (sym e) ∙ moves))
+          (now.1 (ap (can_move new.concrete.concrete) (sym e) ∙ moves))
       | inr other ↦ subst (λ (h : LogState). IsStopped p limit h.log h.concrete u) (sym now.0)
-          (before refl u (omega arith) (ap (λ (h : LogState). can_move h.concrete u) (sym now.0) ∙ moves))
+          (before refl u (omega arith) (ap (λ (h : LogState). can_move h.concrete.concrete u) (sym now.0) ∙ moves))
     ]
 
 pub made_step : (limit : ℕ) (start old new : LogState) (was one : Bool)

@@ -1,53 +1,59 @@
 -- What is told of a run whose threads can make no entry more.
 use Rattle.std.proofs.Common.{◌≡◌, ◌≤◌, ℕ, true, List, Result, Ok, Err, IfOk, MatchResult, is_ok, ap, sym, ◌∙◌}
-use Rattle.std.proofs.Common.{subst, inl, inr}
+use Rattle.std.proofs.Common.{subst}
 use Rattle.isa.specs.Programs.{Program}
 use Rattle.machine.specs.declared.event.Entry.{Entry}
-use Rattle.machine.specs.States.{opening_concrete}
 use Rattle.machine.specs.ConcreteSteps.{can_move}
-use Rattle.machine.specs.Views.{View, concrete}
+use Rattle.machine.specs.Views.{concrete}
+use Rattle.piece_machine.specs.PieceConcrete.{PieceConcrete}
+use Rattle.piece_machine.specs.PieceDetermined.{IsFit}
+use Rattle.piece_machine.specs.PieceViews.{PieceView as MachineView, parts}
 use Rattle.runner.specs.declared.report.Report.{Report}
 use Rattle.runner.specs.declared.report.Verdict.{Verdict}
 use Rattle.runner.specs.declared.report.Verdict.TheVariants.{Limit}
-use Rattle.runner.specs.Logs.{HasOnly, Outside, Runs, cost}
+use Rattle.runner.specs.Logs.{HasOnly, Outside, Runs, cost, opening}
 use Rattle.runner.specs.Reports.{IsReport, IsVerdict, PassesLimit}
 use Rattle.runner.specs.Rounds.{Idle}
 use Rattle.runner.specs.Views.{LogState}
-use Rattle.runner.proofs.Lives.{not_held_up}
+use Rattle.runner.proofs.Waiting.{some_passes}
 
 -- where a run ends for the limit, the next entry of some thread would pass it
-limited_so : (p : Program) (limit : ℕ) (h : LogState) (verdict : Verdict) → Idle p limit h → IsVerdict h.concrete verdict
-    → verdict ≡ Limit
-    → (t : ℕ) × (can_move h.concrete t ≡ true) × PassesLimit p limit h.log h.concrete t
-limited_so p limit h verdict idle holds is =
-    let some : IsVerdict h.concrete Limit = subst (λ (v : Verdict). IsVerdict h.concrete v) is holds in
-    elim (idle some.0 some.1) [
-      | inl passes ↦ (some.0, some.1, passes)
-      | inr waits ↦ absurd (not_held_up p h.concrete some.0 waits)
-    ]
+limited_so : (p : Program) (limit : ℕ) (h : LogState) (verdict : Verdict) → IsFit p h.concrete → Idle p limit h
+    → IsVerdict h.concrete.concrete verdict → verdict ≡ Limit
+    → (t : ℕ) × (can_move h.concrete.concrete t ≡ true) × PassesLimit p limit h.log h.concrete t
+limited_so p limit h verdict fit idle holds is =
+    let some : IsVerdict h.concrete.concrete Limit = subst (λ (v : Verdict). IsVerdict h.concrete.concrete v) is holds in
+    some_passes p limit h some.0 fit idle some.1
 
 -- a report of the log and the machine that a run leaves
-pub reported : {E : Type 0} → (p : Program) (may : Outside) (limit : ℕ) (h : LogState) (log : List Entry) (last : View)
-    (r : Result Report E) → Runs p (opening_concrete p) h.log h.concrete → HasOnly may h.log
-    → cost h.log ≤ limit → Idle p limit h → log ≡ h.log → concrete last ≡ h.concrete → last.program ≡ p
+pub reported : {E : Type 0} → (p : Program) (may : Outside) (limit : ℕ) (h : LogState) (log : List Entry)
+    (last : MachineView) (r : Result Report E) → Runs p (opening p) h.log h.concrete → HasOnly may h.log
+    → cost h.log ≤ limit → Idle p limit h → log ≡ h.log → parts last ≡ h.concrete → last.view.program ≡ p
     → IfOk r (λ report. report.log.items ≡ log) → IfOk r (λ report. report.last ≡ last)
-    → IfOk r (λ report. report.output.items ≡ last.output) → IfOk r (λ report. IsVerdict (concrete last) report.verdict)
+    → IfOk r (λ report. report.output.items ≡ last.view.output)
+    → IfOk r (λ report. IsVerdict (concrete last.view) report.verdict)
+    → IfOk r (λ report. IsFit last.view.program (parts last))
     → IfOk r (λ report. IsReport p may limit report)
-reported p may limit h log last (Err e) legal own within idle is there program logged same output verdict = logged
-reported p may limit h log last (Ok r) legal own within idle is there program logged same output verdict =
-    let back : h ≡ record { log = r.log.items; concrete = concrete r.last } =
-    sym (λ i. record { log = (logged ∙ is) i; concrete = (ap concrete same ∙ there) i }) in
+reported p may limit h log last (Err e) legal own within idle is there program logged same output verdict fit = logged
+reported p may limit h log last (Ok r) legal own within idle is there program logged same output verdict fit =
+    let back : h ≡ record { log = r.log.items; concrete = parts r.last } =
+    sym (λ i. record { log = (logged ∙ is) i; concrete = (ap parts same ∙ there) i }) in
+    let now : Idle p limit (record { log = r.log.items; concrete = parts r.last }) =
+    subst (λ (x : LogState). Idle p limit x) back idle in
+    let said : IsVerdict (concrete r.last.view) r.verdict =
+    subst (λ (v : MachineView). IsVerdict (concrete v.view) r.verdict) (sym same) verdict in
     record {
-      legal = subst (λ (x : LogState). Runs p (opening_concrete p) x.log x.concrete) back legal;
+      legal = subst (λ (x : LogState). Runs p (opening p) x.log x.concrete) back legal;
       own = subst (λ (x : LogState). HasOnly may x.log) back own;
-      program = ap (λ (v : View). v.program) same ∙ program;
+      program = ap (λ (v : MachineView). v.view.program) same ∙ program;
       within = subst (λ (x : LogState). cost x.log ≤ limit) back within;
-      output = output ∙ ap (λ (v : View). v.output) (sym same);
-      verdict = subst (λ (v : View). IsVerdict (concrete v) r.verdict) (sym same) verdict;
-      over = subst (λ (x : LogState). Idle p limit x) back idle;
-      limited = limited_so p limit (record { log = r.log.items; concrete = concrete r.last }) r.verdict
-          (subst (λ (x : LogState). Idle p limit x) back idle)
-          (subst (λ (v : View). IsVerdict (concrete v) r.verdict) (sym same) verdict);
+      output = output ∙ ap (λ (v : MachineView). v.view.output) (sym same);
+      verdict = said;
+      over = now;
+      limited = limited_so p limit (record { log = r.log.items; concrete = parts r.last }) r.verdict
+          (subst (λ (x : LogState). IsFit p x.concrete) back
+          (subst (λ (x : PieceConcrete). IsFit p x) there (subst (λ (q : Program). IsFit q (parts last)) program fit)))
+          now said;
     }
 
 -- what is said of a value is said of it where the error is another

@@ -7,43 +7,43 @@ use Rattle.locals.specs.Steps.{local_step, local_after}
 use Rattle.machine.specs.declared.event.Event.{Event}
 use Rattle.machine.specs.declared.event.StepFault.{StepFault}
 use Rattle.machine.specs.declared.event.StepFault.TheVariants as step
-use Rattle.machine.specs.States.{ConcreteState, state_of, thread_of}
-use Rattle.machine.specs.ConcreteSteps.{step_of, put_thread, can_move}
-use Rattle.machine.specs.ConcreteOutside.{kill_of, stray_of}
+use Rattle.machine.specs.States.{state_of, thread_of}
+use Rattle.machine.specs.ConcreteSteps.{can_move}
+use Rattle.piece_machine.specs.PieceConcrete.{PieceConcrete, piece_of, with_local, stray_piece, kill_piece}
 use Rattle.runner.specs.declared.fault.RunFault.{RunFault}
 use Rattle.runner.specs.declared.fault.RunFault.TheVariants.{Stray, Limit, CannotMove, Broken, Memory}
 use Rattle.runner.specs.Views.{PieceView, LogState}
 use Rattle.runner.specs.Logs.{cost, event_cost}
 
 -- a thread comes in at a place: a turn where it stands before a local step, and else its step with the event
-abbrev pub entry_end_by : ConcreteState → Result (ConcreteState × Event) StepFault → Option Thread
-    → Result (ConcreteState × Option Event) StepFault
+abbrev pub entry_end_by : PieceConcrete → Result (PieceConcrete × Event) StepFault → Option Thread
+    → Result (PieceConcrete × Option Event) StepFault
 entry_end_by k step (Some x) = Ok (k, None)
 entry_end_by k (Ok r) None = Ok (r.0, Some r.1)
 entry_end_by k (Err fault) None = Err fault
 
 -- where an entry ends, of a thread that has come to this state by its local steps
-abbrev pub entry_end : Program → ConcreteState → ℕ → Thread → Result (ConcreteState × Option Event) StepFault
+abbrev pub entry_end : Program → PieceConcrete → ℕ → Thread → Result (PieceConcrete × Option Event) StepFault
 entry_end p k t here =
-    let there = put_thread k t here in entry_end_by there (step_of p there t) (local_step p t here)
+    let there = with_local k t here in entry_end_by there (piece_of p there t) (local_step p t here)
 
 -- a thread comes by so many local steps to a step that may not be
-pub record BreaksAfter (p : Program) (k : ConcreteState) (t count : ℕ) : Type 0 where
+pub record BreaksAfter (p : Program) (k : PieceConcrete) (t count : ℕ) : Type 0 where
   pub origin : Thread
   pub here : Thread
-  pub stands : thread_of k t ≡ Some origin
+  pub stands : thread_of k.concrete t ≡ Some origin
   pub goes : local_after p t count origin ≡ Some here
   pub breaks : entry_end p k t here ≡ Err step.Broken
 
 -- the piece is the thread's, and began where the thread is
 abbrev pub Stands : LogState → ℕ → PieceView → Type 0
-Stands h t a = (a.thread ≡ t) × (thread_of h.concrete t ≡ Some a.origin)
+Stands h t a = (a.thread ≡ t) × (thread_of h.concrete.concrete t ≡ Some a.origin)
 
 -- the piece can come in, within the limit
 pub record IsFine (p : Program) (limit : ℕ) (h : LogState) (t : ℕ) (a : PieceView) : Type 0 where
   pub stands : Stands h t a
-  pub moves : can_move h.concrete t ≡ true
-  pub concrete : ConcreteState
+  pub moves : can_move h.concrete.concrete t ≡ true
+  pub concrete : PieceConcrete
   pub event : Option Event
   pub gives : entry_end p h.concrete t a.here ≡ Ok (concrete, event)
   pub within : cost h.log + (a.count + event_cost event) ≤ limit
@@ -51,7 +51,7 @@ pub record IsFine (p : Program) (limit : ℕ) (h : LogState) (t : ℕ) (a : Piec
 -- a piece came in: exactly one entry is new, with the piece's count and what came of it
 pub record Takes (p : Program) (limit : ℕ) (old : LogState) (t : ℕ) (a : PieceView) (new : LogState) : Type 0 where
   pub stands : Stands old t a
-  pub moves : can_move old.concrete t ≡ true
+  pub moves : can_move old.concrete.concrete t ≡ true
   pub event : Option Event
   pub gives : entry_end p old.concrete t a.here ≡ Ok (new.concrete, event)
   pub log : new.log ≡ old.log ++ record { thread = t; local = a.count; event = event } ∷ []
@@ -62,45 +62,45 @@ pub record Takes (p : Program) (limit : ℕ) (old : LogState) (t : ℕ) (a : Pie
 abbrev pub RefusesEntry : Program → ℕ → LogState → ℕ → PieceView → RunFault → Type 0
 RefusesEntry p limit h t a Stray = Stands h t a → ⊥
 RefusesEntry p limit h t a CannotMove =
-    Stands h t a × ((can_move h.concrete t ≡ false) ⊎ (entry_end p h.concrete t a.here ≡ Err step.CannotMove))
+    Stands h t a × ((can_move h.concrete.concrete t ≡ false) ⊎ (entry_end p h.concrete t a.here ≡ Err step.CannotMove))
 RefusesEntry p limit h t a Broken =
-    Stands h t a × (can_move h.concrete t ≡ true) × (entry_end p h.concrete t a.here ≡ Err step.Broken)
+    Stands h t a × (can_move h.concrete.concrete t ≡ true) × (entry_end p h.concrete t a.here ≡ Err step.Broken)
 RefusesEntry p limit h t a Limit =
-    Stands h t a × (can_move h.concrete t ≡ true)
-    × (concrete : ConcreteState) × (event : Option Event) × (entry_end p h.concrete t a.here ≡ Ok (concrete, event))
+    Stands h t a × (can_move h.concrete.concrete t ≡ true)
+    × (concrete : PieceConcrete) × (event : Option Event) × (entry_end p h.concrete t a.here ≡ Ok (concrete, event))
     × (limit < cost h.log + (a.count + event_cost event))
 RefusesEntry p limit h t a Memory = IsFine p limit h t a
 
 -- thread t was woken from outside: exactly one entry is new, with no local step and the event of the wake
 pub record TakesOutside (limit : ℕ) (old : LogState) (t : ℕ) (new : LogState) : Type 0 where
   pub event : Event
-  pub gives : stray_of old.concrete t ≡ Ok (new.concrete, event)
+  pub gives : stray_piece old.concrete t ≡ Ok (new.concrete, event)
   pub log : new.log ≡ old.log ++ record { thread = t; local = 0; event = Some event } ∷ []
   pub within : cost new.log ≤ limit
 
 -- why a wake from outside is refused: the thread doesn't sleep; the limit is reached; or there is no memory
 abbrev pub RefusesOutside : ℕ → LogState → ℕ → RunFault → Type 0
 RefusesOutside limit h t Stray = ⊥
-RefusesOutside limit h t CannotMove = (state_of h.concrete).asleep t ≡ None
+RefusesOutside limit h t CannotMove = (state_of h.concrete.concrete).asleep t ≡ None
 RefusesOutside limit h t Broken = ⊥
-RefusesOutside limit h t Limit = ((state_of h.concrete).asleep t ≢ None) × (cost h.log ≡ limit)
-RefusesOutside limit h t Memory = ((state_of h.concrete).asleep t ≢ None) × (cost h.log < limit)
+RefusesOutside limit h t Limit = ((state_of h.concrete.concrete).asleep t ≢ None) × (cost h.log ≡ limit)
+RefusesOutside limit h t Memory = ((state_of h.concrete.concrete).asleep t ≢ None) × (cost h.log < limit)
 
 -- thread t was killed: exactly one entry is new, with no local step and the event of the kill
-pub record TakesKill (limit : ℕ) (old : LogState) (t : ℕ) (new : LogState) : Type 0 where
+pub record TakesKill (p : Program) (limit : ℕ) (old : LogState) (t : ℕ) (new : LogState) : Type 0 where
   pub event : Event
-  pub gives : kill_of old.concrete t ≡ Ok (new.concrete, event)
+  pub gives : kill_piece p old.concrete t ≡ Ok (new.concrete, event)
   pub log : new.log ≡ old.log ++ record { thread = t; local = 0; event = Some event } ∷ []
   pub within : cost new.log ≤ limit
 
 -- why a kill is refused: no such thread was made; the limit is reached; or there is no memory
 abbrev pub RefusesKill : ℕ → LogState → ℕ → RunFault → Type 0
 RefusesKill limit h t Stray = ⊥
-RefusesKill limit h t CannotMove = thread_of h.concrete t ≡ None
+RefusesKill limit h t CannotMove = thread_of h.concrete.concrete t ≡ None
 RefusesKill limit h t Broken = ⊥
-RefusesKill limit h t Limit = (thread_of h.concrete t ≢ None) × (cost h.log ≡ limit)
-RefusesKill limit h t Memory = (thread_of h.concrete t ≢ None) × (cost h.log < limit)
+RefusesKill limit h t Limit = (thread_of h.concrete.concrete t ≢ None) × (cost h.log ≡ limit)
+RefusesKill limit h t Memory = (thread_of h.concrete.concrete t ≢ None) × (cost h.log < limit)
 
 -- the piece that a thread goes on from
-abbrev pub Begins : ConcreteState → ℕ → PieceView → Type 0
-Begins k t a = (a.thread ≡ t) × (a.count ≡ 0) × (a.here ≡ a.origin) × (thread_of k t ≡ Some a.origin)
+abbrev pub Begins : PieceConcrete → ℕ → PieceView → Type 0
+Begins k t a = (a.thread ≡ t) × (a.count ≡ 0) × (a.here ≡ a.origin) × (thread_of k.concrete t ≡ Some a.origin)

@@ -2,15 +2,15 @@
 use Rattle.std.specs.Prelude.{ℕ, ◌≡◌, ◌≤◌, ◌<◌, ◌+◌, ◌*◌, ◌^◌, List, length}
 use Rattle.isa.specs.Programs.{Program}
 use Rattle.machine.specs.declared.event.Entry.{Entry}
-use Rattle.machine.specs.States.{ConcreteState, opening_concrete}
-use Rattle.runner.specs.Logs.{HasOnly, Outside, Runs, cost, kills_in}
+use Rattle.piece_machine.specs.PieceConcrete.{PieceConcrete}
+use Rattle.runner.specs.Logs.{HasOnly, Outside, Runs, cost, kills_in, opening}
 
 -- the machine runs the program, the log is legal for it and leads to what the machine keeps, with no more from outside
 -- than may be, the steps are the log's cost, within the limit, and its kills are counted
-pub record IsLegal (p : Program) (may : Outside) (limit : ℕ) (q : Program) (k : ConcreteState) (log : List Entry)
+pub record IsLegal (p : Program) (may : Outside) (limit : ℕ) (q : Program) (k : PieceConcrete) (log : List Entry)
     (steps limited killed : ℕ) : Type 0 where
   pub program : q ≡ p
-  pub legal : Runs p (opening_concrete p) log k
+  pub legal : Runs p (opening p) log k
   pub own : HasOnly may log
   pub counted : steps ≡ cost log
   pub limit_is : limited ≡ limit

@@ -1,16 +1,21 @@
--- A legal log is a run of the machine, step by step, and each run of the machine itself is a log's.
+-- A legal log is a run of the machine with calls in pieces, step by step, and each run of the machine itself is a log's.
 use Rattle.std.specs.Prelude.{◌≡◌, ◌≤◌, ◌+◌, ◌++◌, ℕ, List, [], ◌∷◌, length, map, replicate, Option, Some, None}
-use Rattle.words.specs.Limits.{most_threads}
+use Rattle.words.specs.Limits.{most_threads, run_buckets}
 use Rattle.words.specs.Versions.{most_of}
 use Rattle.isa.specs.Programs.{Program}
 use Rattle.machine.specs.declared.event.Entry.{Entry}
 use Rattle.machine.specs.declared.event.Event.{Event}
 use Rattle.machine.specs.declared.event.EventName.TheVariants as name
-use Rattle.machine.specs.States.{State, ConcreteState, opening_concrete, state_of, with_thread}
+use Rattle.machine.specs.States.{state_of, with_thread}
 use Rattle.machine.specs.ConcreteServing.{plain}
-use Rattle.machine.specs.Runs.{Step, MachineRun, NextIsBroken}
-use Rattle.machine.specs.FrontRuns.{EventStep, FrontRun, label_of, event_label}
-use Rattle.runner.specs.Logs.{Outside, Runs, cost}
+use Rattle.machine.specs.Runs.{Step, NextIsBroken}
+use Rattle.machine.specs.FrontRuns.{EventStep, label_of, event_label}
+use Rattle.machine.specs.PieceStates.{PieceState}
+use Rattle.machine.specs.PieceSteps.{PieceRun, NextPieceIsBroken}
+use Rattle.piece_machine.specs.PieceConcrete.{PieceConcrete, pieces_at}
+use Rattle.piece_machine.specs.PieceDetermined.{IsFit}
+use Rattle.piece_machine.specs.PieceFronts.{FrontPieces}
+use Rattle.runner.specs.Logs.{Outside, Runs, cost, opening}
 use Rattle.runner.specs.Reports.{MeetsBroken}
 
 -- a local step of a thread, and the shared step of an entry, if any
@@ -29,36 +34,37 @@ steps_of (e ∷ es) = (replicate e.local (local_step_of e.thread) ++ shared_step
 
 -- where a log leads, its steps lead
 abbrev pub StepsSo : Type 0
-StepsSo = (p : Program) (k k' : ConcreteState) (log : List Entry) → Runs p k log k' → FrontRun p k (steps_of log) k'
+StepsSo = (p : Program) (k k' : PieceConcrete) (log : List Entry) → Runs p k log k' → FrontPieces p k (steps_of log) k'
 
 -- and a run of the machine itself is that of a log, which has its steps
 abbrev pub LogsSo : Type 0
 LogsSo =
-    (p : Program) (k k' : ConcreteState) (steps : List EventStep) → FrontRun p k steps k'
+    (p : Program) (k k' : PieceConcrete) (steps : List EventStep) → FrontPieces p k steps k'
     → (log : List Entry) × Runs p k log k' × (steps_of log ≡ steps)
 
 -- where a machine can run all threads that there can be, a run of the relation, of as many steps as the log costs,
--- which are the log's own, leads to where the log leads
+-- which are the log's own, leads to where the log leads, and what always holds holds there
 abbrev pub RunsSo : Type 0
 RunsSo =
-    (p : Program) (log : List Entry) (k : ConcreteState) → most_of p.version ≤ most_threads
-    → Runs p (opening_concrete p) log k
-    → (steps : List Step) × MachineRun p steps (state_of k) × (length steps ≡ cost log)
-    × (map label_of steps ≡ map event_label (steps_of log))
+    (p : Program) (log : List Entry) (k : PieceConcrete) → most_of p.version ≤ most_threads → Runs p (opening p) log k
+    → (steps : List Step) × PieceRun p run_buckets steps (pieces_at k) × (length steps ≡ cost log)
+    × (map label_of steps ≡ map event_label (steps_of log)) × IsFit p k
 
 -- there a run of the log's steps and of the local steps of the thread behind it leads to where the thread's next step
 -- may not be
 abbrev pub MeetsSo : Type 0
 MeetsSo =
     (p : Program) (may : Outside) (limit : ℕ) (m : MeetsBroken p may limit) → most_of p.version ≤ most_threads
-    → (steps : List Step) × (s : State)
-    × MachineRun p steps s × (length steps ≡ cost m.log + m.count) × NextIsBroken p s m.thread
+    → (steps : List Step) × (s : PieceState)
+    × PieceRun p run_buckets steps s × (length steps ≡ cost m.log + m.count) × NextPieceIsBroken p s m.thread
     × (map label_of steps ≡ map event_label (steps_of m.log ++ replicate m.count (local_step_of m.thread)))
 
--- there the thread is awake, and by the local steps of its piece it comes, from where the log leads, to where its next
--- step may not be
+-- there the thread is awake and within no call, and by the local steps of its piece it comes, from where the log leads, to
+-- where its next step may not be
 abbrev pub LocallySo : Type 0
 LocallySo =
     (p : Program) (may : Outside) (limit : ℕ) (m : MeetsBroken p may limit) → most_of p.version ≤ most_threads
-    → (m.concrete.common.asleep m.thread ≡ None)
-    × NextIsBroken p (with_thread (state_of m.concrete) m.thread m.here) m.thread
+    → (m.concrete.concrete.common.asleep m.thread ≡ None)
+    × NextPieceIsBroken p (record (pieces_at m.concrete) {
+      base = with_thread (state_of m.concrete.concrete) m.thread m.here;
+    }) m.thread

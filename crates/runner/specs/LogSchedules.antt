@@ -3,12 +3,13 @@
 use Rattle.std.specs.Prelude.{ℕ, ◌≡◌, ◌+◌, ◌<◌, ◌≤◌, ◌^◌, ◌⊎◌, Bool, List, map, take, slice_get, Some, is_some}
 use Rattle.isa.specs.Programs.{Program}
 use Rattle.machine.specs.declared.event.Entry.{Entry}
-use Rattle.machine.specs.States.{ConcreteState, opening_concrete}
 use Rattle.machine.specs.Views.{concrete}
+use Rattle.piece_machine.specs.PieceConcrete.{PieceConcrete}
+use Rattle.piece_machine.specs.PieceViews.{parts}
 use Rattle.runner.specs.declared.report.Report.{Report}
 use Rattle.runner.specs.declared.log_schedule.FollowLogFault.{FollowLogFault}
 use Rattle.runner.specs.declared.log_schedule.FollowLogFault.TheVariants.{BadEntry, Memory}
-use Rattle.runner.specs.Logs.{Runs, Enters, cost, event_cost, is_kill, is_outside}
+use Rattle.runner.specs.Logs.{Runs, Enters, cost, event_cost, is_kill, is_outside, opening}
 use Rattle.runner.specs.Reports.{IsVerdict}
 
 -- the shape of an entry: its thread, its local steps, whether a shared step comes then, whether that comes from
@@ -31,21 +32,21 @@ shape_of e =
     }
 
 -- the log is legal and leads there, by entries of these shapes in this order, and has fewer than 2^32 steps
-pub record FollowsLog (p : Program) (shapes : List Shape) (log : List Entry) (k : ConcreteState) : Type 0 where
-  pub legal : Runs p (opening_concrete p) log k
+pub record FollowsLog (p : Program) (shapes : List Shape) (log : List Entry) (k : PieceConcrete) : Type 0 where
+  pub legal : Runs p (opening p) log k
   pub same : map shape_of log ≡ shapes
   pub few : cost log < 2 ^ 32
 
 -- the report of a log that was followed to its end
 pub record IsFollowedLog (p : Program) (entries : List Entry) (r : Report) : Type 0 where
-  pub follows : FollowsLog p (map shape_of entries) r.log.items (concrete r.last)
-  pub program : r.last.program ≡ p
-  pub output : r.output.items ≡ (concrete r.last).common.output
-  pub verdict : IsVerdict (concrete r.last) r.verdict
+  pub follows : FollowsLog p (map shape_of entries) r.log.items (parts r.last)
+  pub program : r.last.view.program ≡ p
+  pub output : r.output.items ≡ (concrete r.last.view).common.output
+  pub verdict : IsVerdict (concrete r.last.view) r.verdict
 
 -- no entry of this shape can be taken there
-abbrev pub CannotTake : Program → ConcreteState → Shape → Type 0
-CannotTake p k shape = (e : Entry) (k' : ConcreteState) → shape_of e ≡ shape → Enters p k e k' → ⊥
+abbrev pub CannotTake : Program → PieceConcrete → Shape → Type 0
+CannotTake p k shape = (e : Entry) (k' : PieceConcrete) → shape_of e ≡ shape → Enters p k e k' → ⊥
 
 -- the entry of this number is the first that can't be followed: the entries before it lead to where it can't be taken,
 -- or with it there are 2^32 steps or more
@@ -55,7 +56,7 @@ pub record IsBadLogEntry (p : Program) (entries : List Entry) (number : ℕ) : T
   pub entry : Entry
   pub names : slice_get entries before ≡ Some entry
   pub log : List Entry
-  pub concrete : ConcreteState
+  pub concrete : PieceConcrete
   pub follows : FollowsLog p (map shape_of (take before entries)) log concrete
   pub refuses : CannotTake p concrete (shape_of entry) ⊎ (2 ^ 32 ≤ cost log + (entry.local + event_cost entry.event))
 

@@ -2,40 +2,47 @@
 use Rattle.std.specs.Prelude.{ℕ, ◌≡◌, ◌≤◌, ◌+◌, if◌then◌else◌, ◌⊎◌, List, [], ◌∷◌, Bool, true, false, not, Option, Some, None}
 use Rattle.std.specs.Prelude.{Ok}
 use Rattle.std.specs.List.{All, sum_by}
+use Rattle.words.specs.Limits.{run_buckets}
 use Rattle.isa.specs.Programs.{Program}
 use Rattle.locals.specs.Threads.{Thread}
 use Rattle.locals.specs.Steps.{local_step, local_after}
 use Rattle.machine.specs.declared.event.Entry.{Entry}
 use Rattle.machine.specs.declared.event.Event.{Event}
-use Rattle.machine.specs.States.{ConcreteState, thread_of}
-use Rattle.machine.specs.ConcreteSteps.{step_of, put_thread, can_move}
-use Rattle.machine.specs.FrontRuns.{OutsideStep, doing_of}
+use Rattle.machine.specs.States.{thread_of}
+use Rattle.machine.specs.ConcreteSteps.{can_move}
+use Rattle.machine.specs.FrontRuns.{doing_of}
 use Rattle.machine.specs.Runs.{Doing, Own, Strayed, Killed, is_own}
+use Rattle.piece_machine.specs.PieceConcrete.{PieceConcrete, opening_at, piece_of, with_local}
+use Rattle.piece_machine.specs.PieceFronts.{OutsidePiece}
+
+-- where a run begins: at the program's start, over the buckets that each run has
+abbrev pub opening : Program → PieceConcrete
+opening p = opening_at p run_buckets
 
 -- the end of an entry: nothing more, or a shared step of the thread with this event
-abbrev pub Ends : Program → ConcreteState → ℕ → Thread → Option Event → ConcreteState → Type 0
+abbrev pub Ends : Program → PieceConcrete → ℕ → Thread → Option Event → PieceConcrete → Type 0
 Ends p k t here None k' = k' ≡ k
-Ends p k t here (Some event) k' = (local_step p t here ≡ None) × (step_of p k t ≡ Ok (k', event))
+Ends p k t here (Some event) k' = (local_step p t here ≡ None) × (piece_of p k t ≡ Ok (k', event))
 
 -- the entry is its thread's own: the local steps of a thread that can move, and then its end
-pub record EntersOwn (p : Program) (k : ConcreteState) (e : Entry) (k' : ConcreteState) : Type 0 where
+pub record EntersOwn (p : Program) (k : PieceConcrete) (e : Entry) (k' : PieceConcrete) : Type 0 where
   pub origin : Thread
   pub here : Thread
-  pub stands : thread_of k e.thread ≡ Some origin
-  pub moves : can_move k e.thread ≡ true
+  pub stands : thread_of k.concrete e.thread ≡ Some origin
+  pub moves : can_move k.concrete e.thread ≡ true
   pub goes : local_after p e.thread e.local origin ≡ Some here
-  pub ends : Ends p (put_thread k e.thread here) e.thread here e.event k'
+  pub ends : Ends p (with_local k e.thread here) e.thread here e.event k'
 
 -- the entry is a wake from outside of a thread that sleeps, or a kill of one that was made, with no local step before it
-pub record EntersOutside (k : ConcreteState) (e : Entry) (k' : ConcreteState) : Type 0 where
+pub record EntersOutside (p : Program) (k : PieceConcrete) (e : Entry) (k' : PieceConcrete) : Type 0 where
   pub event : Event
   pub alone : e.local ≡ 0
   pub is : e.event ≡ Some event
-  pub gives : OutsideStep k e.thread event k'
+  pub gives : OutsidePiece p k e.thread event k'
 
 -- the entry takes the machine from one state to another
-abbrev pub Enters : Program → ConcreteState → Entry → ConcreteState → Type 0
-Enters p k e k' = EntersOwn p k e k' ⊎ EntersOutside k e k'
+abbrev pub Enters : Program → PieceConcrete → Entry → PieceConcrete → Type 0
+Enters p k e k' = EntersOwn p k e k' ⊎ EntersOutside p k e k'
 
 -- whether the step that ends an entry came from outside
 abbrev pub is_outside : Option Event → Bool
@@ -95,9 +102,9 @@ pub record HasOnly (may : Outside) (es : List Entry) : Type 0 where
   pub kills : kills_in es ≤ may.kills
 
 -- the entries take the machine from one state to another, one after the other
-abbrev pub Runs : Program → ConcreteState → List Entry → ConcreteState → Type 0
+abbrev pub Runs : Program → PieceConcrete → List Entry → PieceConcrete → Type 0
 Runs p k [] k' = k ≡ k'
-Runs p k (e ∷ es) k' = (mid : ConcreteState) × Enters p k e mid × Runs p mid es k'
+Runs p k (e ∷ es) k' = (mid : PieceConcrete) × Enters p k e mid × Runs p mid es k'
 
 -- an entry costs its local steps, and one for a shared step
 abbrev pub event_cost : Option Event → ℕ

@@ -9,6 +9,7 @@ use Rattle.machine.specs.declared.event.Entry.{Entry}
 use Rattle.machine.specs.declared.event.StepFault.TheVariants as step
 use Rattle.machine.specs.States.{ConcreteState, state_of, thread_of}
 use Rattle.machine.specs.ConcreteSteps.{can_move}
+use Rattle.piece_machine.specs.PieceConcrete.{PieceConcrete}
 use Rattle.runner.specs.declared.drawing.Drawn.{Drawn}
 use Rattle.runner.specs.declared.drawing.Drawn.TheVariants.{Living, Mover, Sleeper}
 use Rattle.runner.specs.Logs.{Outside, cost, kills_in}
@@ -22,12 +23,12 @@ step_cost (Some x) = 0
 step_cost None = 1
 
 -- the next entry of a thread that can move may be, and would pass the limit, whatever bucket is held
-pub record IsPast (p : Program) (limit : ℕ) (log : List Entry) (k : ConcreteState) (t : ℕ) : Type 0 where
+pub record IsPast (p : Program) (limit : ℕ) (log : List Entry) (k : PieceConcrete) (t : ℕ) : Type 0 where
   pub count : ℕ
   pub origin : Thread
   pub here : Thread
-  pub moves : can_move k t ≡ true
-  pub stands : thread_of k t ≡ Some origin
+  pub moves : can_move k.concrete t ≡ true
+  pub stands : thread_of k.concrete t ≡ Some origin
   pub goes : local_after p t count origin ≡ Some here
   pub turn : count ≤ most_local_steps
   pub whole : count < most_local_steps → local_step p t here ≡ None
@@ -40,7 +41,7 @@ AllPast p limit h refused = (t : ℕ) → slice_get refused t ≡ Some true → 
 
 -- no thread can make its next entry
 abbrev pub Idle : Program → ℕ → LogState → Type 0
-Idle p limit h = (t : ℕ) → can_move h.concrete t ≡ true → IsStopped p limit h.log h.concrete t
+Idle p limit h = (t : ℕ) → can_move h.concrete.concrete t ≡ true → IsStopped p limit h.log h.concrete t
 
 -- no thread that was passed over can make its next entry
 abbrev pub AllStopped : Program → ℕ → LogState → List Bool → Type 0
@@ -67,11 +68,11 @@ IsUnrefused k refused t = (thread_of k t ≢ None) × (slice_get refused t ≡ S
 -- step more, one that sleeps, where there may be wakes from outside, and one that was made and wasn't refused, where there
 -- may be more kills
 abbrev pub MayBeDrawn : Outside → ℕ → LogState → List Bool → List Bool → Drawn → Type 0
-MayBeDrawn may limit h refused passed (Mover t) = IsDrawn h.concrete refused passed t
+MayBeDrawn may limit h refused passed (Mover t) = IsDrawn h.concrete.concrete refused passed t
 MayBeDrawn may limit h refused passed (Sleeper t) =
-    (may.strays ≡ true) × IsAsleep h.concrete t × (cost h.log < limit)
+    (may.strays ≡ true) × IsAsleep h.concrete.concrete t × (cost h.log < limit)
 MayBeDrawn may limit h refused passed (Living t) =
-    (kills_in h.log < may.kills) × IsUnrefused h.concrete refused t × (cost h.log < limit)
+    (kills_in h.log < may.kills) × IsUnrefused h.concrete.concrete refused t × (cost h.log < limit)
 
 -- how many aren't passed over
 abbrev pub left : List Bool → ℕ

@@ -9,15 +9,17 @@ use Rattle.machine.specs.declared.event.Event.{Event}
 use Rattle.machine.specs.FrontRuns.{doing_of}
 use Rattle.machine.specs.Runs.{Doing, Own, Strayed, Killed}
 use Rattle.machine.specs.declared.event.StepFault.TheVariants as step
-use Rattle.machine.specs.States.{ConcreteState, opening_concrete, state_of}
-use Rattle.machine.specs.ConcreteSteps.{step_of, can_move}
+use Rattle.machine.specs.States.{state_of}
+use Rattle.machine.specs.ConcreteSteps.{can_move}
 use Rattle.machine.specs.Views.{concrete}
+use Rattle.piece_machine.specs.PieceConcrete.{PieceConcrete, can_take, piece_of}
+use Rattle.piece_machine.specs.PieceViews.{parts}
 use Rattle.runner.specs.declared.report.Report.{Report}
 use Rattle.runner.specs.declared.schedule.Turn.{Turn}
 use Rattle.runner.specs.declared.schedule.Turn.TheVariants.{Step, Stray, Kill}
 use Rattle.runner.specs.declared.schedule.ScheduleFault.{ScheduleFault}
 use Rattle.runner.specs.declared.schedule.ScheduleFault.TheVariants.{BadEntry, Broken, Memory}
-use Rattle.runner.specs.Logs.{Runs, event_cost}
+use Rattle.runner.specs.Logs.{Runs, event_cost, opening}
 use Rattle.runner.specs.Reports.{IsVerdict}
 
 -- one local step, or one shared step
@@ -39,41 +41,41 @@ abbrev pub turn_of : Entry → Turn
 turn_of e = turn_by_event e.event e.thread
 
 -- the log is legal and leads there, by one step for each turn, in this order
-pub record Follows (p : Program) (schedule : List Turn) (log : List Entry) (k : ConcreteState) : Type 0 where
-  pub legal : Runs p (opening_concrete p) log k
+pub record Follows (p : Program) (schedule : List Turn) (log : List Entry) (k : PieceConcrete) : Type 0 where
+  pub legal : Runs p (opening p) log k
   pub turns : map turn_of log ≡ schedule
   pub single : All IsOneStep log
 
 -- the report of a schedule that was followed to its end
 pub record IsFollowed (p : Program) (schedule : List Turn) (r : Report) : Type 0 where
-  pub follows : Follows p schedule r.log.items (concrete r.last)
+  pub follows : Follows p schedule r.log.items (parts r.last)
   pub few : length schedule < 2 ^ 32
-  pub program : r.last.program ≡ p
-  pub output : r.output.items ≡ (concrete r.last).common.output
-  pub verdict : IsVerdict (concrete r.last) r.verdict
+  pub program : r.last.view.program ≡ p
+  pub output : r.output.items ≡ (concrete r.last.view).common.output
+  pub verdict : IsVerdict (concrete r.last.view) r.verdict
 
 -- the turns before this many and one lead there, and this is the next one
-pub record ComesTo (p : Program) (schedule : List Turn) (before : ℕ) (k : ConcreteState) (turn : Turn) : Type 0 where
+pub record ComesTo (p : Program) (schedule : List Turn) (before : ℕ) (k : PieceConcrete) (turn : Turn) : Type 0 where
   pub log : List Entry
   pub follows : Follows p (take before schedule) log k
   pub few : before < 2 ^ 32
   pub names : slice_get schedule before ≡ Some turn
 
--- there is no such turn there: its thread can't move, or doesn't sleep, or was never made
-abbrev pub RefusesTurn : ConcreteState → Turn → Type 0
-RefusesTurn k (Step t) = can_move k t ≡ false
-RefusesTurn k (Stray t) = (state_of k).asleep t ≡ None
-RefusesTurn k (Kill t) = (state_of k).thread t ≡ None
+-- there is no such turn there: its thread can't move, or a held bucket is in its way; or it doesn't sleep, or was never made
+abbrev pub RefusesTurn : Program → PieceConcrete → Turn → Type 0
+RefusesTurn p k (Step t) = can_take p k t ≡ false
+RefusesTurn p k (Stray t) = (state_of k.concrete).asleep t ≡ None
+RefusesTurn p k (Kill t) = (state_of k.concrete).thread t ≡ None
 
 -- the turn's step may not be
-abbrev pub BreaksTurn : Program → ConcreteState → Turn → Type 0
-BreaksTurn p k (Step t) = (can_move k t ≡ true) × (step_of p k t ≡ Err step.Broken)
+abbrev pub BreaksTurn : Program → PieceConcrete → Turn → Type 0
+BreaksTurn p k (Step t) = (can_move k.concrete t ≡ true) × (piece_of p k t ≡ Err step.Broken)
 BreaksTurn p k (Stray t) = ⊥
 BreaksTurn p k (Kill t) = ⊥
 
 -- why the turn of a number is refused
-abbrev pub RefusesSchedule : Program → ConcreteState → ℕ → Turn → ScheduleFault → Type 0
-RefusesSchedule p k number turn (BadEntry n) = (n ≡ number) × (RefusesTurn k turn ⊎ (2 ^ 32 ≤ number))
+abbrev pub RefusesSchedule : Program → PieceConcrete → ℕ → Turn → ScheduleFault → Type 0
+RefusesSchedule p k number turn (BadEntry n) = (n ≡ number) × (RefusesTurn p k turn ⊎ (2 ^ 32 ≤ number))
 RefusesSchedule p k number turn (Broken n) = (n ≡ number) × (number < 2 ^ 32) × BreaksTurn p k turn
 RefusesSchedule p k number turn Memory = Unit {0}
 
@@ -86,5 +88,5 @@ IsMemory Memory = Unit {0}
 -- why a schedule isn't followed to its end: want of memory, or its first turn that is refused; they count from 1
 abbrev pub FailsAt : Program → List Turn → ScheduleFault → Type 0
 FailsAt p schedule fault =
-    IsMemory fault ⊎ ((before : ℕ) × (k : ConcreteState) × (turn : Turn) × ComesTo p schedule before k turn
+    IsMemory fault ⊎ ((before : ℕ) × (k : PieceConcrete) × (turn : Turn) × ComesTo p schedule before k turn
     × RefusesSchedule p k (before + 1) turn fault)

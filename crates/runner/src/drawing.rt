@@ -4,7 +4,8 @@ ghost use Rattle.std.specs.Prelude.{is_some, IfErr, IfOk, IfSome, MatchBool, Mat
 ghost use Rattle.std.specs.List.{All, Contains};
 ghost use Rattle.machine.specs.States.{thread_of};
 ghost use Rattle.machine.specs.ConcreteSteps.{can_move};
-ghost use Rattle.machine.specs.Views.{concrete, IsWellFormed};
+ghost use Rattle.machine.specs.Views.{concrete};
+ghost use Rattle.piece_machine.specs.PieceDetermined.{IsFit};
 ghost use Rattle.runner.specs.Logs.{cost, kills_in};
 ghost use Rattle.runner.specs.Reports.{CanFail};
 ghost use Rattle.runner.specs.Rounds.{AllPast, AllStopped, Idle, IsAsleep, IsDrawn, IsPickable, IsUnrefused, MayBeDrawn};
@@ -131,7 +132,7 @@ fn make_drawn<J: RunName>(
 ) -> Result<bool, RunFault>
     requires image { image.now ≡ J.program }
     requires room { (length refused.old ≡ suc most_threads) × (length passed.old ≡ suc most_threads) }
-    requires kept { IsWellFormed J.program (log_state shared.old).concrete }
+    requires kept { IsFit J.program (log_state shared.old).concrete }
     requires drawn { MayBeDrawn J.outside J.limit (log_state shared.old) refused.old passed.old drawn }
     requires past { AllPast J.program J.limit (log_state shared.old) refused.old }
     requires stopped { AllStopped J.program J.limit (log_state shared.old) passed.old }
@@ -175,9 +176,9 @@ fn draw_entry<J: RunName>(
     requires room { (length refused.now ≡ suc most_threads) × (length passed.now ≡ suc most_threads) }
     requires strays { is_some outside.strays ≡ J.outside.strays }
     requires kills { outside.kills ≡ J.outside.kills }
-    ensures drawn { MatchOption result (NoneLeft (log_state shared.now).concrete refused.now passed.now)
+    ensures drawn { MatchOption result (NoneLeft (log_state shared.now).concrete.concrete refused.now passed.now)
         (λ drawn. MayBeDrawn J.outside J.limit (log_state shared.now) refused.now passed.now drawn) }
-    ensures kept { IsWellFormed J.program (log_state shared.now).concrete }
+    ensures kept { IsFit J.program (log_state shared.now).concrete }
 {
     let movers = movers(shared.machine(), refused, passed);
     if movers.is_empty() {
@@ -198,7 +199,7 @@ fn draw_sleeper<J: RunName>(
     generator: &mut SplitMix64,
     strays: Option<u32>,
 ) -> Option<u32>
-    ensures { IfSome result (λ t. (is_some strays ≡ true) × IsAsleep (log_state shared.now).concrete t
+    ensures { IfSome result (λ t. (is_some strays ≡ true) × IsAsleep (log_state shared.now).concrete.concrete t
         × (cost shared.now.log < J.limit)) }
 {
     if !is_due(strays, generator) || !shared.has_step_left() {
@@ -221,7 +222,7 @@ fn draw_living<J: RunName>(
 ) -> Option<u32>
     requires room { length refused.now ≡ suc most_threads }
     ensures { IfSome result (λ t. (kills_in shared.now.log < outside.kills)
-        × IsUnrefused (log_state shared.now).concrete refused.now t × (cost shared.now.log < J.limit)) }
+        × IsUnrefused (log_state shared.now).concrete.concrete refused.now t × (cost shared.now.log < J.limit)) }
 {
     if shared.kills() >= outside.kills {
         return None;
@@ -261,7 +262,6 @@ fn movers(machine: &Machine, refused: &[bool], passed: &[bool]) -> ArrayVec<u32,
     requires room { (length refused.now ≡ suc most_threads) × (length passed.now ≡ suc most_threads) }
     ensures drawn { All (IsDrawn (concrete machine.now) refused.now passed.now) result.items }
     ensures none { length result.items ≡ 0 → NoneLeft (concrete machine.now) refused.now passed.now }
-    ensures kept { IsWellFormed machine.now.program (concrete machine.now) }
 {
     let mut movers: ArrayVec<u32, 64> = ArrayVec::new();
     for before in 0..machine.threads() {

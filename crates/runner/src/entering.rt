@@ -2,35 +2,38 @@ ghost use Rattle.std.specs.Prelude.{◌≡◌, ◌≢◌, ◌≤◌, ◌<◌, �
 ghost use Rattle.std.specs.Prelude.{IfOk, OnOk, OnErr, IsOk};
 ghost use Rattle.machine.specs.States.{state_of, thread_of};
 ghost use Rattle.machine.specs.ConcreteSteps.{can_move};
-ghost use Rattle.machine.specs.ConcreteOutside.{kill_of, stray_of};
 ghost use Rattle.machine.specs.Views.{concrete};
+ghost use Rattle.piece_machine.specs.PieceConcrete.{kill_piece, stray_piece};
+ghost use Rattle.piece_machine.specs.PieceViews.{GoesTo, parts};
 ghost use Rattle.runner.specs.Entries.{entry_end};
 
 use locals::Local;
-use machine::{Entry, Event, Machine};
+use machine::{Entry, Event};
 use packed_log::PackedLog;
+use piece_machine::PieceMachine;
 use std::alloc::AllocError;
 
 /// Takes in where thread `t` has come after `count` local steps, as one entry of the log.
 pub fn enter(
-    machine: &mut Machine,
+    machine: &mut PieceMachine,
     log: &mut PackedLog,
     t: u32,
     here: &Local,
     count: u32,
 ) -> Result<Option<Event>, AllocError>
-    requires thread { can_move (concrete machine.old) t ≡ true }
-    requires fine { IsOk (entry_end machine.old.program (concrete machine.old) t here.now) }
+    requires thread { can_move (concrete machine.old.view) t ≡ true }
+    requires goes { GoesTo machine.old.view t here.now }
+    requires fine { IsOk (entry_end machine.old.view.program (parts machine.old) t here.now) }
     ensures gives { IfOk result
-        (λ event. entry_end machine.old.program (concrete machine.old) t here.now
-        ≡ Ok (concrete machine.new, event)) }
+        (λ event. entry_end machine.old.view.program (parts machine.old) t here.now
+        ≡ Ok (parts machine.new, event)) }
     ensures log { IfOk result
         (λ event. log.new.items
         ≡ log.old.items ++ record { thread = t; local = count; event = event } ∷ []) }
     ensures few { OnOk result (length log.old.items < 2 ^ 64) }
-    ensures err { OnErr result ((concrete machine.new ≡ concrete machine.old)
+    ensures err { OnErr result ((parts machine.new ≡ parts machine.old)
         × (log.new.items ≡ log.old.items)) }
-    ensures program { machine.new.program ≡ machine.old.program }
+    ensures program { machine.new.view.program ≡ machine.old.view.program }
 {
     make_room(machine, log)?;
     let event = hand_in(machine, t, here);
@@ -44,20 +47,20 @@ pub fn enter(
 
 /// Takes in a wake of thread `t`, which sleeps, from outside, as one entry of the log.
 pub fn enter_outside(
-    machine: &mut Machine,
+    machine: &mut PieceMachine,
     log: &mut PackedLog,
     t: u32,
 ) -> Result<Event, AllocError>
-    requires sleeps { (state_of (concrete machine.old)).asleep t ≢ None }
+    requires sleeps { (state_of (concrete machine.old.view)).asleep t ≢ None }
     ensures gives { IfOk result
-        (λ event. stray_of (concrete machine.old) t ≡ Ok (concrete machine.new, event)) }
+        (λ event. stray_piece (parts machine.old) t ≡ Ok (parts machine.new, event)) }
     ensures log { IfOk result
         (λ event. log.new.items
         ≡ log.old.items ++ record { thread = t; local = 0; event = Some event } ∷ []) }
     ensures few { OnOk result (length log.old.items < 2 ^ 64) }
-    ensures err { OnErr result ((concrete machine.new ≡ concrete machine.old)
+    ensures err { OnErr result ((parts machine.new ≡ parts machine.old)
         × (log.new.items ≡ log.old.items)) }
-    ensures program { machine.new.program ≡ machine.old.program }
+    ensures program { machine.new.view.program ≡ machine.old.view.program }
 {
     make_room(machine, log)?;
     let event = wake_from_outside(machine, t);
@@ -70,17 +73,21 @@ pub fn enter_outside(
 }
 
 /// Takes in a kill of thread `t`, which was made, from outside, as one entry of the log.
-pub fn enter_kill(machine: &mut Machine, log: &mut PackedLog, t: u32) -> Result<Event, AllocError>
-    requires made { thread_of (concrete machine.old) t ≢ None }
+pub fn enter_kill(
+    machine: &mut PieceMachine,
+    log: &mut PackedLog,
+    t: u32,
+) -> Result<Event, AllocError>
+    requires made { thread_of (concrete machine.old.view) t ≢ None }
     ensures gives { IfOk result
-        (λ event. kill_of (concrete machine.old) t ≡ Ok (concrete machine.new, event)) }
+        (λ event. kill_piece machine.old.view.program (parts machine.old) t ≡ Ok (parts machine.new, event)) }
     ensures log { IfOk result
         (λ event. log.new.items
         ≡ log.old.items ++ record { thread = t; local = 0; event = Some event } ∷ []) }
     ensures few { OnOk result (length log.old.items < 2 ^ 64) }
-    ensures err { OnErr result ((concrete machine.new ≡ concrete machine.old)
+    ensures err { OnErr result ((parts machine.new ≡ parts machine.old)
         × (log.new.items ≡ log.old.items)) }
-    ensures program { machine.new.program ≡ machine.old.program }
+    ensures program { machine.new.view.program ≡ machine.old.view.program }
 {
     make_room(machine, log)?;
     let event = kill_from_outside(machine, t);
@@ -93,26 +100,27 @@ pub fn enter_kill(machine: &mut Machine, log: &mut PackedLog, t: u32) -> Result<
 }
 
 /// Makes room for one more entry, and for the number that it may print.
-pub fn make_room(machine: &mut Machine, log: &mut PackedLog) -> Result<(), AllocError>
-    ensures room { OnOk result ((1 ≤ machine.new.room) × (1 ≤ log.new.room)) }
+pub fn make_room(machine: &mut PieceMachine, log: &mut PackedLog) -> Result<(), AllocError>
+    ensures room { OnOk result ((1 ≤ machine.new.view.room) × (1 ≤ log.new.room)) }
     ensures few { OnOk result (length log.old.items < 2 ^ 64) }
-    ensures same { (concrete machine.new ≡ concrete machine.old) × (log.new.items ≡ log.old.items) }
-    ensures program { machine.new.program ≡ machine.old.program }
+    ensures same { (parts machine.new ≡ parts machine.old) × (log.new.items ≡ log.old.items) }
+    ensures program { machine.new.view.program ≡ machine.old.view.program }
 {
     log.make_room()?;
     machine.make_room(1)
 }
 
 // Puts a thread where it has come, and takes the shared step that it stands before, if any.
-fn hand_in(machine: &mut Machine, t: u32, here: &Local) -> Option<Event>
-    requires thread { can_move (concrete machine.old) t ≡ true }
-    requires fine { IsOk (entry_end machine.old.program (concrete machine.old) t here.now) }
-    requires room { 1 ≤ machine.old.room }
-    ensures gives { entry_end machine.old.program (concrete machine.old) t here.now
-        ≡ Ok (concrete machine.new, result) }
-    ensures program { machine.new.program ≡ machine.old.program }
+fn hand_in(machine: &mut PieceMachine, t: u32, here: &Local) -> Option<Event>
+    requires thread { can_move (concrete machine.old.view) t ≡ true }
+    requires goes { GoesTo machine.old.view t here.now }
+    requires fine { IsOk (entry_end machine.old.view.program (parts machine.old) t here.now) }
+    requires room { 1 ≤ machine.old.view.room }
+    ensures gives { entry_end machine.old.view.program (parts machine.old) t here.now
+        ≡ Ok (parts machine.new, result) }
+    ensures program { machine.new.view.program ≡ machine.old.view.program }
 {
-    let turn = machine.is_before_local(t, here);
+    let turn = machine.machine().is_before_local(t, here);
     machine.copy_local(t, here);
     if turn {
         return None;
@@ -124,10 +132,10 @@ fn hand_in(machine: &mut Machine, t: u32, here: &Local) -> Option<Event>
 }
 
 /// Wakes thread `t`, which sleeps, though no thread called for it.
-pub fn wake_from_outside(machine: &mut Machine, t: u32) -> Event
-    requires sleeps { (state_of (concrete machine.old)).asleep t ≢ None }
-    ensures gives { stray_of (concrete machine.old) t ≡ Ok (concrete machine.new, result) }
-    ensures program { machine.new.program ≡ machine.old.program }
+pub fn wake_from_outside(machine: &mut PieceMachine, t: u32) -> Event
+    requires sleeps { (state_of (concrete machine.old.view)).asleep t ≢ None }
+    ensures gives { stray_piece (parts machine.old) t ≡ Ok (parts machine.new, result) }
+    ensures program { machine.new.view.program ≡ machine.old.view.program }
 {
     match machine.stray(t) {
         Ok(event) => event,
@@ -136,10 +144,10 @@ pub fn wake_from_outside(machine: &mut Machine, t: u32) -> Event
 }
 
 // Kills thread `t`, which was made, from outside.
-fn kill_from_outside(machine: &mut Machine, t: u32) -> Event
-    requires made { thread_of (concrete machine.old) t ≢ None }
-    ensures gives { kill_of (concrete machine.old) t ≡ Ok (concrete machine.new, result) }
-    ensures program { machine.new.program ≡ machine.old.program }
+fn kill_from_outside(machine: &mut PieceMachine, t: u32) -> Event
+    requires made { thread_of (concrete machine.old.view) t ≢ None }
+    ensures gives { kill_piece machine.old.view.program (parts machine.old) t ≡ Ok (parts machine.new, result) }
+    ensures program { machine.new.view.program ≡ machine.old.view.program }
 {
     match machine.kill(t) {
         Ok(event) => event,

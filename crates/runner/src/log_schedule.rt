@@ -1,15 +1,18 @@
 ghost use Rattle.std.specs.Prelude.{◌≡◌, ◌≤◌, ◌<◌, ◌+◌, ◌^◌, length, true, Some, IfOk, IfErr, IfSome, IfNone};
 ghost use Rattle.locals.specs.Threads.{Thread};
-ghost use Rattle.machine.specs.States.{ConcreteState, thread_of};
+ghost use Rattle.machine.specs.States.{thread_of};
 ghost use Rattle.machine.specs.Views.{concrete};
+ghost use Rattle.piece_machine.specs.PieceConcrete.{PieceConcrete};
+ghost use Rattle.piece_machine.specs.PieceViews.{parts};
 ghost use Rattle.runner.specs.Logs.{Ends, Enters, event_cost, is_kill, is_outside};
 ghost use Rattle.runner.specs.declared.log_schedule.FollowLogFault.TheVariants.{Memory};
 ghost use Rattle.runner.specs.LogSchedules.{CannotTake, FailsLogAt, IsFollowedLog, shape_of};
 
 use crate::report::{Report, report_of};
 use isa::Image;
-use machine::{Entry, Event, EventName, Machine};
+use machine::{Entry, Event, EventName};
 use packed_log::{LogReader, PackedLog};
+use piece_machine::PieceMachine;
 use std::alloc::{AllocError, Global};
 use thiserror::Error;
 use words::BUCKETS;
@@ -18,7 +21,8 @@ use words::BUCKETS;
 #[derive(Clone, Copy, PartialEq, Eq, Debug, Error)]
 pub enum FollowLogFault {
     /// The entry of this number can't be taken: its thread can't move, takes fewer local steps, or doesn't stand before
-    /// a shared step behind them that may be; or with it there are 2^32 steps or more.
+    /// a shared step behind them that may be and that no held bucket is in the way of; or with it there are 2^32 steps or
+    /// more.
     #[error("log entry {0}")]
     BadEntry(u64),
     /// There is no memory for the run.
@@ -47,7 +51,7 @@ pub fn follow_log(
     ensures ok { IfOk result (λ report. IsFollowedLog image.now entries.entry report) }
     ensures err { IfErr result (λ fault. FailsLogAt image.now entries.entry fault) }
 {
-    let mut machine = Machine::new(alloc, image, BUCKETS)?;
+    let mut machine = PieceMachine::new(alloc, image, BUCKETS)?;
     let mut log = PackedLog::with_capacity(alloc, entries.len())?;
     let mut steps: u64 = 0;
     let mut number: u64 = 0;
@@ -77,21 +81,21 @@ fn steps_of(entry: &Entry) -> u64
 }
 
 // Takes an entry of the thread and the counts of another; None where there is none.
-fn take_turn(machine: &mut Machine, entry: &Entry) -> Option<Entry>
-    requires room { 1 ≤ machine.old.room }
+fn take_turn(machine: &mut PieceMachine, entry: &Entry) -> Option<Entry>
+    requires room { 1 ≤ machine.old.view.room }
     ensures some { IfSome result
-        (λ e. Enters machine.old.program (concrete machine.old) e (concrete machine.new)
+        (λ e. Enters machine.old.view.program (parts machine.old) e (parts machine.new)
         × (shape_of e ≡ shape_of entry.now)) }
     ensures none { IfNone result
-        (CannotTake machine.old.program (concrete machine.old) (shape_of entry.now)) }
-    ensures program { machine.new.program ≡ machine.old.program }
+        (CannotTake machine.old.view.program (parts machine.old) (shape_of entry.now)) }
+    ensures program { machine.new.view.program ≡ machine.old.view.program }
 {
     if is_outside(entry) {
         return take_outside(machine, entry);
     }
     let thread = entry.thread;
     let local = entry.local;
-    if !machine.can_move(thread) {
+    if !machine.machine().can_move(thread) {
         return None;
     }
     if machine.run_local(thread, local) < local {
@@ -135,14 +139,14 @@ fn is_kill(entry: &Entry) -> bool
 }
 
 // Takes a wake or a kill from outside of the thread of an entry; None where there is none.
-fn take_outside(machine: &mut Machine, entry: &Entry) -> Option<Entry>
+fn take_outside(machine: &mut PieceMachine, entry: &Entry) -> Option<Entry>
     requires outside { is_outside entry.now.event ≡ true }
     ensures some { IfSome result
-        (λ e. Enters machine.old.program (concrete machine.old) e (concrete machine.new)
+        (λ e. Enters machine.old.view.program (parts machine.old) e (parts machine.new)
         × (shape_of e ≡ shape_of entry.now)) }
     ensures none { IfNone result
-        (CannotTake machine.old.program (concrete machine.old) (shape_of entry.now)) }
-    ensures program { machine.new.program ≡ machine.old.program }
+        (CannotTake machine.old.view.program (parts machine.old) (shape_of entry.now)) }
+    ensures program { machine.new.view.program ≡ machine.old.view.program }
 {
     if entry.local > 0 {
         return None;
@@ -171,19 +175,22 @@ fn alone(thread: u32, event: Event) -> Entry
 }
 
 // Takes the shared step that thread `t` stands before; None where it stands before none.
-fn take_shared(machine: &mut Machine, t: u32) -> Option<Event>
-    requires thread { (0 < t) × (t ≤ length machine.old.threads) }
-    requires room { 1 ≤ machine.old.room }
+fn take_shared(machine: &mut PieceMachine, t: u32) -> Option<Event>
+    requires thread { (0 < t) × (t ≤ length machine.old.view.threads) }
+    requires room { 1 ≤ machine.old.view.room }
     ensures some { IfSome result (λ event. (here : Thread)
-        → thread_of (concrete machine.old) t ≡ Some here
-        → Ends machine.old.program (concrete machine.old) t here (Some event) (concrete machine.new)) }
-    ensures none { IfNone result ((here : Thread) (event : Event) (k : ConcreteState)
-        → thread_of (concrete machine.old) t ≡ Some here
-        → Ends machine.old.program (concrete machine.old) t here (Some event) k
+        → thread_of (concrete machine.old.view) t ≡ Some here
+        → Ends machine.old.view.program (parts machine.old) t here (Some event) (parts machine.new)) }
+    ensures none { IfNone result ((here : Thread) (event : Event) (k : PieceConcrete)
+        → thread_of (concrete machine.old.view) t ≡ Some here
+        → Ends machine.old.view.program (parts machine.old) t here (Some event) k
         → ⊥) }
-    ensures program { machine.new.program ≡ machine.old.program }
+    ensures program { machine.new.view.program ≡ machine.old.view.program }
 {
-    if machine.is_before_local(t, machine.local(t)) {
+    if machine
+        .machine()
+        .is_before_local(t, machine.machine().local(t))
+    {
         return None;
     }
     match machine.step(t) {

@@ -1,7 +1,7 @@
 ghost use Rattle.words.specs.Limits.{most_threads};
 ghost use Rattle.std.specs.Prelude.{suc, ◌≡◌, ◌≤◌, ◌<◌, length, true, false, IfOk, IfErr, OnOk};
 ghost use Rattle.machine.specs.ConcreteSteps.{can_move};
-ghost use Rattle.machine.specs.Views.{IsWellFormed};
+ghost use Rattle.piece_machine.specs.PieceDetermined.{IsFit};
 ghost use Rattle.runner.specs.Logs.{cost};
 ghost use Rattle.runner.specs.Reports.{CanFail, IsStopped};
 ghost use Rattle.runner.specs.Rounds.{AllPast, Idle};
@@ -32,8 +32,8 @@ pub fn run_rounds<J: RunName, G: Gate>(
     Ok(())
 }
 
-/// Makes entries of thread `t` in its place on the machine, as long as no other was made, it can move, and each entry
-/// is within the limit. So one that has made no other yet isn't copied.
+/// Makes entries of thread `t` in its place on the machine, as long as no other was made, it can move, no bucket that it
+/// holds may be in its own way, and each entry is within the limit. So one that has made no other yet isn't copied.
 pub fn run_alone<J: RunName, G: Gate>(
     shared: &mut Shared<J>,
     share: &mut Share<J>,
@@ -43,7 +43,11 @@ pub fn run_alone<J: RunName, G: Gate>(
     ensures given { shared.new.given ≡ shared.old.given }
     ensures err { IfErr result (λ fault. CanFail J.program J.outside J.limit fault) }
 {
-    while shared.machine().threads() == 1 && shared.machine().can_move(t) && shared.has_room() {
+    while shared.machine().threads() == 1
+        && shared.machine().can_move(t)
+        && shared.is_free(t)
+        && shared.has_room()
+    {
         gate.pass(t);
         shared.go_on(t, share)?;
     }
@@ -90,13 +94,13 @@ pub(crate) fn make_entry<J: RunName, G: Gate>(
     requires image { image.now ≡ J.program }
     requires room { length refused.old ≡ suc most_threads }
     requires thread { (0 < t) × (t ≤ most_threads) }
-    requires kept { IsWellFormed J.program (log_state shared.old).concrete }
+    requires kept { IsFit J.program (log_state shared.old).concrete }
     requires past { AllPast J.program J.limit (log_state shared.old) refused.old }
     ensures past { OnOk result (AllPast J.program J.limit (log_state shared.new) refused.new) }
     ensures made { IfOk result (λ made. made ≡ true → (cost shared.old.log < cost shared.new.log)
         × (cost shared.new.log ≤ J.limit)) }
     ensures none { IfOk result (λ made. made ≡ false → (log_state shared.new ≡ log_state shared.old)
-        × (can_move (log_state shared.new).concrete t ≡ true
+        × (can_move (log_state shared.new).concrete.concrete t ≡ true
         → IsStopped J.program J.limit shared.new.log (log_state shared.new).concrete t)) }
     ensures err { IfErr result (λ fault. CanFail J.program J.outside J.limit fault) }
 {
@@ -106,12 +110,16 @@ pub(crate) fn make_entry<J: RunName, G: Gate>(
     if !shared.machine().can_move(t) {
         return Ok(false);
     }
+    if !shared.is_free(t) {
+        return try_entry(shared, refused, image, share, gate, t);
+    }
     gate.pass(t);
     shared.go_on(t, share)?;
     Ok(true)
 }
 
-// The same near the limit: a piece goes on, away from the machine, since its entry may be refused.
+// The same near the limit, and where a bucket is held: a piece goes on, away from the machine, since its entry may be
+// refused.
 fn try_entry<J: RunName, G: Gate>(
     shared: &mut Shared<J>,
     refused: &mut [bool],
@@ -123,13 +131,13 @@ fn try_entry<J: RunName, G: Gate>(
     requires image { image.now ≡ J.program }
     requires room { length refused.old ≡ suc most_threads }
     requires thread { (0 < t) × (t ≤ most_threads) }
-    requires kept { IsWellFormed J.program (log_state shared.old).concrete }
+    requires kept { IsFit J.program (log_state shared.old).concrete }
     requires past { AllPast J.program J.limit (log_state shared.old) refused.old }
     ensures past { OnOk result (AllPast J.program J.limit (log_state shared.new) refused.new) }
     ensures made { IfOk result (λ made. made ≡ true → (cost shared.old.log < cost shared.new.log)
         × (cost shared.new.log ≤ J.limit)) }
     ensures none { IfOk result (λ made. made ≡ false → (log_state shared.new ≡ log_state shared.old)
-        × (can_move (log_state shared.new).concrete t ≡ true
+        × (can_move (log_state shared.new).concrete.concrete t ≡ true
         → IsStopped J.program J.limit shared.new.log (log_state shared.new).concrete t)) }
     ensures err { IfErr result (λ fault. CanFail J.program J.outside J.limit fault) }
 {

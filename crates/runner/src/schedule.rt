@@ -1,7 +1,7 @@
 ghost use Rattle.std.specs.Prelude.{◌≡◌, ◌<◌, ◌≤◌, ◌^◌, true, IfOk, IfErr, OnErr, Err};
 ghost use Rattle.machine.specs.declared.event.StepFault.TheVariants.{Broken};
-ghost use Rattle.machine.specs.ConcreteSteps.{step_of, can_move};
-ghost use Rattle.machine.specs.Views.{concrete};
+ghost use Rattle.piece_machine.specs.PieceConcrete.{can_take, piece_of};
+ghost use Rattle.piece_machine.specs.PieceViews.{parts};
 ghost use Rattle.runner.specs.Logs.{Enters, EntersOutside, EntersOwn};
 ghost use Rattle.runner.specs.declared.schedule.ScheduleFault.TheVariants.{Memory};
 ghost use Rattle.runner.specs.declared.schedule.Turn.TheVariants.{Step, Stray, Kill};
@@ -10,8 +10,9 @@ ghost use Rattle.runner.specs.Schedules.{FailsAt, IsFollowed, IsOneStep, Refuses
 use crate::entering::wake_from_outside;
 use crate::report::{Report, report_of};
 use isa::Image;
-use machine::{Entry, Machine, StepFault};
+use machine::{Entry, StepFault};
 use packed_log::PackedLog;
+use piece_machine::PieceMachine;
 use std::alloc::{AllocError, Global};
 use thiserror::Error;
 use words::BUCKETS;
@@ -30,7 +31,7 @@ pub enum Turn {
 /// Why a schedule is not followed to its end. Its entries are numbered from 1.
 #[derive(Clone, Copy, PartialEq, Eq, Debug, Error)]
 pub enum ScheduleFault {
-    /// The entry of this number is a step of a thread that can't move, or a wake from outside of one that doesn't
+    /// The entry of this number is a step of a thread that can't move or that a held bucket is in the way of, or a wake from outside of one that doesn't
     /// sleep, or a kill of one that was never made; or its number is past 4294967295.
     #[error("schedule entry {0}")]
     BadEntry(u64),
@@ -59,7 +60,7 @@ pub fn follow(alloc: Global, image: &Image, schedule: &[Turn]) -> Result<Report,
     ensures ok { IfOk result (λ report. IsFollowed image.now schedule.now report) }
     ensures err { IfErr result (λ fault. FailsAt image.now schedule.now fault) }
 {
-    let mut machine = Machine::new(alloc, image, BUCKETS)?;
+    let mut machine = PieceMachine::new(alloc, image, BUCKETS)?;
     let mut log = PackedLog::new(alloc);
     let mut number: u64 = 0;
     for turn in schedule {
@@ -73,13 +74,13 @@ pub fn follow(alloc: Global, image: &Image, schedule: &[Turn]) -> Result<Report,
 }
 
 // Takes the turn of this number, which is an entry of its own.
-fn take_turn(machine: &mut Machine, number: u64, turn: Turn) -> Result<Entry, ScheduleFault>
+fn take_turn(machine: &mut PieceMachine, number: u64, turn: Turn) -> Result<Entry, ScheduleFault>
     ensures ok { IfOk result
-        (λ e. Enters machine.old.program (concrete machine.old) e (concrete machine.new)
+        (λ e. Enters machine.old.view.program (parts machine.old) e (parts machine.new)
         × (turn_of e ≡ turn) × IsOneStep e × (number < 2 ^ 32)) }
     ensures err { IfErr result
-        (λ fault. RefusesSchedule machine.old.program (concrete machine.old) number turn fault) }
-    ensures program { machine.new.program ≡ machine.old.program }
+        (λ fault. RefusesSchedule machine.old.view.program (parts machine.old) number turn fault) }
+    ensures program { machine.new.view.program ≡ machine.old.view.program }
 {
     if number > u64::from(u32::MAX) {
         return Err(ScheduleFault::BadEntry(number));
@@ -91,15 +92,15 @@ fn take_turn(machine: &mut Machine, number: u64, turn: Turn) -> Result<Entry, Sc
     }
 }
 
-// Takes a step of thread `t`, if it can move.
-fn take_own(machine: &mut Machine, number: u64, t: u32) -> Result<Entry, ScheduleFault>
+// Takes a step of thread `t`, if it can take one.
+fn take_own(machine: &mut PieceMachine, number: u64, t: u32) -> Result<Entry, ScheduleFault>
     requires few { number < 2 ^ 32 }
     ensures ok { IfOk result
-        (λ e. EntersOwn machine.old.program (concrete machine.old) e (concrete machine.new)
+        (λ e. EntersOwn machine.old.view.program (parts machine.old) e (parts machine.new)
         × (e.thread ≡ t) × IsOneStep e) }
     ensures err { IfErr result
-        (λ fault. RefusesSchedule machine.old.program (concrete machine.old) number (Step t) fault) }
-    ensures program { machine.new.program ≡ machine.old.program }
+        (λ fault. RefusesSchedule machine.old.view.program (parts machine.old) number (Step t) fault) }
+    ensures program { machine.new.view.program ≡ machine.old.view.program }
 {
     if !machine.can_move(t) {
         return Err(ScheduleFault::BadEntry(number));
@@ -109,15 +110,15 @@ fn take_own(machine: &mut Machine, number: u64, t: u32) -> Result<Entry, Schedul
 }
 
 // Wakes thread `t` from outside, if it sleeps.
-fn take_stray(machine: &mut Machine, number: u64, t: u32) -> Result<Entry, ScheduleFault>
+fn take_stray(machine: &mut PieceMachine, number: u64, t: u32) -> Result<Entry, ScheduleFault>
     ensures ok { IfOk result
-        (λ e. EntersOutside (concrete machine.old) e (concrete machine.new)
+        (λ e. EntersOutside machine.old.view.program (parts machine.old) e (parts machine.new)
         × (turn_of e ≡ Stray t)) }
     ensures err { IfErr result
-        (λ fault. RefusesSchedule machine.old.program (concrete machine.old) number (Stray t) fault) }
-    ensures program { machine.new.program ≡ machine.old.program }
+        (λ fault. RefusesSchedule machine.old.view.program (parts machine.old) number (Stray t) fault) }
+    ensures program { machine.new.view.program ≡ machine.old.view.program }
 {
-    if machine.asleep(t).is_none() {
+    if machine.machine().asleep(t).is_none() {
         return Err(ScheduleFault::BadEntry(number));
     }
     let event = wake_from_outside(machine, t);
@@ -129,14 +130,14 @@ fn take_stray(machine: &mut Machine, number: u64, t: u32) -> Result<Entry, Sched
 }
 
 // Kills thread `t` from outside, if it was made.
-fn take_kill(machine: &mut Machine, number: u64, t: u32) -> Result<Entry, ScheduleFault>
+fn take_kill(machine: &mut PieceMachine, number: u64, t: u32) -> Result<Entry, ScheduleFault>
     requires few { number < 2 ^ 32 }
     ensures ok { IfOk result
-        (λ e. EntersOutside (concrete machine.old) e (concrete machine.new)
+        (λ e. EntersOutside machine.old.view.program (parts machine.old) e (parts machine.new)
         × (turn_of e ≡ Kill t)) }
     ensures err { IfErr result
-        (λ fault. RefusesSchedule machine.old.program (concrete machine.old) number (Kill t) fault) }
-    ensures program { machine.new.program ≡ machine.old.program }
+        (λ fault. RefusesSchedule machine.old.view.program (parts machine.old) number (Kill t) fault) }
+    ensures program { machine.new.view.program ≡ machine.old.view.program }
 {
     match machine.kill(t) {
         Ok(event) => Ok(Entry {
@@ -149,20 +150,20 @@ fn take_kill(machine: &mut Machine, number: u64, t: u32) -> Result<Entry, Schedu
 }
 
 // Takes a step of thread `t`, which is an entry of its own. It is refused where the step may not be.
-fn take_step(machine: &mut Machine, t: u32) -> Result<Entry, StepFault>
-    requires thread { can_move (concrete machine.old) t ≡ true }
-    requires room { 1 ≤ machine.old.room }
+fn take_step(machine: &mut PieceMachine, t: u32) -> Result<Entry, StepFault>
+    requires thread { can_take machine.old.view.program (parts machine.old) t ≡ true }
+    requires room { 1 ≤ machine.old.view.room }
     ensures ok { IfOk result
-        (λ e. EntersOwn machine.old.program (concrete machine.old) e (concrete machine.new)
+        (λ e. EntersOwn machine.old.view.program (parts machine.old) e (parts machine.new)
         × (e.thread ≡ t) × IsOneStep e) }
-    ensures err { OnErr result (step_of machine.old.program (concrete machine.old) t ≡ Err Broken) }
-    ensures program { machine.new.program ≡ machine.old.program }
+    ensures err { OnErr result (piece_of machine.old.view.program (parts machine.old) t ≡ Err Broken) }
+    ensures program { machine.new.view.program ≡ machine.old.view.program }
 {
-    let local = machine.run_local(t, 1);
-    if local > 0 {
+    let here = machine.machine();
+    if here.is_before_local(t, here.local(t)) {
         return Ok(Entry {
             thread: t,
-            local,
+            local: machine.run_local(t, 1),
             event: None,
         });
     }

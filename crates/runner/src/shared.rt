@@ -1,14 +1,16 @@
 ghost use Rattle.words.specs.Limits.{most_local_steps};
 ghost use Rattle.std.specs.Prelude.{suc, ◌≡◌, ◌≢◌, ◌≤◌, ◌<◌, ◌+◌, [], length, true, false, Some, None, Ok, IfOk};
 ghost use Rattle.std.specs.Prelude.{IfErr, OnOk, IfSome, IfNone, MatchBool, MatchOption};
-ghost use Rattle.machine.specs.States.{thread_of, opening_concrete};
+ghost use Rattle.machine.specs.States.{thread_of};
 ghost use Rattle.machine.specs.ConcreteSteps.{can_move};
-ghost use Rattle.runner.specs.Logs.{HasOnly, Runs, cost, kills_in};
+ghost use Rattle.piece_machine.specs.PieceDetermined.{IsFit};
+ghost use Rattle.piece_machine.specs.PieceViews.{parts};
+ghost use Rattle.runner.specs.Logs.{HasOnly, Runs, cost, kills_in, opening};
 ghost use Rattle.runner.specs.Entries.{Takes, TakesOutside, RefusesEntry, RefusesOutside, IsFine, Stands};
 ghost use Rattle.runner.specs.Entries.{TakesKill, RefusesKill};
 ghost use Rattle.runner.specs.Nexts.{IsNext};
 ghost use Rattle.runner.specs.Afters.{IsAfter};
-ghost use Rattle.runner.specs.Reports.{CanFail, MeetsBroken};
+ghost use Rattle.runner.specs.Reports.{CanFail, IsHeldUp, MeetsBroken};
 ghost use Rattle.runner.specs.declared.fault.RunFault;
 ghost use Rattle.machine.specs.Views.{concrete};
 ghost use Rattle.runner.specs.Views.{log_state};
@@ -23,6 +25,7 @@ use crate::share::{PARTS, Share};
 use isa::Image;
 use machine::{Machine, StepFault};
 use packed_log::PackedLog;
+use piece_machine::PieceMachine;
 use std::alloc::{AllocError, Global};
 use std::marker::{Model, PhantomData};
 use std::sync::ledger;
@@ -34,7 +37,7 @@ use words::{BUCKETS, MOST_LOCAL_STEPS};
 /// within the run's limit, and that all shares together have counted each entry once.
 #[derive(Drop)]
 pub struct Shared<J: RunName> {
-    machine: Machine,
+    machine: PieceMachine,
     log: PackedLog,
     steps: u32,
     // How many entries are kills.
@@ -47,7 +50,7 @@ pub struct Shared<J: RunName> {
 }
 
 impl<J: RunName> Model for Shared<J> {
-    ghost use Rattle.machine.specs.Views.{concrete};
+    ghost use Rattle.piece_machine.specs.PieceViews.{parts};
     ghost use Rattle.runner.specs.Views.{SharedView};
     ghost use Rattle.runner.specs.Legal.{IsLegal, IsCounted};
 
@@ -55,8 +58,8 @@ impl<J: RunName> Model for Shared<J> {
 
     ghost view = { λ s. record { log = s.log.items; machine = s.machine; given = s.given } };
 
-    ghost invariant = { λ s. IsLegal J.program J.outside J.limit s.machine.program
-        (concrete s.machine) s.log.items s.steps s.limit s.kills
+    ghost invariant = { λ s. IsLegal J.program J.outside J.limit s.machine.view.program
+        (parts s.machine) s.log.items s.steps s.limit s.kills
         × IsCounted J.parts s.book.total s.rest.parts s.rest.amount s.given s.log.items };
 }
 
@@ -72,10 +75,10 @@ impl<J: RunName> Shared<J> {
         requires limit { limit ≡ J.limit }
         requires blank { (blank.name ≡ J.name) × (blank.parts ≡ J.parts) × (J.parts ≡ 1024) }
         ensures { IfOk result (λ s. (s.log ≡ [])
-            × ((log_state s).concrete ≡ opening_concrete J.program)
+            × ((log_state s).concrete ≡ opening J.program)
             × (s.given ≡ 0)) }
     {
-        let machine = Machine::new(alloc, image, BUCKETS)?;
+        let machine = PieceMachine::new(alloc, image, BUCKETS)?;
         let (book, rest) = blank.open::<J>();
         Ok(Shared {
             machine,
@@ -124,11 +127,22 @@ impl<J: RunName> Shared<J> {
         true
     }
 
-    /// The machine, which is where the log leads.
+    /// The machine, which is where the log leads, but for the phases of its threads.
     pub fn machine(&self) -> &Machine
-        ensures concrete { concrete result.now ≡ (log_state self.now).concrete }
+        ensures concrete { concrete result.now ≡ (log_state self.now).concrete.concrete }
         ensures program { result.now.program ≡ J.program }
-        ensures legal { Runs J.program (opening_concrete J.program) self.now.log
+        ensures legal { Runs J.program (opening J.program) self.now.log
+            (log_state self.now).concrete }
+        ensures fit { IsFit J.program (log_state self.now).concrete }
+    {
+        self.machine.machine()
+    }
+
+    /// The machine with the phases of its threads, which is where the log leads.
+    pub fn piece_machine(&self) -> &PieceMachine
+        ensures parts { parts result.now ≡ (log_state self.now).concrete }
+        ensures program { result.now.view.program ≡ J.program }
+        ensures legal { Runs J.program (opening J.program) self.now.log
             (log_state self.now).concrete }
     {
         &self.machine
@@ -137,7 +151,7 @@ impl<J: RunName> Shared<J> {
     /// The log.
     pub fn log(&self) -> &PackedLog
         ensures value { result.now.items ≡ self.now.log }
-        ensures legal { Runs J.program (opening_concrete J.program) self.now.log
+        ensures legal { Runs J.program (opening J.program) self.now.log
             (log_state self.now).concrete }
         ensures own { HasOnly J.outside self.now.log }
     {
@@ -161,11 +175,11 @@ impl<J: RunName> Shared<J> {
     }
 
     /// What a run leaves: its log and its machine.
-    pub fn into_parts(self) -> (PackedLog, Machine)
+    pub fn into_parts(self) -> (PackedLog, PieceMachine)
         ensures log { result.0.items ≡ self.log }
-        ensures concrete { concrete result.1 ≡ (log_state self).concrete }
-        ensures program { result.1.program ≡ J.program }
-        ensures legal { Runs J.program (opening_concrete J.program) self.log
+        ensures concrete { parts result.1 ≡ (log_state self).concrete }
+        ensures program { result.1.view.program ≡ J.program }
+        ensures legal { Runs J.program (opening J.program) self.log
             (log_state self).concrete }
         ensures own { HasOnly J.outside self.log }
         ensures within { cost self.log ≤ J.limit }
@@ -177,16 +191,17 @@ impl<J: RunName> Shared<J> {
     /// The piece that thread `t` goes on from, if it can move.
     pub fn piece(&self, t: u32) -> Option<Piece<J>>
         ensures some { IfSome result (λ p. (p.thread ≡ t) × (p.count ≡ 0) × (p.here ≡ p.origin)
-            × (thread_of (log_state self.now).concrete t ≡ Some p.origin)) }
-        ensures legal { Runs J.program (opening_concrete J.program) self.now.log
+            × (thread_of (log_state self.now).concrete.concrete t ≡ Some p.origin)) }
+        ensures legal { Runs J.program (opening J.program) self.now.log
             (log_state self.now).concrete }
-        ensures variant { MatchOption result (can_move (log_state self.now).concrete t ≡ false)
-            (λ _. can_move (log_state self.now).concrete t ≡ true) }
+        ensures variant { MatchOption result (can_move (log_state self.now).concrete.concrete t ≡ false)
+            (λ _. can_move (log_state self.now).concrete.concrete t ≡ true) }
     {
-        if !self.machine.can_move(t) {
+        let machine = self.machine.machine();
+        if !machine.can_move(t) {
             return None;
         }
-        let local = self.machine.local(t);
+        let local = machine.local(t);
         Some(Piece {
             thread: t,
             origin: local.copy(),
@@ -217,7 +232,7 @@ impl<J: RunName> Shared<J> {
         ensures broken { IfErr result (λ fault. fault ≡ RunFault.Broken
             → MeetsBroken J.program J.outside J.limit) }
         ensures given { self.new.given ≡ self.old.given }
-        ensures legal { Runs J.program (opening_concrete J.program) self.new.log
+        ensures legal { Runs J.program (opening J.program) self.new.log
             (log_state self.new).concrete }
         ensures within { cost self.new.log ≤ J.limit }
     {
@@ -248,7 +263,7 @@ impl<J: RunName> Shared<J> {
         ensures broken { IfErr result (λ fault. fault ≡ RunFault.Broken
             → MeetsBroken J.program J.outside J.limit) }
         ensures given { self.new.given ≡ self.old.given }
-        ensures legal { Runs J.program (opening_concrete J.program) self.new.log
+        ensures legal { Runs J.program (opening J.program) self.new.log
             (log_state self.new).concrete }
         ensures within { cost self.new.log ≤ J.limit }
     {
@@ -268,7 +283,7 @@ impl<J: RunName> Shared<J> {
         ensures broken { IfErr result (λ fault. fault ≡ RunFault.Broken
             → MeetsBroken J.program J.outside J.limit) }
         ensures given { self.new.given ≡ self.old.given }
-        ensures legal { Runs J.program (opening_concrete J.program) self.new.log
+        ensures legal { Runs J.program (opening J.program) self.new.log
             (log_state self.new).concrete }
         ensures within { cost self.new.log ≤ J.limit }
     {
@@ -298,11 +313,11 @@ impl<J: RunName> Shared<J> {
             × (share.new ≡ share.old)
             × RefusesOutside J.limit (log_state self.old) t fault) }
         ensures given { self.new.given ≡ self.old.given }
-        ensures legal { Runs J.program (opening_concrete J.program) self.new.log
+        ensures legal { Runs J.program (opening J.program) self.new.log
             (log_state self.new).concrete }
         ensures within { cost self.new.log ≤ J.limit }
     {
-        if self.machine.asleep(t).is_none() {
+        if self.machine.machine().asleep(t).is_none() {
             return Err(RunFault::CannotMove);
         }
         if self.steps == self.limit {
@@ -323,18 +338,18 @@ impl<J: RunName> Shared<J> {
     /// Refuses in this order: `CannotMove` where no such thread was made, `Limit`, `Memory`; then nothing has changed.
     pub fn kill(&mut self, t: u32, share: &mut Share<J>) -> Result<(), RunFault>
         requires kills { kills_in self.old.log < J.outside.kills }
-        ensures ok { OnOk result (TakesKill J.limit (log_state self.old) t (log_state self.new)) }
+        ensures ok { OnOk result (TakesKill J.program J.limit (log_state self.old) t (log_state self.new)) }
         ensures counted { OnOk result (share.new
             ≡ record share.old { count = share.old.count + 1 }) }
         ensures err { IfErr result (λ fault. (log_state self.new ≡ log_state self.old)
             × (share.new ≡ share.old)
             × RefusesKill J.limit (log_state self.old) t fault) }
         ensures given { self.new.given ≡ self.old.given }
-        ensures legal { Runs J.program (opening_concrete J.program) self.new.log
+        ensures legal { Runs J.program (opening J.program) self.new.log
             (log_state self.new).concrete }
         ensures within { cost self.new.log ≤ J.limit }
     {
-        if !self.machine.is_made(t) {
+        if !self.machine.machine().is_made(t) {
             return Err(RunFault::CannotMove);
         }
         if self.limit == self.steps {
@@ -353,13 +368,14 @@ impl<J: RunName> Shared<J> {
     /// frames in use are copied.
     pub fn next(&self, t: u32, piece: &mut Piece<J>) -> After
         ensures next { IsAfter (log_state self.now).concrete t piece.new result }
-        ensures legal { Runs J.program (opening_concrete J.program) self.now.log
+        ensures legal { Runs J.program (opening J.program) self.now.log
             (log_state self.now).concrete }
     {
-        if self.machine.can_move(t) {
-            piece.begin(t, self.machine.local(t));
+        let machine = self.machine.machine();
+        if machine.can_move(t) {
+            piece.begin(t, machine.local(t));
             After::Goes
-        } else if self.machine.has_ended(t) {
+        } else if machine.has_ended(t) {
             After::Ends
         } else {
             After::Sleeps
@@ -381,12 +397,27 @@ impl<J: RunName> Shared<J> {
         self.steps < self.limit
     }
 
-    /// Takes the next entry of thread `t`, which can move, in its place on the machine, so that nothing is copied: its
-    /// local steps until another step comes or its turn is over, and the shared step that it stands before, if any.
+    /// Whether no held bucket is in the way of the next entry of thread `t`, as far as is seen without its local steps.
+    pub(crate) fn is_free(&self, t: u32) -> bool
+        requires { can_move (log_state self.now).concrete.concrete t ≡ true }
+        ensures { result ≡ true → IsHeldUp J.program (log_state self.now).concrete t → ⊥ }
+    {
+        let machine = self.machine.machine();
+        if machine.is_before_local(t, machine.local(t)) {
+            self.machine.holds_none()
+        } else {
+            self.machine.can_move(t)
+        }
+    }
+
+    /// Takes the next entry of thread `t`, which can move and isn't held up, in its place on the machine, so that nothing
+    /// is copied: its local steps until another step comes or its turn is over, and the shared step that it stands
+    /// before, if any.
     ///
     /// Refuses with `Memory`, and then nothing has changed; and with `Broken`, and then the local steps are an entry.
     pub(crate) fn go_on(&mut self, t: u32, share: &mut Share<J>) -> Result<(), RunFault>
-        requires thread { can_move (log_state self.old).concrete t ≡ true }
+        requires thread { can_move (log_state self.old).concrete.concrete t ≡ true }
+        requires free { IsHeldUp J.program (log_state self.old).concrete t → ⊥ }
         requires room { cost self.old.log + suc most_local_steps ≤ J.limit }
         ensures ok { OnOk result (cost self.old.log < cost self.new.log) }
         ensures given { self.new.given ≡ self.old.given }
@@ -412,7 +443,7 @@ impl<J: RunName> Shared<J> {
         if !self.stands(t, piece) {
             return Some(RunFault::Stray);
         }
-        if !self.machine.can_move(t) {
+        if !self.machine.machine().can_move(t) {
             return Some(RunFault::CannotMove);
         }
         match self.machine.refusal_at(t, &piece.here) {
@@ -420,7 +451,7 @@ impl<J: RunName> Shared<J> {
             Some(StepFault::Broken) => return Some(RunFault::Broken),
             None => {}
         }
-        let shared = !self.machine.is_before_local(t, &piece.here);
+        let shared = !self.machine.machine().is_before_local(t, &piece.here);
         if self.limit - self.steps < piece.count + u32::from(shared) {
             return Some(RunFault::Limit);
         }
@@ -434,7 +465,7 @@ impl<J: RunName> Shared<J> {
     {
         piece.thread == t
             && t > 0
-            && t <= self.machine.threads()
-            && self.machine.local(t).equals(&piece.origin)
+            && t <= self.machine.machine().threads()
+            && self.machine.machine().local(t).equals(&piece.origin)
     }
 }

@@ -1,8 +1,8 @@
 -- An image that isn't the program's, since that has none; and one that is.
 use Rattle.std.proofs.Common.{◌≡◌, ◌≢◌, ◌∙◌, inl, inr, length, List, ap, sym, subst, arith}
 use Rattle.isa.specs.Programs.{Program as Image, IsProgram}
-use Rattle.machine.specs.States.{ConcreteState}
-use Rattle.machine.specs.Views.{concrete}
+use Rattle.piece_machine.specs.PieceConcrete.{PieceConcrete}
+use Rattle.piece_machine.specs.PieceViews.{parts}
 use Rattle.machine.specs.declared.event.Entry.{Entry}
 use Rattle.scanner.specs.declared.refusal.Refusal.{Refusal}
 use Rattle.scanner.specs.declared.refusal.RefusalKind.TheVariants.{Memory}
@@ -28,7 +28,7 @@ explains_entries p i entries e own h = record {
   explained = record { code = own; recorded = h.recorded };
   last = record {
     program = h.program ∙ sym own;
-    leads = subst (λ (x : Image). LeadsTo x entries (concrete e.last)) (sym own)
-        (subst (λ (k : ConcreteState). LeadsTo (code_of p) entries k) (sym h.last) h.recorded.legal);
+    leads = subst (λ (x : Image). LeadsTo x entries (parts e.last)) (sym own)
+        (subst (λ (k : PieceConcrete). LeadsTo (code_of p) entries k) (sym h.last) h.recorded.legal);
   };
 }

@@ -1,7 +1,7 @@
 -- What comes of a log that is to be explained.
 use Rattle.std.specs.Prelude.{◌≡◌, List, map}
 use Rattle.isa.specs.Programs.{Program as Image}
-use Rattle.machine.specs.Views.{View, concrete}
+use Rattle.piece_machine.specs.PieceViews.{PieceView, parts}
 use Rattle.machine.specs.declared.event.Entry.{Entry}
 use Rattle.program.specs.Trees.{Program}
 use Rattle.lowering.specs.Pieces.{code_of}
@@ -27,9 +27,9 @@ RefusesLog p image log NotARun = (image ≡ code_of p) × IsNoLog image log
 RefusesLog p image log Memory = Unit {0}
 
 -- the machine stands where the log leads
-pub record IsLast (image : Image) (entries : List Entry) (last : View) : Type 0 where
-  pub program : last.program ≡ image
-  pub leads : LeadsTo image entries (concrete last)
+pub record IsLast (image : Image) (entries : List Entry) (last : PieceView) : Type 0 where
+  pub program : last.view.program ≡ image
+  pub leads : LeadsTo image entries (parts last)
 
 -- the log is explained, and the machine stands where it leads
 pub record ExplainsEntries (p : Program) (image : Image) (entries : List Entry) (e : ExplainedLog) : Type 0 where

@@ -69,7 +69,7 @@ fn show_report<R: Print>(rt: &R, report: &Report) -> io::Result<()> {
     let verdict = report.verdict;
     let entries = report.log.len();
     let steps = steps_of(report.log.iter());
-    let threads = report.last.threads();
+    let threads = report.last.machine().threads();
     println!(rt; "  {verdict:?}, {steps} steps, {entries} entries, {threads} threads")
 }
 

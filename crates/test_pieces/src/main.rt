@@ -3,6 +3,7 @@
 //!
 //! ```text
 //! TxN     up to N steps of thread T, local or shared, as long as none is refused
+//! lTxN    up to N local steps of thread T, in its place, and prints how many they were
 //! sT      a wake of thread T from outside
 //! kT      a kill of thread T
 //! rT      prints what a step of thread T would be refused for, or that it can go on
@@ -20,7 +21,7 @@ use crate::show::{show_movers, show_refusal, show_step};
 use buckets::Buckets;
 use isa::{Image, decode};
 use machine::{Event, StepFault};
-use piece_machine::{PieceEvent, PieceMachine};
+use piece_machine::PieceMachine;
 use std::alloc::Global;
 use std::io;
 
@@ -73,9 +74,33 @@ fn take_word<R: Print>(rt: &R, machine: &mut PieceMachine, word: &str) -> Result
     if let Some(asked) = word.strip_prefix('r') {
         return show_next(rt, machine, number(asked)?);
     }
+    if let Some(local) = word.strip_prefix('l') {
+        let (thread, steps) = counted(local)?;
+        return run_locally(rt, machine, thread, steps);
+    }
+    let (thread, steps) = counted(word)?;
+    take_steps(rt, machine, thread, steps)
+}
+
+// The thread and the number of steps of a word of a schedule.
+fn counted(word: &str) -> Result<(u32, u32), Failure> {
     let (thread, steps) = word.split_once('x').ok_or(Failure::Row)?;
-    let steps = number(steps)?.min(MOST_STEPS);
-    take_steps(rt, machine, number(thread)?, steps)
+    Ok((number(thread)?, number(steps)?.min(MOST_STEPS)))
+}
+
+// Takes up to so many local steps of a thread, and prints how many they were.
+fn run_locally<R: Print>(
+    rt: &R,
+    machine: &mut PieceMachine,
+    thread: u32,
+    steps: u32,
+) -> Result<(), Failure> {
+    if !machine.machine().can_move(thread) {
+        return Err(Failure::Row);
+    }
+    let taken = machine.run_local(thread, steps);
+    println!(rt; "  {thread} took {taken} local steps")?;
+    Ok(())
 }
 
 // Prints what came to a thread from outside.
@@ -85,7 +110,7 @@ fn show_outside<R: Print>(
     outcome: Result<Event, StepFault>,
 ) -> Result<(), Failure> {
     match outcome {
-        Ok(event) => show_step(rt, thread, PieceEvent::Event(event))?,
+        Ok(event) => show_step(rt, thread, event)?,
         Err(fault) => show_refusal(rt, thread, fault)?,
     }
     Ok(())

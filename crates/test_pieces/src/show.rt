@@ -1,21 +1,15 @@
-use machine::{EventName, MOST_THREADS, StepFault, ThreadSet};
-use piece_machine::{PieceEvent, PieceMachine};
+use machine::{Event, EventName, MOST_THREADS, StepFault, ThreadSet};
+use piece_machine::PieceMachine;
 use std::io;
 
 /// Prints a step of a thread, unless it is a local one.
-pub fn show_step<R: Print>(rt: &R, thread: u32, event: PieceEvent) -> io::Result<()> {
-    match event {
-        PieceEvent::Lock(bucket) => println!(rt; "  {thread} FLOCK {bucket}"),
-        PieceEvent::Compare(word) => println!(rt; "  {thread} FCMP {word}"),
-        PieceEvent::Event(event) => {
-            if event.name == EventName::Local {
-                return Ok(());
-            }
-            println!(rt; "  {thread} {:?} {}", event.name, event.value)?;
-            show_set(rt, "woke", event.woken)?;
-            show_set(rt, "moved", event.moved)
-        }
+pub fn show_step<R: Print>(rt: &R, thread: u32, event: Event) -> io::Result<()> {
+    if event.name == EventName::Local {
+        return Ok(());
     }
+    println!(rt; "  {thread} {:?} {}", event.name, event.value)?;
+    show_set(rt, "woke", event.woken)?;
+    show_set(rt, "moved", event.moved)
 }
 
 /// Prints why a step of a thread is refused.

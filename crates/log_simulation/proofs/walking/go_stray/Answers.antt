@@ -1,6 +1,6 @@
 -- The wake is one that is due, or none.
 use Rattle.std.proofs.Common.{length}
-use Rattle.machine.specs.Views.{concrete}
+use Rattle.piece_machine.specs.PieceViews.{parts}
 use Rattle.log_simulation.specs.Entries.{progress_strayed}
 use Rattle.log_simulation.proofs.Keeping.{keeps_outside, sleeps_within}
 use Rattle.log_simulation.proofs.Progressing.{one_stray, stray_due}
@@ -8,10 +8,10 @@ use Rattle.log_simulation.proofs.Records.{when_true}
 use Rattle.log_simulation.proofs.walking.go_stray.Goals as goal
 
 pub returns-clause-told : goal.returns-clause-told
-returns-clause-told c = λ _ p w events along.
+returns-clause-told c = λ _ p own w events along.
     let t = c.args.t in
-    let k = concrete c.args.machine.now in
-    let new = concrete c.take_stray.new.machine in
+    let k = parts c.args.machine.now in
+    let new = parts c.take_stray.new.machine in
     let event = c.args.event in
     let g = along.source in
     let gives = when_true _ _ c.take_stray.result c.take_stray.ensures.gives c.if-not-take_stray.false in

@@ -1,7 +1,7 @@
 -- The log leads on from each entry that is taken, and stops at the first that can't be, or that is one too many.
 use Rattle.std.proofs.Common.{rules, ◌+◌, ◌∷◌, [], ◌∙◌, sym, arith, length-append, subst}
 use Rattle.isa.specs.Programs.{Program as Image}
-use Rattle.machine.specs.Views.{concrete}
+use Rattle.piece_machine.specs.PieceViews.{parts}
 use Rattle.runner.specs.LogRuns.{steps_of}
 use Rattle.runner.specs.Logs.{Enters}
 use Rattle.lowering.specs.Pieces.{code_of}
@@ -41,8 +41,8 @@ returns-then-not-branch c = λ p w own begins.
     c.in-Some.ensures.steps in
     let never = when_false _ _ c.in_ok-go_through.field-0 c.in_ok-go_through.ensures.enters c.if-not-branch.true in
     stops_illegal p c.args.log l.yielded c.next.new.self next read (l.number + 1) (omega (arith, l.invariant.number))
-    (concrete l.machine) l.recorder (l.invariant.recorded p w own begins)
-    (λ new enters. never new (subst (λ (i : Image). Enters i (concrete l.machine) next new) (sym own) enters))
+    (parts l.machine) l.recorder (l.invariant.recorded p w own begins)
+    (λ new enters. never new (subst (λ (i : Image). Enters i (parts l.machine) next new) (sym own) enters))
 
 pub returns-then-not-is_whole : goal.returns-then-not-is_whole
 returns-then-not-is_whole c = λ p w own begins.
@@ -51,21 +51,21 @@ returns-then-not-is_whole c = λ p w own begins.
     let starts = c.into_iter-entry-iterator.ensures.into_iter_gives in
     let read = read_next c.args.log _ l.yielded l.entry-iterator c.next.new.self next starts l.yielded_by
     c.in-Some.ensures.steps in
-    let new = concrete c.go_through.new.machine in
+    let new = parts c.go_through.new.machine in
     let recorder = c.go_through.new.recorder in
     let before = l.invariant.recorded p w own begins in
-    let enters = subst (λ (i : Image). Enters i (concrete l.machine) next new) own
+    let enters = subst (λ (i : Image). Enters i (parts l.machine) next new) own
     (when_true _ _ c.in_ok-go_through.field-0 c.in_ok-go_through.ensures.enters c.if-not-branch.false) in
     let along = c.in_ok-go_through.ensures.told c.if-not-branch.false p own w (steps_of l.yielded) before.along in
     stops_long p c.args.log l.yielded c.next.new.self next read (l.number + 1) (omega (arith, l.invariant.number))
-    (concrete l.machine) l.recorder before new enters
+    (parts l.machine) l.recorder before new enters
     (when_false _ _ recorder.is_whole along.told (sym c.is_whole.ensures ∙ c.if-not-is_whole.true))
 
 pub loop-entry-preserved : goal.loop-entry-preserved
 loop-entry-preserved c =
     let l = c.loop-entry in
     let next = c.in-Some.entry in
-    let new = concrete c.go_through.new.machine in
+    let new = parts c.go_through.new.machine in
     let recorder = c.go_through.new.recorder in
     let sum = length-append l.yielded (next ∷ []) in
     record {
@@ -73,11 +73,11 @@ loop-entry-preserved c =
       number = omega (arith, l.invariant.number, sum);
       recorded = λ p w own begins.
           let before = l.invariant.recorded p w own begins in
-          let enters = subst (λ (i : Image). Enters i (concrete l.machine) next new) own
+          let enters = subst (λ (i : Image). Enters i (parts l.machine) next new) own
           (when_true _ _ c.in_ok-go_through.field-0 c.in_ok-go_through.ensures.enters c.if-not-branch.false) in
           let along = c.in_ok-go_through.ensures.told c.if-not-branch.false p own w (steps_of l.yielded) before.along in
           record {
-            legal = leads_next l.yielded next (code_of p) (concrete l.machine) before.legal new enters;
+            legal = leads_next l.yielded next (code_of p) (parts l.machine) before.legal new enters;
             along = subst (λ es. IsAlong p es new recorder) (sym (steps_next l.yielded next)) along;
             whole = sym c.is_whole.ensures ∙ c.if-not-is_whole.false;
           };
@@ -88,6 +88,6 @@ returns c = λ p w own begins.
     let l = c.loop-entry in
     let starts = c.into_iter-entry-iterator.ensures.into_iter_gives in
     let all = read_all c.args.log _ l.yielded l.entry-iterator starts l.yielded_by c.in-None.ensures.steps.0 in (
-      subst (λ es. IsWhole p es (concrete l.machine) l.recorder) all (l.invariant.recorded p w own begins),
+      subst (λ es. IsWhole p es (parts l.machine) l.recorder) all (l.invariant.recorded p w own begins),
       l.invariant.program ∙ own,
     )

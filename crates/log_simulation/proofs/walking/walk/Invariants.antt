@@ -1,7 +1,7 @@
 use Rattle.std.proofs.Common.{◌≡◌, [], length}
 use Rattle.lowering.specs.Pieces.{code_of}
-use Rattle.machine.specs.States.{opening_concrete}
-use Rattle.machine.specs.Views.{concrete}
+use Rattle.runner.specs.Logs.{opening}
+use Rattle.piece_machine.specs.PieceViews.{parts}
 use Rattle.program.specs.Trees.{Program}
 use Rattle.program.specs.WellFormed.{WellFormed}
 use Rattle.log_simulation.specs.Recording.{IsAlong, IsWhole}
@@ -9,9 +9,9 @@ use Rattle.log_simulation.proofs.walking.walk.Given as goal
 
 abbrev pub invariant-loop-entry : goal.invariant-loop-entry
 invariant-loop-entry l = record {
-  program : l.machine.program ≡ l.image;
+  program : l.machine.view.program ≡ l.image;
   number : l.number ≡ length l.yielded;
   recorded : (p : Program) → WellFormed p → l.image ≡ code_of p
-      → IsAlong p [] (opening_concrete l.image) l.fn.recorder
-      → IsWhole p l.yielded (concrete l.machine) l.recorder;
+      → IsAlong p [] (opening l.image) l.fn.recorder
+      → IsWhole p l.yielded (parts l.machine) l.recorder;
 }

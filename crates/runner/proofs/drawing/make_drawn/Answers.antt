@@ -28,8 +28,8 @@ returns-then-not-made-clause-none g c =
     c.in-Mover.is c.requires.drawn in
     λ is.
     let n = c.in_ok-made-in-Mover.ensures.none is in
-    let moves : can_move new.concrete t ≡ true =
-    ap (λ (h : LogState). can_move h.concrete t) n.0 ∙ drawn.0.0 in
+    let moves : can_move new.concrete.concrete t ≡ true =
+    ap (λ (h : LogState). can_move h.concrete.concrete t) n.0 ∙ drawn.0.0 in
     let stopped : AllStopped p limit new passed =
     subst (λ (h : LogState). AllStopped p limit h passed) (sym n.0) c.requires.stopped in
     let fewer = one_fewer passed t drawn.0.2 in

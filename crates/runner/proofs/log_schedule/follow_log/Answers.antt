@@ -2,8 +2,8 @@ use Rattle.std.proofs.Common.{◌+◌, ◌∙◌, List, length, sym, inl, inr, a
 use Rattle.std.proofs.lemmas.Iterator.Consumers.{YieldsList-from_first, YieldsList-turn, YieldsList-end}
 use Rattle.std.proofs.lemmas.List.{length_push}
 use Rattle.machine.specs.declared.event.Entry.{Entry}
-use Rattle.machine.specs.States.{ConcreteState}
-use Rattle.machine.specs.Views.{concrete}
+use Rattle.piece_machine.specs.PieceConcrete.{PieceConcrete}
+use Rattle.piece_machine.specs.PieceViews.{parts}
 use Rattle.runner.specs.Logs.{Enters}
 use Rattle.runner.specs.LogSchedules.{CannotTake, shape_of}
 use Rattle.runner.proofs.Scheduling.{pushed}
@@ -25,8 +25,8 @@ returns-then-steps-from-clause-err c =
     let turn = YieldsList-turn (YieldsList-from_first (λ (x : Entry). x) (λ (rest : List Entry). rest) c.args.entries
     c.into_iter-entry-iterator.ensures.into_iter_gives)
     l.yielded _ l.yielded_by _ _ entry c.in-Some.is c.next.ensures.steps in
-    bad_entry c.args.image.now l.machine.program c.args.entries (length l.yielded) (l.number + 1) entry entry l.log.items
-    (concrete l.machine) turn.0 (sym turn.1) (omega (arith, l.invariant.number)) l.invariant.program
+    bad_entry c.args.image.now l.machine.view.program c.args.entries (length l.yielded) (l.number + 1) entry entry l.log.items
+    (parts l.machine) turn.0 (sym turn.1) (omega (arith, l.invariant.number)) l.invariant.program
     l.invariant.follows
     (inr (omega (arith, c.if-steps-from.true, c.from.ensures, l.invariant.steps, c.steps_of.ensures.value)))
 
@@ -37,12 +37,12 @@ returns-in_default-clause-err c =
     let turn = YieldsList-turn (YieldsList-from_first (λ (x : Entry). x) (λ (rest : List Entry). rest) c.args.entries
     c.into_iter-entry-iterator.ensures.into_iter_gives)
     l.yielded _ l.yielded_by _ _ entry c.in-Some.is c.next.ensures.steps in
-    let same = c.in_ok-make_room.ensures.same in
+    let same = c.in_ok-make_room.ensures in
     let room = c.make_room.new.self in
-    bad_entry c.args.image.now room.program c.args.entries (length l.yielded) (l.number + 1) entry entry l.log.items
-    (concrete l.machine) turn.0 (sym turn.1) (omega (arith, l.invariant.number)) (same.0 ∙ l.invariant.program)
+    bad_entry c.args.image.now room.view.program c.args.entries (length l.yielded) (l.number + 1) entry entry l.log.items
+    (parts l.machine) turn.0 (sym turn.1) (omega (arith, l.invariant.number)) (same.same.0 ∙ l.invariant.program)
     l.invariant.follows
-    (inl (subst (λ (k : ConcreteState). CannotTake room.program k (shape_of entry)) same.1 c.in_default.ensures.none))
+    (inl (subst (λ (k : PieceConcrete). CannotTake room.view.program k (shape_of entry)) same.parts c.in_default.ensures.none))
 
 pub loop-entry-preserved : goal.loop-entry-preserved
 loop-entry-preserved c =
@@ -51,15 +51,15 @@ loop-entry-preserved c =
     let turn = YieldsList-turn (YieldsList-from_first (λ (x : Entry). x) (λ (rest : List Entry). rest) c.args.entries
     c.into_iter-entry-iterator.ensures.into_iter_gives)
     l.yielded _ l.yielded_by _ _ entry c.in-Some.is c.next.ensures.steps in
-    let same = c.in_ok-make_room.ensures.same in
+    let same = c.in_ok-make_room.ensures in
     let room = c.make_room.new.self in
     let taken = c.in-Some-take_turn.ensures.some in
     let value = c.steps_of.ensures.value in
     let one = length_push l.yielded entry in
-    let more = shapes_more c.args.image.now room.program c.args.entries (length l.yielded) entry entry l.log.items
-    c.push.new.self.items (concrete l.machine) (concrete c.take_turn.new.machine) c.in-Some-take_turn.taken turn.0
-    (sym turn.1) (same.0 ∙ l.invariant.program) l.invariant.follows
-    (subst (λ (k : ConcreteState). Enters room.program k c.in-Some-take_turn.taken (concrete c.take_turn.new.machine)) same.1
+    let more = shapes_more c.args.image.now room.view.program c.args.entries (length l.yielded) entry entry l.log.items
+    c.push.new.self.items (parts l.machine) (parts c.take_turn.new.machine) c.in-Some-take_turn.taken turn.0
+    (sym turn.1) (same.same.0 ∙ l.invariant.program) l.invariant.follows
+    (subst (λ (k : PieceConcrete). Enters room.view.program k c.in-Some-take_turn.taken (parts c.take_turn.new.machine)) same.parts
     taken.0) taken.1
     (pushed c.push.result c.is_err.result c.push.new.self.items l.log.items c.in-Some-take_turn.taken
     c.is_err.ensures.value c.if-is_err.false c.push.ensures)
@@ -68,7 +68,7 @@ loop-entry-preserved c =
       follows = rw one more.0;
       steps = omega (arith, more.1, l.invariant.steps, value);
       number = omega (arith, l.invariant.number, one);
-      program = c.in-Some-take_turn.ensures.program ∙ same.0 ∙ l.invariant.program;
+      program = c.in-Some-take_turn.ensures.program ∙ same.same.0 ∙ l.invariant.program;
     }
 
 pub returns-clause-ok : goal.returns-clause-ok

@@ -26,6 +26,6 @@ returns-clause-none g c =
     λ still u moves. c.loop-t.invariant.none still u
     (omega (
       arith,
-      made_within (log_state c.loop-t.shared).concrete u moves,
+      made_within (log_state c.loop-t.shared).concrete.concrete u moves,
       ap (λ (k : ConcreteState). length k.threads) c.machine.ensures.concrete,
     )) moves

@@ -13,7 +13,7 @@ invariant-loop-t g l = record {
   few : l.t ≤ 65;
   made : l.made ≡ true → (cost l.fn.shared.log < cost l.shared.log) × (cost l.shared.log ≤ g.J.RunName.limit);
   same : l.made ≡ false → log_state l.fn.shared ≡ log_state l.shared;
-  none : l.made ≡ false → (u : ℕ) → u < l.t → can_move (log_state l.shared).concrete u ≡ true
+  none : l.made ≡ false → (u : ℕ) → u < l.t → can_move (log_state l.shared).concrete.concrete u ≡ true
       → IsStopped g.J.RunName.program g.J.RunName.limit l.shared.log (log_state l.shared).concrete u;
 }
 

@@ -23,7 +23,7 @@ returns-in-Ok-clause-past g c =
     slice_get-get_or c.args.refused.now c.args.t false (omega arith) ∙ ap Some c.if-refused-t.false in
     all_past g.J.RunName.program g.J.RunName.limit (log_state c.args.shared.now)
     (log_state c.step.new.self) c.args.t c.run-piece.result c.args.refused.now
-    c.requires.kept c.in-Ok.ensures.ok.0 free c.requires.past
+    c.requires.kept c.run-piece.ensures.reached c.in-Ok.ensures.ok.0 free c.requires.past
 
 pub returns-in-Err-Limit-clause-past : goal.returns-in-Err-Limit-clause-past
 returns-in-Err-Limit-clause-past g c =

@@ -1,6 +1,6 @@
 use Rattle.std.proofs.Common.{◌≡◌, ◌<◌, ◌+◌, ◌^◌, refl, ◌∙◌, arith}
 use Rattle.std.proofs.lemmas.Result.{err_from_is_err_and}
-use Rattle.machine.specs.Views.{concrete}
+use Rattle.piece_machine.specs.PieceViews.{parts}
 use Rattle.runner.specs.declared.schedule.Turn.TheVariants.{Step}
 use Rattle.runner.proofs.Scheduling.{follows_more, fails_at, followed, pushed}
 use Rattle.runner.proofs.schedule.follow.Goals as goal
@@ -11,8 +11,8 @@ returns-in_err-entry-clause-err c =
     let p = err_from_is_err_and c.from_residual-in_err-entry.result c.from_residual-in_err-entry.ensures.1 in
     let few : l.turn-index < 2 ^ 32 = omega (arith, l.invariant.number, l.invariant.few) in
     let next : l.number + 1 ≡ l.turn-index + 1 = omega (arith, l.invariant.number) in
-    rw (p.1, p.2) (fails_at c.args.image.now l.machine.program c.args.schedule.now l.turn-index (l.number + 1)
-    (Step 0) _ l.log.items (concrete l.machine) _ c.loop-turn-test.true refl few next l.invariant.program
+    rw (p.1, p.2) (fails_at c.args.image.now l.machine.view.program c.args.schedule.now l.turn-index (l.number + 1)
+    (Step 0) _ l.log.items (parts l.machine) _ c.loop-turn-test.true refl few next l.invariant.program
     l.invariant.follows c.in_err-entry.ensures.err)
 
 pub loop-turn-preserved : goal.loop-turn-preserved
@@ -20,8 +20,8 @@ loop-turn-preserved c =
     let l = c.loop-turn in
     let ok = c.in_ok-entry.ensures.ok in
     record {
-      follows = follows_more c.args.image.now l.machine.program c.args.schedule.now l.turn-index (Step 0) _ l.log.items
-          c.push.new.self.items (concrete l.machine) (concrete c.take_turn.new.machine) c.in_ok-entry.entry
+      follows = follows_more c.args.image.now l.machine.view.program c.args.schedule.now l.turn-index (Step 0) _ l.log.items
+          c.push.new.self.items (parts l.machine) (parts c.take_turn.new.machine) c.in_ok-entry.entry
           c.loop-turn-test.true refl l.invariant.program l.invariant.follows ok.0 ok.1 ok.2
           (pushed c.push.result c.is_err.result c.push.new.self.items l.log.items c.in_ok-entry.entry
           c.is_err.ensures.value c.if-is_err.false c.push.ensures);

@@ -15,4 +15,4 @@ returns-clause-ok g c =
     c.map_err.ensures.variant
     (reported p may limit (log_state c.run_drawn.new.shared) parts.result.0.items parts.result.1 c.report_of.result
     parts.ensures.legal parts.ensures.own parts.ensures.within c.in_ok-run_drawn.ensures.ok parts.ensures.log
-    parts.ensures.concrete parts.ensures.program e.log e.last e.output e.verdict)
+    parts.ensures.concrete parts.ensures.program e.log e.last e.output e.verdict e.fit)

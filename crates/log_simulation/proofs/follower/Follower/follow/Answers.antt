@@ -1,7 +1,6 @@
 use Rattle.std.proofs.Common.{ap, sym, ◌∙◌, option_map}
 use Rattle.std.proofs.lemmas.Bool.{false≢true}
-use Rattle.machine.specs.States.{state_of as machine_state}
-use Rattle.machine.specs.Views.{concrete}
+use Rattle.log_simulation.specs.Shown.{shown}
 use Rattle.program.specs.Names.{said_by}
 use Rattle.lowering.specs.Layout.{layout_of}
 use Rattle.source_states.specs.Actions.{kind_of}
@@ -22,7 +21,7 @@ returns-in-Some-clause-follows c =
     let p = said_by c.args.self.now.checked.now in
     let f = c.catch_up.new.self in
     let same = ap (λ x. said_by x.now) c.in_ok-catch_up.ensures.kept.0 in
-    let s = machine_state (concrete c.args.machine.now) in
+    let s = shown c.args.machine.now in
     let k = kind_of c.in-Some.kind in
     if_ok (λ b. Takes f (act c.args.t k) b c.take.new.self) _ c.take.result
     (λ b takes g ahead label layout matches behind all can visible who.
@@ -39,7 +38,7 @@ returns-in-None-clause-follows c = λ g ahead label layout matches behind all ca
     let p = said_by c.args.self.now.checked.now in
     let f = c.catch_up.new.self in
     let same = ap (λ x. said_by x.now) c.in_ok-catch_up.ensures.kept.0 in
-    let s = machine_state (concrete c.args.machine.now) in
+    let s = shown c.args.machine.now in
     let caught_up = progress_caught_up p c.args.t g in
     let here = (c.in_ok-catch_up.ensures.catches_up g ahead matches behind all).1 in
     let found = found_so p s c.args.t caught_up label can visible who f same here

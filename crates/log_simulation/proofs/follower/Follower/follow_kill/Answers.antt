@@ -1,7 +1,6 @@
 use Rattle.std.proofs.Common.{◌≡◌, ap, sym, ◌∙◌, subst, Bool, List, [], ◌∷◌, ◌++◌, ℕ}
 use Rattle.std.proofs.lemmas.Bool.{false≢true}
-use Rattle.machine.specs.States.{state_of as machine_state}
-use Rattle.machine.specs.Views.{concrete}
+use Rattle.log_simulation.specs.Shown.{shown}
 use Rattle.meaning.specs.Labels.{Kill}
 use Rattle.meaning.specs.Runs.{IsStep}
 use Rattle.meaning.specs.States.{SourceState}
@@ -28,7 +27,7 @@ returns-clause-follows c =
     let f = c.catch_up.new.self in
     let t = c.args.t in
     let m = c.args.last in
-    let s = machine_state (concrete c.args.machine.now) in
+    let s = shown c.args.machine.now in
     let items = c.in_ok-resumed.resumed.items in
     let same = ap (λ x. said_by x.now) c.in_ok-catch_up.ensures.kept.0 in
     if_ok (λ b. Takes f (act t (Kill items m)) b c.take.new.self) _ c.take.result

@@ -1,6 +1,5 @@
 use Rattle.std.proofs.Common.{ap, sym, ◌∙◌, option_map}
-use Rattle.machine.specs.States.{state_of as machine_state}
-use Rattle.machine.specs.Views.{concrete}
+use Rattle.log_simulation.specs.Shown.{shown}
 use Rattle.program.specs.Names.{said_by}
 use Rattle.meaning.specs.Offers.{offer}
 use Rattle.source_offers.specs.NextAction.{offer_of}
@@ -15,5 +14,5 @@ returns c = λ label layout can visible who.
     c.visible_action.ensures ∙ visible_here p a c.args.t c.in-Some.offer c.in-Some.field-0-1 label can
     (ap (option_map (λ n. offer_of p n.0 n.1)) (sym c.in-Some.is) ∙ c.in_ok-offer.ensures
     ∙ ap (λ n. option_map (offer p a.variable) (a.process n)) c.from.ensures)
-    (machine_state (concrete c.args.machine.now)) c.in_ok-resumed.resumed.items visible who
+    (shown c.args.machine.now) c.in_ok-resumed.resumed.items visible who
     (λ d e. c.in_ok-resumed.ensures.some layout d e)

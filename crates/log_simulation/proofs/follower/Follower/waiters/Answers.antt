@@ -1,6 +1,5 @@
 use Rattle.std.proofs.Common.{ap, sym, ◌∙◌, refl, [], ◌∷◌, ◌++◌, ◌+◌}
-use Rattle.machine.specs.States.{state_of as machine_state}
-use Rattle.machine.specs.Views.{concrete}
+use Rattle.log_simulation.specs.Shown.{shown}
 use Rattle.source_states.specs.States.{state_of}
 use Rattle.log_simulation.specs.Waiting.{is_awake}
 use Rattle.log_simulation.proofs.Waiting.{next_chosen, none_chosen}
@@ -10,7 +9,7 @@ use Rattle.log_simulation.proofs.follower.Follower.waiters.Goals as goal
 pub loop-before-preserved : goal.loop-before-preserved
 loop-before-preserved c =
     let n = c.loop-before.before in
-    let test = is_awake c.address.result (machine_state (concrete c.args.machine.now))
+    let test = is_awake c.address.result (shown c.args.machine.now)
     (state_of c.args.self.now.state).table c.args.condition in
     elim c.if-has_waited.branch [
       | then-has_waited+in_ok-push w ↦

@@ -1,5 +1,5 @@
 use Rattle.std.proofs.Common.{ap, arith, map, subst, ℕ}
-use Rattle.machine.specs.Views.{concrete}
+use Rattle.piece_machine.specs.PieceViews.{parts}
 use Rattle.source_states.specs.Actions.{action_of}
 use Rattle.log_simulation.specs.Going.{Matches}
 use Rattle.log_simulation.specs.Recording.{progress_rest}
@@ -8,9 +8,9 @@ use Rattle.log_simulation.proofs.recorder.Recorder.finish.Goals as goal
 
 pub returns : goal.returns
 returns c = λ p events w along whole.
-    let k = concrete c.args.machine.now in
-    let few = along.comes.kept.few in
-    let fits = along.comes.kept.fits in
+    let k = parts c.args.machine.now in
+    let few = along.comes.fit.well.few in
+    let fits = along.comes.fit.well.fits in
     finishes p w events k c.args.self c.take_rest.new.self.follower
     (map action_of c.into_actions.result.items) along whole
     (λ g ahead matches waits behind.

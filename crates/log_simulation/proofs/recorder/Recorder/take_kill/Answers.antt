@@ -3,8 +3,7 @@ use Rattle.std.proofs.Common.{◌≡◌, ◌<◌, ◌≤◌, ◌^◌, ◌+◌, �
 use Rattle.std.proofs.Common.{length}
 use Rattle.std.specs.Prelude.{MatchBool, false}
 use Rattle.words.specs.Updates.{put}
-use Rattle.machine.specs.States.{state_of as machine_state}
-use Rattle.machine.specs.Views.{concrete}
+use Rattle.log_simulation.specs.Shown.{shown}
 use Rattle.program.specs.Names.{said_by}
 use Rattle.log_simulation.specs.Going.{Matches, progress_left}
 use Rattle.log_simulation.specs.declared.follower.Follower.{Follower}
@@ -19,7 +18,7 @@ use Rattle.log_simulation.proofs.recorder.Recorder.take_kill.Goals as goal
 pub returns : goal.returns
 returns c = λ p n g of less tells due.
     let t = c.args.t in
-    let s = machine_state (concrete c.args.machine.now) in
+    let s = shown c.args.machine.now in
     let m = c.args.last in
     let old = c.args.self.now in
     let counted = c.count.new.self in

@@ -5,8 +5,6 @@ use Rattle.std.specs.Prelude.{MatchBool, ◌||◌, false}
 use Rattle.proof_thread.specs.Deferrals.{deferred_by_step, mark_of}
 use Rattle.lowering.specs.Pieces.{code_of, marks_of}
 use Rattle.locals.specs.Looks.{look}
-use Rattle.machine.specs.States.{state_of as machine_state}
-use Rattle.machine.specs.Views.{concrete}
 use Rattle.program.specs.Names.{said_by}
 use Rattle.log_simulation.specs.Entries.{progress_shared}
 use Rattle.log_simulation.specs.Going.{Matches}
@@ -15,6 +13,7 @@ use Rattle.log_simulation.specs.declared.recorder.Recorder.{Recorder}
 use Rattle.log_simulation.specs.declared.deferred.Deferred.{Deferred}
 use Rattle.log_simulation.specs.Recording.{Records}
 use Rattle.log_simulation.specs.Deferred.{CountsDeferred, Raises}
+use Rattle.log_simulation.specs.Shown.{shown}
 use Rattle.log_simulation.specs.Requests.{raises as raises_step}
 use Rattle.log_simulation.proofs.Visible.{raises_so}
 use Rattle.proof_simulation.specs.Ordering.{raises_number}
@@ -29,7 +28,7 @@ returns-in_ok-self c = λ p n word g is told of less tells due.
     let t = c.args.t in
     let here = c.args.here.now in
     let v = c.args.value in
-    let s = machine_state (concrete c.args.machine.now) in
+    let s = shown c.args.machine.now in
     let old = c.args.self.now in
     let counted = c.count.new.self in
     let lowered = c.lower.new.self in
@@ -87,7 +86,7 @@ returns-else-visible c = λ p n word g is told of less tells due.
     let t = c.args.t in
     let here = c.args.here.now in
     let v = c.args.value in
-    let s = machine_state (concrete c.args.machine.now) in
+    let s = shown c.args.machine.now in
     let old = c.args.self.now in
     let counted = c.count.new.self in
     let raised = c.raise.new.self in

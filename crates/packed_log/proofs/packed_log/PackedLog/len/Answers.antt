@@ -11,7 +11,7 @@ returns c =
       c.len.ensures,
       c.len-2.ensures,
       s.heads.ok.0,
-      s.whole.ok.0,
-      items_length s.heads.items s.sets.items s.whole.items,
+      s.wide.ok.0,
+      items_length s.heads.items s.wide.items s.sets.items,
       ap (λ (v : PackedView). length v.items) c.self.view_is,
     )

@@ -1,6 +1,6 @@
 use Rattle.std.proofs.Common.{List, length, ap, arith}
 use Rattle.machine.specs.declared.event.Entry.{Entry}
-use Rattle.packed_log.proofs.Entries.{items_length}
+use Rattle.packed_log.proofs.Entries.{left_length}
 use Rattle.packed_log.proofs.reader.LogReader.len.Goals as goal
 
 pub returns : goal.returns
@@ -8,6 +8,6 @@ returns c =
     let s = c.self.inside in
     omega (
       arith,
-      items_length s.heads.now s.sets.now s.whole.now,
+      left_length s.heads.now s.wide.now s.sets.now s.whole.now,
       ap (λ (entries : List Entry). length entries) c.self.view_is,
     )

@@ -1,6 +1,6 @@
 use Rattle.std.proofs.Common.{[], ◌∷◌, length, length-append, sym, subst, ap, ◌∙◌, arith}
 use mir.Val.{bool_byte}
-use Rattle.machine.specs.Views.{concrete}
+use Rattle.piece_machine.specs.PieceViews.{parts}
 use Rattle.runner.specs.Views.{PieceView, LogState, SharedView, log_state}
 use Rattle.runner.specs.Entries.{IsFine}
 use Rattle.runner.proofs.Growing.{entry, keeps}
@@ -11,7 +11,7 @@ invariant_of-self-2 g c =
     let s = c.self.inside in
     let p = g.J.RunName.program in
     let limit = g.J.RunName.limit in
-    let h : LogState = record { log = s.log.items; concrete = concrete s.machine } in
+    let h : LogState = record { log = s.log.items; concrete = parts s.machine } in
     let i = c.piece.inside in
     let a : PieceView = record { thread = i.thread; origin = i.origin; here = i.here; count = i.count } in
     let fine : IsFine p limit h c.args.t a =
@@ -21,8 +21,8 @@ invariant_of-self-2 g c =
     let event = c.in-Ok.event in
     let counted = c.self.invariant.1 in
     let grows = ap length c.in-Ok.ensures.log in (
-      keeps p g.J.RunName.outside s.machine.program c.enter.new.machine.program limit h c.enter.new.log.items
-          (concrete c.enter.new.machine) a c.args.t s.steps s.limit s.kills c.from.result event
+      keeps p g.J.RunName.outside s.machine.view.program c.enter.new.machine.view.program limit h c.enter.new.log.items
+          (parts c.enter.new.machine) a c.args.t s.steps s.limit s.kills c.from.result event
           c.in-Ok.ensures.program c.self.invariant.0 c.piece.invariant.0 fine c.in-Ok.ensures.gives
           c.in-Ok.ensures.log (c.from.ensures ∙ ap bool_byte c.is_some.ensures),
       record {
@@ -44,14 +44,14 @@ returns-clause-legal g c =
     let s = c.self.inside in
     let p = g.J.RunName.program in
     let limit = g.J.RunName.limit in
-    let h : LogState = record { log = s.log.items; concrete = concrete s.machine } in
+    let h : LogState = record { log = s.log.items; concrete = parts s.machine } in
     let i = c.piece.inside in
     let a : PieceView = record { thread = i.thread; origin = i.origin; here = i.here; count = i.count } in
     let fine : IsFine p limit h c.args.t a =
     subst (λ (x : PieceView). IsFine p limit h c.args.t x) (sym c.piece.view_is)
     (subst (λ (x : SharedView). IsFine p limit (log_state x) c.args.t c.args.piece.now)
     (sym c.self.view_is) c.in_default.ensures.none) in
-    (keeps p g.J.RunName.outside s.machine.program c.enter.new.machine.program limit h c.enter.new.log.items
-    (concrete c.enter.new.machine) a c.args.t s.steps s.limit s.kills c.from.result c.in-Ok.event
+    (keeps p g.J.RunName.outside s.machine.view.program c.enter.new.machine.view.program limit h c.enter.new.log.items
+    (parts c.enter.new.machine) a c.args.t s.steps s.limit s.kills c.from.result c.in-Ok.event
     c.in-Ok.ensures.program c.self.invariant.0 c.piece.invariant.0 fine c.in-Ok.ensures.gives
     c.in-Ok.ensures.log (c.from.ensures ∙ ap bool_byte c.is_some.ensures)).legal

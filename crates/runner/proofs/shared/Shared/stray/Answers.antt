@@ -1,6 +1,6 @@
 -- The log has one entry more, which is the wake.
 use Rattle.std.proofs.Common.{[], ◌∷◌, Some, length, length-append, ap, arith, inl, refl}
-use Rattle.machine.specs.Views.{concrete}
+use Rattle.piece_machine.specs.PieceViews.{parts}
 use Rattle.runner.proofs.Growing.{entered, entry, keeps_outside}
 use Rattle.runner.proofs.Owning.{only_stray, stray_kills}
 use Rattle.runner.proofs.shared.Shared.stray.Goals as goal
@@ -12,13 +12,13 @@ invariant_of-self-2 g c =
     let counted = c.self.invariant.1 in
     let took = entered _ _ e.result c.is_err.result c.is_err.ensures.value c.if-is_err.false e.ensures.gives
     e.ensures.log in
-    let has = only_stray (concrete s.machine) (concrete e.new.machine) g.J.RunName.outside s.log.items e.new.log.items
+    let has = only_stray (parts s.machine) (parts e.new.machine) g.J.RunName.outside s.log.items e.new.log.items
     (entry c.args.t 0 (Some took.0)) took.0 c.requires.strays refl took.1 took.2 c.self.invariant.0.own in
     let grows = ap length took.2 in (
-      keeps_outside g.J.RunName.program g.J.RunName.outside s.machine.program e.new.machine.program g.J.RunName.limit
-          (concrete s.machine) (concrete e.new.machine) s.log.items e.new.log.items c.args.t s.steps s.limit s.kills
+      keeps_outside g.J.RunName.program g.J.RunName.outside s.machine.view.program e.new.machine.view.program g.J.RunName.limit
+          (parts s.machine) (parts e.new.machine) s.log.items e.new.log.items c.args.t s.steps s.limit s.kills
           s.kills took.0 c.self.invariant.0 e.ensures.program c.if-self.false (inl took.1) took.2
-          (omega (arith, stray_kills (concrete s.machine) (concrete e.new.machine) c.args.t took.0 took.1)) has,
+          (omega (arith, stray_kills (parts s.machine) (parts e.new.machine) c.args.t took.0 took.1)) has,
       record {
         total = omega (
           arith,
@@ -39,9 +39,9 @@ returns-clause-legal g c =
     let e = c.enter_outside in
     let took = entered _ _ e.result c.is_err.result c.is_err.ensures.value c.if-is_err.false e.ensures.gives
     e.ensures.log in
-    let has = only_stray (concrete s.machine) (concrete e.new.machine) g.J.RunName.outside s.log.items e.new.log.items
+    let has = only_stray (parts s.machine) (parts e.new.machine) g.J.RunName.outside s.log.items e.new.log.items
     (entry c.args.t 0 (Some took.0)) took.0 c.requires.strays refl took.1 took.2 c.self.invariant.0.own in
-    (keeps_outside g.J.RunName.program g.J.RunName.outside s.machine.program e.new.machine.program g.J.RunName.limit
-    (concrete s.machine) (concrete e.new.machine) s.log.items e.new.log.items c.args.t s.steps s.limit s.kills
+    (keeps_outside g.J.RunName.program g.J.RunName.outside s.machine.view.program e.new.machine.view.program g.J.RunName.limit
+    (parts s.machine) (parts e.new.machine) s.log.items e.new.log.items c.args.t s.steps s.limit s.kills
     s.kills took.0 c.self.invariant.0 e.ensures.program c.if-self.false (inl took.1) took.2
-    (omega (arith, stray_kills (concrete s.machine) (concrete e.new.machine) c.args.t took.0 took.1)) has).legal
+    (omega (arith, stray_kills (parts s.machine) (parts e.new.machine) c.args.t took.0 took.1)) has).legal

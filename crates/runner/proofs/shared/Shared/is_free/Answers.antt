@@ -1,0 +1,33 @@
+use Rattle.std.proofs.Common.{◌≡◌, ◌∙◌, Some, true, is_some, ap, subst, sym}
+use Rattle.locals.specs.Steps.{local_step}
+use Rattle.machine.specs.States.{thread_of}
+use Rattle.machine.specs.Views.{View, concrete}
+use Rattle.piece_machine.specs.PieceViews.{parts}
+use Rattle.piece_machine.proofs.Wanted.{takes_so}
+use Rattle.runner.specs.Reports.{IsHeldUp}
+use Rattle.runner.specs.Views.{SharedView, log_state}
+use Rattle.runner.proofs.Waiting.{none_free, takes_free}
+use Rattle.runner.proofs.shared.Shared.is_free.Goals as goal
+
+pub returns-then-is_before_local : goal.returns-then-is_before_local
+returns-then-is_before_local g c =
+    let s = c.self.inside in
+    subst (λ (x : SharedView). c.holds_none.result ≡ true
+    → IsHeldUp g.J.RunName.program (log_state x).concrete c.args.t → ⊥) c.self.view_is
+    (λ is w. none_free g.J.RunName.program s.machine.view.program (parts s.machine) c.args.t c.self.invariant.0.program
+    c.machine-machine.ensures.fit (c.holds_none.ensures is) w)
+
+pub returns-else-is_before_local : goal.returns-else-is_before_local
+returns-else-is_before_local g c =
+    let s = c.self.inside in
+    let p = s.machine.view.program in
+    let x = c.local.result.now in
+    let at = subst (λ (w : View). thread_of (concrete w) c.args.t ≡ Some x) c.machine-machine.ensures.shows
+    c.local.ensures in
+    let shared = c.if-is_before_local.ensures
+    ∙ ap (λ (w : View). is_some (local_step w.program c.args.t x)) c.machine-machine.ensures.shows in
+    subst (λ (x : SharedView). c.can_move.result ≡ true
+    → IsHeldUp g.J.RunName.program (log_state x).concrete c.args.t → ⊥) c.self.view_is
+    (λ is w. takes_free g.J.RunName.program p (parts s.machine) c.args.t x c.self.invariant.0.program
+    c.machine-machine.ensures.fit at shared ((takes_so p (parts s.machine) c.args.t).0 (sym c.can_move.ensures.value ∙ is))
+    w)
