@@ -119,7 +119,10 @@ fn after_wait(point: Point) -> (Point, Told) {
 pub(crate) fn after_event(thread: u32, point: Point, event: Event) -> (Point, Told) {
     let value = event.value;
     match event.name {
-        EventName::Local | EventName::Stray => (point, Told::Nothing),
+        EventName::Local
+        | EventName::Stray
+        | EventName::FutexLock
+        | EventName::FutexCompare => (point, Told::Nothing),
         EventName::Store => (Point::Stored, Told::Nothing),
         EventName::Load => after_load(point, value),
         EventName::CompareSwap => after_compare_swap(point, value),
