@@ -2,6 +2,7 @@ ghost use Rattle.std.specs.Prelude.{◌<◌, ◌≤◌, length};
 
 use crate::failure::Failure;
 use machine::Machine;
+use piece_machine::PieceMachine;
 use runner::Verdict;
 use std::alloc::{AllocError, Global};
 use std::fmt::Write;
@@ -9,9 +10,14 @@ use words::{Addr, Cause, Outcome};
 
 /// How a run ended, in a word: the verdict, the numbers that were printed, who aborted, with the fault, and who sleeps,
 /// with the address, by rising number, and the words at these addresses. A comma stands before each of these.
-pub fn outcome_of(alloc: Global, machine: &Machine, addresses: &[Addr]) -> Result<String, Failure> {
+pub fn outcome_of(
+    alloc: Global,
+    pieces: &PieceMachine,
+    addresses: &[Addr],
+) -> Result<String, Failure> {
     let mut text = String::new(alloc);
-    let verdict = verdict_of(machine);
+    let verdict = verdict_of(pieces);
+    let machine = pieces.machine();
     write!(text, "{verdict:?}")?;
     for number in machine.output() {
         write!(text, ",{number}")?;
@@ -21,10 +27,10 @@ pub fn outcome_of(alloc: Global, machine: &Machine, addresses: &[Addr]) -> Resul
     Ok(text)
 }
 
-fn verdict_of(machine: &Machine) -> Verdict {
-    if !machine.quiet() {
+fn verdict_of(pieces: &PieceMachine) -> Verdict {
+    if !pieces.quiet() {
         Verdict::Limit
-    } else if machine.all_ended() {
+    } else if pieces.machine().all_ended() {
         Verdict::Done
     } else {
         Verdict::Stuck

@@ -1,4 +1,4 @@
-use machine::Machine;
+use piece_machine::PieceMachine;
 use test_schedules::{SORTS, Sequence, draw_mover, draw_sleeper};
 
 /// Which thread takes each next step, as it follows from a seed alone.
@@ -23,8 +23,8 @@ impl Schedule {
         }
     }
 
-    /// The thread that takes the next step, if any can move.
-    pub fn next(&mut self, machine: &Machine) -> Option<u32> {
+    /// The thread that takes the next step, if any can take one.
+    pub fn next(&mut self, machine: &PieceMachine) -> Option<u32> {
         if self.left > 0 && machine.can_move(self.thread) {
             self.left -= 1;
             return Some(self.thread);
@@ -35,7 +35,7 @@ impl Schedule {
     }
 
     /// The thread that is woken from outside, if any sleeps.
-    pub fn next_sleeper(&mut self, machine: &Machine) -> Option<u32> {
-        draw_sleeper(machine, &mut self.sequence)
+    pub fn next_sleeper(&mut self, machine: &PieceMachine) -> Option<u32> {
+        draw_sleeper(machine.machine(), &mut self.sequence)
     }
 }

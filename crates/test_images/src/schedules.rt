@@ -2,7 +2,8 @@ use crate::failure::Failure;
 use crate::outcome::outcome_of;
 use crate::schedule::Schedule;
 use isa::Image;
-use machine::{Machine, StepFault};
+use machine::StepFault;
+use piece_machine::PieceMachine;
 use std::alloc::{AllocError, Global};
 use std::io;
 use std::str::SplitWhitespace;
@@ -139,8 +140,8 @@ fn run_schedule(
     image: &Image,
     bounds: Bounds,
     seed: u32,
-) -> Result<Machine, Failure> {
-    let mut machine = Machine::new(alloc, image, BUCKETS)?;
+) -> Result<PieceMachine, Failure> {
+    let mut machine = PieceMachine::new(alloc, image, BUCKETS)?;
     let mut schedule = Schedule::new(seed);
     for before in 0..bounds.limit {
         if bounds.wakes_at(before) && wake(&mut machine, &mut schedule)? {
@@ -156,7 +157,7 @@ fn run_schedule(
 }
 
 // Wakes a thread that sleeps from outside; false where none sleeps.
-fn wake(machine: &mut Machine, schedule: &mut Schedule) -> Result<bool, StepFault> {
+fn wake(machine: &mut PieceMachine, schedule: &mut Schedule) -> Result<bool, StepFault> {
     let Some(thread) = schedule.next_sleeper(machine) else {
         return Ok(false);
     };

@@ -26,7 +26,7 @@ pub fn show<R: Print>(rt: &R, report: &Report) -> io::Result<()> {
 /// Prints how a run ended, how many threads it made, its output, and the threads that sleep or have aborted.
 pub fn show_end<R: Print>(rt: &R, report: &Report) -> io::Result<()> {
     let verdict = report.verdict;
-    let threads = report.last.threads();
+    let threads = report.last.machine().threads();
     println!(rt; "  {verdict:?}, {threads} threads")?;
     show_output(rt, report)
 }
@@ -36,7 +36,7 @@ fn show_output<R: Print>(rt: &R, report: &Report) -> io::Result<()> {
     for number in report.output.as_slice() {
         println!(rt; "  output {number}")?;
     }
-    show_threads(rt, &report.last)
+    show_threads(rt, report.last.machine())
 }
 
 /// Prints the entries of a log but the first `before`.

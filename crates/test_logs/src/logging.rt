@@ -1,23 +1,29 @@
 ghost use Rattle.std.specs.Prelude.{◌≡◌, ◌≤◌, true};
-ghost use Rattle.machine.specs.ConcreteSteps.{can_move};
-ghost use Rattle.machine.specs.Views.{concrete};
+ghost use Rattle.piece_machine.specs.PieceConcrete.{can_take};
+ghost use Rattle.piece_machine.specs.PieceViews.{parts};
 
 use isa::Image;
-use machine::{Entry, Machine, StepFault};
+use machine::{Entry, StepFault};
+use piece_machine::PieceMachine;
 use std::alloc::{AllocError, Global};
 use test_schedules::{SORTS, Sequence, draw_mover, draw_sleeper};
 use words::BUCKETS;
 
-// Takes local steps of a thread, so many at most, and where these are fewer the shared step that comes next.
-fn take_turn(machine: &mut Machine, thread: u32, most: u32) -> Result<Entry, StepFault>
-    requires mover { can_move (concrete machine.old) thread ≡ true }
-    requires room { 1 ≤ machine.old.room }
+// Takes local steps of a thread, so many at most, and where these are fewer the shared step that comes next, unless a
+// held bucket is in its way.
+fn take_turn(machine: &mut PieceMachine, thread: u32, most: u32) -> Result<Entry, StepFault>
+    requires mover { can_take machine.old.view.program (parts machine.old) thread ≡ true }
+    requires room { 1 ≤ machine.old.view.room }
 {
     let local = machine.run_local(thread, most);
     let event = if local == most {
         None
     } else {
-        Some(machine.step(thread)?)
+        match machine.step(thread) {
+            Ok(event) => Some(event),
+            Err(StepFault::CannotMove) => None,
+            Err(fault) => return Err(fault),
+        }
     };
     Ok(Entry {
         thread,
@@ -29,7 +35,7 @@ fn take_turn(machine: &mut Machine, thread: u32, most: u32) -> Result<Entry, Ste
 // The turn of a thread that is drawn among those that can move, of one local step more than the mask has at most; None
 // where none can.
 fn draw_turn(
-    machine: &mut Machine,
+    machine: &mut PieceMachine,
     sequence: &mut Sequence,
     mask: u32,
 ) -> Result<Option<Entry>, AllocError> {
@@ -60,7 +66,7 @@ enum Outside {
 
 impl Outside {
     // The entry that happens from outside behind so many entries; None where none does.
-    fn happen(self, machine: &mut Machine, sequence: &mut Sequence, before: u32) -> Option<Entry> {
+    fn happen(self, machine: &mut PieceMachine, sequence: &mut Sequence, before: u32) -> Option<Entry> {
         match self {
             Outside::Wakes if before % STRAY == STRAY - 1 => wake(machine, sequence),
             Outside::Kill(at) if before == at => kill(machine, at),
@@ -70,8 +76,8 @@ impl Outside {
 }
 
 // Wakes a thread that is drawn among those that sleep from outside; None where none sleeps.
-fn wake(machine: &mut Machine, sequence: &mut Sequence) -> Option<Entry> {
-    let thread = draw_sleeper(machine, sequence)?;
+fn wake(machine: &mut PieceMachine, sequence: &mut Sequence) -> Option<Entry> {
+    let thread = draw_sleeper(machine.machine(), sequence)?;
     let event = machine.stray(thread).ok()?;
     Some(Entry {
         thread,
@@ -81,8 +87,8 @@ fn wake(machine: &mut Machine, sequence: &mut Sequence) -> Option<Entry> {
 }
 
 // Kills a thread, of those that are made each in turn.
-fn kill(machine: &mut Machine, turn: u32) -> Option<Entry> {
-    let thread = turn % machine.threads() + 1;
+fn kill(machine: &mut PieceMachine, turn: u32) -> Option<Entry> {
+    let thread = turn % machine.machine().threads() + 1;
     let event = machine.kill(thread).ok()?;
     Some(Entry {
         thread,
@@ -99,7 +105,7 @@ fn log_with(
     most: u32,
     outside: Outside,
 ) -> Result<Vec<Entry>, AllocError> {
-    let mut machine = Machine::new(alloc, image, BUCKETS)?;
+    let mut machine = PieceMachine::new(alloc, image, BUCKETS)?;
     let mut sequence = Sequence::new(seed);
     let mask = !(u32::MAX << (seed % SORTS));
     let mut log = Vec::new(alloc);

@@ -1,13 +1,14 @@
 ghost use Rattle.std.specs.Prelude.{◌≡◌, MatchOption, true, ⊤};
-ghost use Rattle.machine.specs.ConcreteSteps.{can_move};
-ghost use Rattle.machine.specs.Views.{concrete};
+ghost use Rattle.piece_machine.specs.PieceConcrete.{can_take};
+ghost use Rattle.piece_machine.specs.PieceViews.{parts};
 
 use crate::sequence::Sequence;
 use machine::Machine;
+use piece_machine::PieceMachine;
 
-fn count_movers(machine: &Machine) -> u32 {
+fn count_movers(machine: &PieceMachine) -> u32 {
     let mut movers: u32 = 0;
-    for before in 0..machine.threads() {
+    for before in 0..machine.machine().threads() {
         if machine.can_move(before + 1) {
             movers = movers.saturating_add(1);
         }
@@ -15,12 +16,12 @@ fn count_movers(machine: &Machine) -> u32 {
     movers
 }
 
-// The thread at a place, from 0, among those that can move, by rising number.
-fn mover_at(machine: &Machine, place: u32) -> Option<u32>
-    ensures { MatchOption result ⊤ (λ t. can_move (concrete machine.now) t ≡ true) }
+// The thread at a place, from 0, among those that can take a step, by rising number.
+fn mover_at(machine: &PieceMachine, place: u32) -> Option<u32>
+    ensures { MatchOption result ⊤ (λ t. can_take machine.now.view.program (parts machine.now) t ≡ true) }
 {
     let mut left = place;
-    for before in 0..machine.threads() {
+    for before in 0..machine.machine().threads() {
         let thread = before + 1;
         if machine.can_move(thread) {
             if left == 0 {
@@ -32,9 +33,9 @@ fn mover_at(machine: &Machine, place: u32) -> Option<u32>
     None
 }
 
-/// The thread that is drawn among those that can move; None where none can.
-pub fn draw_mover(machine: &Machine, sequence: &mut Sequence) -> Option<u32>
-    ensures { MatchOption result ⊤ (λ t. can_move (concrete machine.now) t ≡ true) }
+/// The thread that is drawn among those that can take a step; None where none can.
+pub fn draw_mover(machine: &PieceMachine, sequence: &mut Sequence) -> Option<u32>
+    ensures { MatchOption result ⊤ (λ t. can_take machine.now.view.program (parts machine.now) t ≡ true) }
 {
     let movers = count_movers(machine);
     if movers == 0 {
