@@ -115,7 +115,7 @@ sound_at text image schedule number c (inr (before, k, turn.Step t, comes, refus
     let below = comes.few in
     let few : length steps < 2 ^ 32 = omega (arith, count, total, many, below) in
     (refines.follows run_buckets steps (pieces_at k) (omega arith) run few).sound t
-    ((piece_breaks_so (code_of c.program) k t fit).0 refuses.2.2.1)
+    ((piece_breaks_so (code_of c.program) k t fit).0 refuses.2.1)
 
 -- by no schedule compiled code meets a step that may not be
 pub replay_sound : (text : List ℕ) (image : Program) (schedule : List Turn) (number : ℕ) → IsCompiled text image
