@@ -16,7 +16,7 @@ use std::collections::HashMap;
 
 /// How many places are tried for a digest. Values of variables have one digest whether a variable is 0 since it was
 /// assigned or since it wasn't, so that there may be many of one.
-pub(crate) const TRIES: u64 = 4096;
+pub(crate) const TRIES: u64 = 1 << 20;
 
 // What spreads numbers over all digests.
 const SPREAD: u64 = 0x9E37_79B9_7F4A_7C15;
