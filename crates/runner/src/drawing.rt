@@ -14,6 +14,7 @@ ghost use Rattle.runner.specs.Views.{log_state};
 
 use crate::fault::RunFault;
 use crate::naming::RunName;
+use crate::piece::Piece;
 use crate::rounds::make_entry;
 use crate::share::Share;
 use crate::shared::Shared;
@@ -85,7 +86,16 @@ pub fn run_drawn<J: RunName>(
     ensures err { IfErr result (λ fault. CanFail J.program J.outside J.limit fault) }
 {
     let mut refused = [false; MOST_THREADS as usize + 1];
-    while make_next(shared, &mut refused, image, share, generator, outside)? {}
+    let mut piece = Piece::idle(1);
+    while make_next(
+        shared,
+        &mut refused,
+        image,
+        share,
+        generator,
+        outside,
+        &mut piece,
+    )? {}
     Ok(())
 }
 
@@ -98,6 +108,7 @@ fn make_next<J: RunName>(
     share: &mut Share<J>,
     generator: &mut SplitMix64,
     outside: Outside,
+    piece: &mut Piece<J>,
 ) -> Result<bool, RunFault>
     requires image { image.now ≡ J.program }
     requires room { length refused.old ≡ suc most_threads }
@@ -113,7 +124,7 @@ fn make_next<J: RunName>(
 {
     let mut passed = [false; MOST_THREADS as usize + 1];
     while let Some(drawn) = draw_entry(shared, refused, &passed, generator, outside) {
-        if make_drawn(shared, refused, &mut passed, image, share, drawn)? {
+        if make_drawn(shared, refused, &mut passed, image, share, drawn, piece)? {
             return Ok(true);
         }
     }
@@ -129,6 +140,7 @@ fn make_drawn<J: RunName>(
     image: &Image,
     share: &mut Share<J>,
     drawn: Drawn,
+    piece: &mut Piece<J>,
 ) -> Result<bool, RunFault>
     requires image { image.now ≡ J.program }
     requires room { (length refused.old ≡ suc most_threads) × (length passed.old ≡ suc most_threads) }
@@ -146,7 +158,7 @@ fn make_drawn<J: RunName>(
 {
     match drawn {
         Drawn::Mover(t) => {
-            let made = make_entry(shared, refused, image, share, &OpenGate, t)?;
+            let made = make_entry(shared, refused, image, share, &OpenGate, t, piece)?;
             if !made {
                 passed[t as usize] = true;
             }

@@ -9,6 +9,7 @@ ghost use Rattle.runner.specs.Views.{log_state};
 
 use crate::fault::RunFault;
 use crate::naming::RunName;
+use crate::piece::Piece;
 use crate::share::Share;
 use crate::shared::Shared;
 use isa::Image;
@@ -28,7 +29,8 @@ pub fn run_rounds<J: RunName, G: Gate>(
     ensures err { IfErr result (λ fault. CanFail J.program J.outside J.limit fault) }
 {
     let mut refused = [false; MOST_THREADS as usize + 1];
-    while run_round(shared, &mut refused, image, share, gate)? {}
+    let mut piece = Piece::idle(1);
+    while run_round(shared, &mut refused, image, share, gate, &mut piece)? {}
     Ok(())
 }
 
@@ -61,6 +63,7 @@ fn run_round<J: RunName, G: Gate>(
     image: &Image,
     share: &mut Share<J>,
     gate: &G,
+    piece: &mut Piece<J>,
 ) -> Result<bool, RunFault>
     requires image { image.now ≡ J.program }
     requires room { length refused.old ≡ suc most_threads }
@@ -75,14 +78,15 @@ fn run_round<J: RunName, G: Gate>(
     let mut made = false;
     let mut t = 1;
     while t <= shared.machine().threads() {
-        made |= make_entry(shared, refused, image, share, gate, t)?;
+        made |= make_entry(shared, refused, image, share, gate, t, piece)?;
         t += 1;
     }
     Ok(made)
 }
 
 /// Makes the next entry of thread `t`, if it can make one and wasn't refused before. Says whether it did. A thread whose
-/// entry would pass the limit is refused from then on; one that a held bucket is in the way of isn't.
+/// entry would pass the limit is refused from then on; one that a held bucket is in the way of isn't. The piece is any:
+/// where the entry may be refused the thread goes on in it.
 pub(crate) fn make_entry<J: RunName, G: Gate>(
     shared: &mut Shared<J>,
     refused: &mut [bool],
@@ -90,6 +94,7 @@ pub(crate) fn make_entry<J: RunName, G: Gate>(
     share: &mut Share<J>,
     gate: &G,
     t: u32,
+    piece: &mut Piece<J>,
 ) -> Result<bool, RunFault>
     requires image { image.now ≡ J.program }
     requires room { length refused.old ≡ suc most_threads }
@@ -105,21 +110,21 @@ pub(crate) fn make_entry<J: RunName, G: Gate>(
     ensures err { IfErr result (λ fault. CanFail J.program J.outside J.limit fault) }
 {
     if !shared.has_room() {
-        return try_entry(shared, refused, image, share, gate, t);
+        return try_entry(shared, refused, image, share, gate, t, piece);
     }
     if !shared.machine().can_move(t) {
         return Ok(false);
     }
     if !shared.is_free(t) {
-        return try_entry(shared, refused, image, share, gate, t);
+        return try_entry(shared, refused, image, share, gate, t, piece);
     }
     gate.pass(t);
     shared.go_on(t, share)?;
     Ok(true)
 }
 
-// The same near the limit, and where a bucket is held: a piece goes on, away from the machine, since its entry may be
-// refused.
+// The same near the limit, and where a bucket is held: the thread goes on away from the machine, in this piece, since its
+// entry may be refused.
 fn try_entry<J: RunName, G: Gate>(
     shared: &mut Shared<J>,
     refused: &mut [bool],
@@ -127,6 +132,7 @@ fn try_entry<J: RunName, G: Gate>(
     share: &mut Share<J>,
     gate: &G,
     t: u32,
+    piece: &mut Piece<J>,
 ) -> Result<bool, RunFault>
     requires image { image.now ≡ J.program }
     requires room { length refused.old ≡ suc most_threads }
@@ -144,13 +150,13 @@ fn try_entry<J: RunName, G: Gate>(
     if refused[t as usize] {
         return Ok(false);
     }
-    let Some(piece) = shared.piece(t) else {
+    if !shared.begin(t, piece) {
         return Ok(false);
-    };
-    let piece = piece.run(image);
+    }
+    piece.go_on(image);
     gate.pass(t);
-    match shared.step(t, piece, share) {
-        Ok(_) => Ok(true),
+    match shared.enter(t, piece, share) {
+        Ok(()) => Ok(true),
         Err(RunFault::Limit) => {
             refused[t as usize] = true;
             Ok(false)

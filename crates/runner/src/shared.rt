@@ -7,7 +7,7 @@ ghost use Rattle.piece_machine.specs.PieceDetermined.{IsFit};
 ghost use Rattle.piece_machine.specs.PieceViews.{parts};
 ghost use Rattle.runner.specs.Logs.{HasOnly, Runs, cost, kills_in, opening};
 ghost use Rattle.runner.specs.Entries.{Takes, TakesOutside, RefusesEntry, RefusesOutside, IsFine, Stands};
-ghost use Rattle.runner.specs.Entries.{TakesKill, RefusesKill};
+ghost use Rattle.runner.specs.Entries.{TakesKill, RefusesKill, Begins};
 ghost use Rattle.runner.specs.Nexts.{IsNext};
 ghost use Rattle.runner.specs.Afters.{IsAfter};
 ghost use Rattle.runner.specs.Reports.{CanFail, IsHeldUp, MeetsBroken};
@@ -395,6 +395,21 @@ impl<J: RunName> Shared<J> {
         ensures { MatchBool result (cost self.now.log < J.limit) (cost self.now.log ≡ J.limit) }
     {
         self.steps < self.limit
+    }
+
+    /// Lets a piece begin anew where thread `t` is, if it can move, and says whether it can.
+    pub(crate) fn begin(&self, t: u32, piece: &mut Piece<J>) -> bool
+        ensures { MatchBool result
+            ((can_move (log_state self.now).concrete.concrete t ≡ true)
+            × Begins (log_state self.now).concrete t piece.new)
+            (can_move (log_state self.now).concrete.concrete t ≡ false) }
+    {
+        let machine = self.machine.machine();
+        if !machine.can_move(t) {
+            return false;
+        }
+        piece.begin(t, machine.local(t));
+        true
     }
 
     /// Whether no held bucket is in the way of the next entry of thread `t`, as far as is seen without its local steps.

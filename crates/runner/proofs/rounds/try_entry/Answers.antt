@@ -22,18 +22,18 @@ returns-in-Ok-clause-past g c =
     let free : slice_get c.args.refused.now c.args.t ≡ Some false =
     slice_get-get_or c.args.refused.now c.args.t false (omega arith) ∙ ap Some c.if-refused-t.false in
     all_past g.J.RunName.program g.J.RunName.limit (log_state c.args.shared.now)
-    (log_state c.step.new.self) c.args.t c.run-piece.result c.args.refused.now
-    c.requires.kept c.run-piece.ensures.reached c.in-Ok.ensures.ok.0 free c.requires.past
+    (log_state c.enter.new.self) c.args.t c.go_on.new.self c.args.refused.now
+    c.requires.kept c.go_on.ensures.reached c.in-Ok.ensures.ok free c.requires.past
 
 pub returns-in-Err-Limit-clause-past : goal.returns-in-Err-Limit-clause-past
 returns-in-Err-Limit-clause-past g c =
     let p = g.J.RunName.program in
     let limit = g.J.RunName.limit in
     let h = c.in-Err-Limit.ensures.err in
-    let r = c.run-piece.ensures in
+    let r = c.go_on.ensures in
     let refused = subst (λ (f : RunFault). RefusesEntry p limit
-    (log_state c.args.shared.now) c.args.t c.run-piece.result f) c.in-Err-Limit.field-0-is h.2 in
-    let now = passes p limit (log_state c.args.shared.now) c.args.t c.run-piece.result refused r.reached r.within
+    (log_state c.args.shared.now) c.args.t c.go_on.new.self f) c.in-Err-Limit.field-0-is h.2 in
+    let now = passes p limit (log_state c.args.shared.now) c.args.t c.go_on.new.self refused r.reached r.within
     r.whole in
     subst (λ (s : LogState). AllPast p limit s (slice_set c.args.refused.now c.args.t true)) (sym h.0)
     (one_past p limit (log_state c.args.shared.now) c.args.t c.args.refused.now now c.requires.past)
