@@ -66,7 +66,12 @@ enum Outside {
 
 impl Outside {
     // The entry that happens from outside behind so many entries; None where none does.
-    fn happen(self, machine: &mut PieceMachine, sequence: &mut Sequence, before: u32) -> Option<Entry> {
+    fn happen(
+        self,
+        machine: &mut PieceMachine,
+        sequence: &mut Sequence,
+        before: u32,
+    ) -> Option<Entry> {
         match self {
             Outside::Wakes if before % STRAY == STRAY - 1 => wake(machine, sequence),
             Outside::Kill(at) if before == at => kill(machine, at),
