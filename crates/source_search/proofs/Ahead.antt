@@ -211,5 +211,5 @@ module _ (p : Program) (s s' : SourceState) (n : ℕ) (kind : Kind) (is : IsInte
         (internal_named n (offer p s.variable q) s.table kind (sym (ap (internal_from p s) e) ∙ is.0) calm));
   }
 
-  pub internal_ahead : IsAhead p s s'
-  internal_ahead = ahead_one p s n (by n kind) (alone (s.process n) refl) s' is.1
+  pub internal_followable : IsFollowable p s n (by n kind ∷ [])
+  internal_followable = alone (s.process n) refl

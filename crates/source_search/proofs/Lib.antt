@@ -7,4 +7,6 @@ pub mod Endings
 pub mod Packing
 pub mod Keeping
 pub mod Ahead
+pub mod Among
+pub mod Arriving
 pub mod Searched

@@ -4,3 +4,5 @@ pub mod Covered
 pub mod Kept
 pub mod Packed
 pub mod Followed
+pub mod Among
+pub mod Arriving

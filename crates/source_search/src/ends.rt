@@ -33,8 +33,8 @@ fn is_counted(cause: Cause, outside: Outside) -> bool
     }
 }
 
-// Whether a process has aborted of a cause that is looked for.
-fn has_failed_so(process: &Process, outside: Outside) -> bool
+/// Whether a process has aborted of a cause that is looked for.
+pub(crate) fn has_failed_so(process: &Process, outside: Outside) -> bool
     ensures { MatchBool result
         ((cause : CauseIn) × (process_of process.now ≡ Over (Aborted cause)) × IsCounted outside cause)
         ((cause : CauseIn) → process_of process.now ≡ Over (Aborted cause) → IsCounted outside cause → ⊥) }

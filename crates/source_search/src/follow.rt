@@ -1,17 +1,16 @@
-ghost use Rattle.std.specs.Prelude.{◌≡◌, All, IfOk, IfSome, false, map, true};
-ghost use Rattle.program.specs.Trees.{Program as ProgramOf};
+ghost use Rattle.std.specs.Prelude.{◌≡◌, All, IfOk, IfSome, map, true};
 ghost use Rattle.program.specs.Views.{program_of};
-ghost use Rattle.meaning.specs.States.{SourceState as SourceStateOf};
 ghost use Rattle.proof_exploration.specs.Exploring.{IsCalmKind, IsFromOutside};
 ghost use Rattle.source_states.specs.Actions.{action_of, kind_of};
 ghost use Rattle.source_states.specs.States.{state_of};
-ghost use Rattle.source_search.specs.Covered.{IsAhead, IsFollowable};
-ghost use Rattle.source_search.specs.Followed.{IsFollowedTo};
+ghost use Rattle.source_search.specs.Among.{IsFollowedAmong};
+ghost use Rattle.source_search.specs.Covered.{IsFollowable};
 
 use crate::choices::own_actions;
 use program::{Checked, Role, Statement, Target};
-use source_offers::{Frame, Stage, upcoming};
+use source_offers::{Frame, Process, Stage, upcoming};
 use source_states::{Action, ActionKind, SourceState};
+use source_table::Table;
 use sourcemeaning::can_move;
 use std::alloc::{AllocError, Global};
 use words::Fault;
@@ -79,13 +78,10 @@ fn looks_within(frame: &Frame) -> Looks {
 
 // How the next action of a process looks, from where the process stands. Nothing is promised of it: it spares asking
 // what the process may do.
-fn looks_next(state: &SourceState, number: u64) -> Looks {
-    let Some(process) = state.process(number) else {
-        return Looks::Racing;
-    };
+fn looks_by(process: &Process, table: &Table) -> Looks {
     match &process.stage {
         Stage::Entering(_) | Stage::Suspended(_) | Stage::Over(_) => Looks::Racing,
-        Stage::Joining { child, .. } => match state.over(*child) {
+        Stage::Joining { child, .. } => match table.over(*child) {
             None => Looks::Racing,
             Some(_) => Looks::Calm,
         },
@@ -93,6 +89,19 @@ fn looks_next(state: &SourceState, number: u64) -> Looks {
         Stage::Returning(_) | Stage::Failing(_, _) => Looks::Internal,
         Stage::Dying(_, _) | Stage::Leaving(_) => Looks::Calm,
     }
+}
+
+// The same, of a process of a state; as one for which processes race, where there is none.
+fn looks_next(state: &SourceState, number: u64) -> Looks {
+    match state.process(number) {
+        None => Looks::Racing,
+        Some(process) => looks_by(process, state.table()),
+    }
+}
+
+/// Whether the next action of a process looks calm, by the table. Nothing is promised of it.
+pub(crate) fn looks_calm(process: &Process, table: &Table) -> bool {
+    looks_by(process, table) != Looks::Racing
 }
 
 // What a process may do next, where it can move and all of that is calm.
@@ -130,19 +139,6 @@ pub(crate) enum Followed {
     Lost,
 }
 
-/// Whether nothing is known of the state.
-pub(crate) fn is_lost(followed: &Followed) -> bool
-    ensures { result ≡ false → (p : ProgramOf) (s s' : SourceStateOf)
-        → IsFollowedTo p s s' followed.now → IsAhead p s s' }
-{
-    match followed {
-        Followed::Lost => true,
-        Followed::Stopped => false,
-        Followed::Went => false,
-        Followed::Choices(_) => false,
-    }
-}
-
 // Lets a process do what it may, where all of that is calm, and it is one action; and notes the action.
 fn go_calmly<'a>(
     alloc: Global,
@@ -151,7 +147,7 @@ fn go_calmly<'a>(
     process: u64,
     trail: &mut Vec<Action>,
 ) -> Result<Followed, AllocError>
-    ensures { IfOk result (λ f. IsFollowedTo (program_of checked.now.tree) (state_of state.old)
+    ensures { IfOk result (λ f. IsFollowedAmong (program_of checked.now.tree) process (state_of state.old)
         (state_of state.new) f) }
 {
     let Some(mut actions) = calm_actions(alloc, checked, state, process)? else {
@@ -176,7 +172,7 @@ fn go_alone<'a>(
     process: u64,
     trail: &mut Vec<Action>,
 ) -> Result<Followed, AllocError>
-    ensures { IfOk result (λ f. IsFollowedTo (program_of checked.now.tree) (state_of state.old)
+    ensures { IfOk result (λ f. IsFollowedAmong (program_of checked.now.tree) process (state_of state.old)
         (state_of state.new) f) }
 {
     let Some(kind) = state.take_internal(alloc, checked.program(), process)? else {
@@ -197,7 +193,7 @@ fn follow_one<'a>(
     process: u64,
     trail: &mut Vec<Action>,
 ) -> Result<Followed, AllocError>
-    ensures { IfOk result (λ f. IsFollowedTo (program_of checked.now.tree) (state_of state.old)
+    ensures { IfOk result (λ f. IsFollowedAmong (program_of checked.now.tree) process (state_of state.old)
         (state_of state.new) f) }
 {
     match looks_next(state, process) {
@@ -207,46 +203,20 @@ fn follow_one<'a>(
     }
 }
 
-// Follows the next action of the first process of these of which it is calm; of this one, where it is.
-fn follow_some<'a>(
+/// Follows the actions of a process, as long as the next one is calm and there is no choice, and notes them. Answers the
+/// choices, where there are several.
+pub(crate) fn follow_own<'a>(
     alloc: Global,
     checked: &'a Checked,
     state: &mut SourceState<'a>,
-    first: u64,
-    numbers: &[u64],
+    process: u64,
     trail: &mut Vec<Action>,
 ) -> Result<Followed, AllocError>
-    ensures { IfOk result (λ f. IsFollowedTo (program_of checked.now.tree) (state_of state.old)
+    ensures { IfOk result (λ f. IsFollowedAmong (program_of checked.now.tree) process (state_of state.old)
         (state_of state.new) f) }
 {
-    match follow_one(alloc, checked, state, first, trail)? {
-        Followed::Stopped => {}
-        followed => return Ok(followed),
-    }
-    for number in numbers {
-        match follow_one(alloc, checked, state, *number, trail)? {
-            Followed::Stopped => {}
-            followed => return Ok(followed),
-        }
-    }
-    Ok(Followed::Stopped)
-}
-
-/// Follows one process at a time, this one first, as long as one has a calm next action and no choice, and notes the
-/// actions. Answers the choices of one that has a calm next action and several.
-pub(crate) fn follow_calm<'a>(
-    alloc: Global,
-    checked: &'a Checked,
-    state: &mut SourceState<'a>,
-    first: u64,
-    trail: &mut Vec<Action>,
-) -> Result<Followed, AllocError>
-    ensures { IfOk result (λ f. IsFollowedTo (program_of checked.now.tree) (state_of state.old)
-        (state_of state.new) f) }
-{
-    let all = state.numbers(alloc)?;
     for _ in 0..MOST {
-        match follow_some(alloc, checked, state, first, all.as_slice(), trail)? {
+        match follow_one(alloc, checked, state, process, trail)? {
             Followed::Went => {}
             followed => return Ok(followed),
         }

@@ -5,6 +5,7 @@ ghost use Rattle.source_states.specs.States.{state_of};
 ghost use Rattle.source_search.specs.Packed.{HasKey};
 
 use crate::digest::digest_packed;
+use crate::memo::Memo;
 use crate::packed::Packed;
 use crate::parts::{Parts, TRIES, note};
 use program::Checked;
@@ -59,6 +60,8 @@ pub(crate) struct Kept<'a> {
     pub parts: Parts<'a>,
     /// How each was come to.
     pub ways: Vec<Way>,
+    /// What is known of what processes reach.
+    pub memo: Memo,
     // The place of each digest, or of one shortly before it.
     places: HashMap<u64, u32>,
     // How many states may be kept.
@@ -96,6 +99,7 @@ impl<'a> Kept<'a> {
             states: Vec::new(alloc),
             parts: Parts::new(alloc),
             ways: Vec::new(alloc),
+            memo: Memo::new(alloc),
             places: HashMap::new(alloc),
             most,
         }
@@ -123,8 +127,8 @@ impl<'a> Kept<'a> {
         }
     }
 
-    // Keeps a state of these parts, unless it is kept; false, where no more can be kept.
-    fn keep_packed(&mut self, packed: Packed, way: Way) -> Result<bool, AllocError>
+    /// Keeps a state of these parts, unless it is kept; false, where no more can be kept.
+    pub fn keep_packed(&mut self, packed: Packed, way: Way) -> Result<bool, AllocError>
         requires sound { IsSound self.old }
         requires within { IsWithin self.old.parts packed }
         ensures sound { OnOk result (IsSound self.new) }

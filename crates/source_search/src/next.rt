@@ -1,4 +1,4 @@
-ghost use Rattle.std.specs.Prelude.{IfOk, MatchOption};
+ghost use Rattle.std.specs.Prelude.{IfOk, IfSome, IsSome, MatchOption, ℕ};
 ghost use Rattle.program.specs.Views.{program_of};
 ghost use Rattle.meaning.specs.Runs.{IsStep};
 ghost use Rattle.meaning.specs.States.{SourceState as SourceStateOf};
@@ -18,12 +18,14 @@ pub(crate) fn next_state<'a>(
     state: &SourceState<'a>,
     action: &Action,
 ) -> Result<Option<SourceState<'a>>, AllocError>
-    ensures { IfOk result (λ o. MatchOption o
+    ensures next { IfOk result (λ o. MatchOption o
         ((s : SourceStateOf)
         → IsStep (program_of checked.now.tree) (state_of state.now) (action_of action.now) s → ⊥)
         (λ next. (s : SourceStateOf)
         → IsStep (program_of checked.now.tree) (state_of state.now) (action_of action.now) s
         → IsLike (state_of next) s)) }
+    ensures stays { IfOk result (λ o. IfSome o (λ next. (t : ℕ) → IsSome ((state_of state.now).process t)
+        → IsSome ((state_of next).process t))) }
 {
     let mut next = state.copy(alloc)?;
     if !next.advance(alloc, checked.program(), action)? {

@@ -1,6 +1,8 @@
 ghost use Rattle.std.specs.Prelude.{◌≡◌, true};
 ghost use Rattle.source_search.specs.Packed.{IsSameKey};
 
+use std::alloc::AllocError;
+
 /// A kept state: the numbers of the parts of which it is made. `unpacked` makes it a state of the meaning.
 #[derive(Drop)]
 pub(crate) struct Packed {
@@ -24,5 +26,14 @@ impl Packed {
             return false;
         }
         self.processes == other.processes
+    }
+
+    /// The same once more.
+    pub fn copy(&self) -> Result<Packed, AllocError> {
+        Ok(Packed {
+            table: self.table,
+            variables: self.variables,
+            processes: self.processes.clone()?,
+        })
     }
 }

@@ -5,6 +5,9 @@ ghost use Rattle.source_table.specs.Tables.{table_of};
 ghost use Rattle.source_states.specs.States.{state_of};
 
 use crate::digest::{digest_process, digest_table, digest_variables};
+use crate::ends::has_failed_so;
+use crate::follow::looks_calm;
+use crate::outside::Outside;
 use crate::packed::Packed;
 use program::Program;
 use source_offers::{Process, Variables};
@@ -278,7 +281,7 @@ impl<'a> Parts<'a> {
         let Some(processes) = self.pack_processes(alloc, state, numbers)? else {
             return Ok(None);
         };
-        let digest = digest_table(program, state, numbers);
+        let digest = digest_table(program, state, numbers.len() as u64);
         let Some(table) = self.table_number(state.table(), digest)? else {
             return Ok(None);
         };
@@ -332,5 +335,119 @@ impl<'a> Parts<'a> {
             return Ok(None);
         }
         Ok(Some(state))
+    }
+
+    /// The state of a kept one in which there is this process alone; None where there is none.
+    pub fn small(
+        &self,
+        alloc: Global,
+        packed: &Packed,
+        process: u64,
+    ) -> Result<Option<SourceState<'a>>, AllocError>
+    {
+        if process == 0 {
+            return Ok(None);
+        }
+        let Some(part) = packed.processes.get((process - 1) as usize) else {
+            return Ok(None);
+        };
+        let Some(part) = self.processes.get(*part as usize) else {
+            return Ok(None);
+        };
+        let Some(table) = self.tables.get(packed.table as usize) else {
+            return Ok(None);
+        };
+        let Some(variables) = self.variables.get(packed.variables as usize) else {
+            return Ok(None);
+        };
+        let mut state = SourceState::unpeopled(alloc, table.copy()?, variables.copy()?);
+        state.place(process, part.copy(alloc)?)?;
+        Ok(Some(state))
+    }
+
+    // The numbers of the processes of a kept state, and of those of a state in place of them; None where there are too
+    // many, or one has a number far past the last.
+    fn merge_processes(
+        &mut self,
+        alloc: Global,
+        processes: Vec<u32>,
+        state: &SourceState<'a>,
+        numbers: &[u64],
+    ) -> Result<Option<Vec<u32>>, AllocError> {
+        let mut parts = processes;
+        for number in numbers {
+            let number = *number;
+            if number == 0 {
+                return Ok(None);
+            }
+            let Some(process) = state.process(number) else {
+                return Ok(None);
+            };
+            let Some(part) = self.process_number(alloc, process)? else {
+                return Ok(None);
+            };
+            let place = (number - 1) as usize;
+            if place < parts.len() {
+                parts[place] = part;
+            } else if place == parts.len() {
+                parts.push(part)?;
+            } else {
+                return Ok(None);
+            }
+        }
+        Ok(Some(parts))
+    }
+
+    /// A kept state, with a state's table, variables and processes in place of its own; None where there are too many
+    /// parts.
+    pub fn merge(
+        &mut self,
+        alloc: Global,
+        program: &Program,
+        packed: &Packed,
+        state: &SourceState<'a>,
+    ) -> Result<Option<Packed>, AllocError> {
+        let all = state.numbers(alloc)?;
+        let numbers = all.as_slice();
+        let old = packed.processes.clone()?;
+        let Some(processes) = self.merge_processes(alloc, old, state, numbers)? else {
+            return Ok(None);
+        };
+        let digest = digest_table(program, state, processes.len() as u64);
+        let Some(table) = self.table_number(state.table(), digest)? else {
+            return Ok(None);
+        };
+        let Some(variables) = self.variables_number(state.variables(), packed.variables)? else {
+            return Ok(None);
+        };
+        Ok(Some(Packed {
+            table,
+            variables,
+            processes,
+        }))
+    }
+
+    /// The first process of a kept state whose next action looks calm.
+    pub fn calm_in(&self, packed: &Packed) -> Option<u64> {
+        let table = self.tables.get(packed.table as usize)?;
+        for k in 0..packed.processes.len() {
+            let part = self.processes.get(packed.processes[k] as usize)?;
+            if looks_calm(part, table) {
+                return Some(k as u64 + 1);
+            }
+        }
+        None
+    }
+
+    /// Whether a process of a kept state has aborted of a cause that is looked for.
+    pub fn has_failed(&self, packed: &Packed, outside: Outside) -> bool {
+        for part in packed.processes.as_slice() {
+            if let Some(process) = self.processes.get(*part as usize) {
+                if has_failed_so(process, outside) {
+                    return true;
+                }
+            }
+        }
+        false
     }
 }

@@ -1,5 +1,5 @@
 use crate::choices::choices;
-use crate::follow::{Followed, follow_calm};
+use crate::follow::{Followed, follow_own, looks_calm};
 use crate::kept::Way;
 use crate::outside::Outside;
 use program::Checked;
@@ -53,9 +53,10 @@ fn follow_on<'a>(
     way: Way,
     actions: &mut Vec<Action>,
 ) -> Result<(), AllocError> {
-    let followed = follow_calm(alloc, checked, state, u64::from(way.process), actions)?;
+    let process = u64::from(way.process);
+    let followed = follow_own(alloc, checked, state, process, actions)?;
     let Followed::Choices(choices) = followed else {
-        return Ok(());
+        return follow_others(alloc, checked, state, actions);
     };
     let Some(action) = choices.into_iter().nth(way.later as usize) else {
         return Ok(());
@@ -64,8 +65,41 @@ fn follow_on<'a>(
         return Ok(());
     }
     actions.push(action)?;
-    let _followed = follow_calm(alloc, checked, state, u64::from(way.process), actions)?;
+    let _followed = follow_own(alloc, checked, state, process, actions)?;
+    follow_others(alloc, checked, state, actions)
+}
+
+// Follows calm actions of one process at a time.
+fn follow_others<'a>(
+    alloc: Global,
+    checked: &'a Checked,
+    state: &mut SourceState<'a>,
+    actions: &mut Vec<Action>,
+) -> Result<(), AllocError> {
+    for _ in 0..1000 {
+        let all = state.numbers(alloc)?;
+        let Some(process) = first_calm(state, all.as_slice()) else {
+            return Ok(());
+        };
+        let before = actions.len();
+        let _followed = follow_own(alloc, checked, state, process, actions)?;
+        if actions.len() == before {
+            return Ok(());
+        }
+    }
     Ok(())
+}
+
+// The first of these whose next action looks calm.
+fn first_calm(state: &SourceState, numbers: &[u64]) -> Option<u64> {
+    for number in numbers {
+        if let Some(process) = state.process(*number) {
+            if looks_calm(process, state.table()) {
+                return Some(*number);
+            }
+        }
+    }
+    None
 }
 
 /// The actions that lead to the kept state at a place, by the ways that lead to each.

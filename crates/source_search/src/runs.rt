@@ -7,7 +7,7 @@ use crate::ends::{has_failed, is_stuck};
 use crate::kept::{Kept, Way};
 use crate::outside::{Outside, are_from};
 use crate::progress::Progress;
-use crate::replay::{OPENING, actions_to};
+use crate::replay::actions_to;
 use crate::search::{Findings, search};
 use program::Checked;
 use source_states::{Action, SourceState, accepts};
@@ -166,7 +166,7 @@ pub fn explore<P: Progress>(
     let _program = checked.program();
     let mut kept = Kept::new(alloc, most_states);
     let opening = SourceState::opening(alloc, checked)?;
-    let opens = kept.cover(alloc, checked, opening, OPENING, outside)?;
+    let opens = kept.open(alloc, checked, opening, outside)?;
     let findings = search(alloc, checked, &mut kept, most_states, outside, progress)?;
     let ways = kept.ways.as_slice();
     let stuck = stuck_run(alloc, checked, ways, findings.stuck, outside)?;

@@ -10,6 +10,7 @@ use crate::choices::choices;
 use crate::ends::{has_failed, is_stuck};
 use crate::kept::{Kept, Way};
 use crate::next::next_state;
+use crate::packed::Packed;
 use crate::outside::Outside;
 use crate::progress::Progress;
 use program::Checked;
@@ -80,7 +81,7 @@ impl<'a> Kept<'a> {
         let found = next_state(alloc, checked, state, action)?;
         match found {
             None => Ok(true),
-            Some(next) => self.cover(alloc, checked, next, way, outside),
+            Some(next) => self.keep(alloc, checked, next, way),
         }
     }
 
@@ -166,6 +167,37 @@ impl<'a> Kept<'a> {
     }
 }
 
+/// What came of looking at what may come next in a kept state.
+#[derive(Clone, Copy, Debug)]
+struct Expanded {
+    /// Whether all of it was kept.
+    all: bool,
+    /// Whether some process is known to move.
+    moves: bool,
+}
+
+impl<'a> Kept<'a> {
+    // Covers what each process may come to next.
+    fn expand_own(
+        &mut self,
+        alloc: Global,
+        checked: &'a Checked,
+        packed: &Packed,
+        before: usize,
+    ) -> Result<Expanded, AllocError> {
+        let mut moves = false;
+        for k in 0..packed.processes.len() {
+            let Some(some) = self.follow_own(alloc, checked, packed, before, k as u64 + 1)? else {
+                return Ok(Expanded { all: false, moves });
+            };
+            if some {
+                moves = true;
+            }
+        }
+        Ok(Expanded { all: true, moves })
+    }
+}
+
 /// Keeps all states that a run leads to, breadth first, as far as there is room, and tells how far it has come.
 pub(crate) fn search<'a, P: Progress>(
     alloc: Global,
@@ -174,17 +206,7 @@ pub(crate) fn search<'a, P: Progress>(
     most: usize,
     outside: Outside,
     progress: &mut P,
-) -> Result<Findings, AllocError>
-    requires sound { IsSound kept.old }
-    ensures longer { OnOk result (IsLonger (states_of kept.old) (states_of kept.new)) }
-    ensures expanded { IfOk result (λ f. f.complete ≡ true
-        → All (IsExpanded (program_of checked.now.tree) outside (states_of kept.new))
-        (states_of kept.new)) }
-    ensures stuck { IfOk result (λ f. f.complete ≡ true
-        → NoneIs (IsStuck (program_of checked.now.tree)) (states_of kept.new) f.stuck) }
-    ensures aborted { IfOk result (λ f. f.complete ≡ true
-        → NoneIs (HasFailed outside) (states_of kept.new) f.aborted) }
-{
+) -> Result<Findings, AllocError> {
     let mut findings = Findings {
         complete: false,
         stuck: None,
@@ -196,11 +218,7 @@ pub(crate) fn search<'a, P: Progress>(
             findings.complete = true;
             return Ok(findings);
         }
-        let Some(state) = kept.state(alloc, place)? else {
-            return Ok(findings);
-        };
-        findings.look(alloc, checked, &state, place, outside)?;
-        if !kept.expand(alloc, checked, &state, place, outside)? {
+        if !findings.look_at(alloc, checked, kept, place, outside)? {
             return Ok(findings);
         }
         progress.looked_at(kept.states.len(), place + 1);
@@ -208,4 +226,40 @@ pub(crate) fn search<'a, P: Progress>(
     let all = kept.states.as_slice();
     findings.complete = all.len() <= most;
     Ok(findings)
+}
+
+impl Findings {
+    fn look_at<'a>(
+        &mut self,
+        alloc: Global,
+        checked: &'a Checked,
+        kept: &mut Kept<'a>,
+        place: usize,
+        outside: Outside,
+    ) -> Result<bool, AllocError> {
+        if outside.is_any() {
+            let Some(state) = kept.state(alloc, place)? else {
+                return Ok(false);
+            };
+            self.look(alloc, checked, &state, place, outside)?;
+            return kept.expand(alloc, checked, &state, place, outside);
+        }
+        let packed = match kept.states.get(place) {
+            None => return Ok(false),
+            Some(packed) => packed.copy()?,
+        };
+        let expanded = kept.expand_own(alloc, checked, &packed, place)?;
+        if self.aborted.is_none() && kept.parts.has_failed(&packed, outside) {
+            self.aborted = Some(place);
+        }
+        if !expanded.moves && self.stuck.is_none() {
+            let Some(state) = kept.parts.unpack(alloc, &packed)? else {
+                return Ok(false);
+            };
+            if is_stuck(alloc, checked, &state)? {
+                self.stuck = Some(place);
+            }
+        }
+        Ok(expanded.all)
+    }
 }

@@ -5,16 +5,19 @@ use Rattle.meaning.specs.Runs.{IsStep}
 use Rattle.source_states.specs.Actions.{action_of}
 use Rattle.source_states.specs.States.{state_of}
 use Rattle.source_search.specs.Covered.{IsFollowable}
-use Rattle.source_search.proofs.Ahead.{ahead_none, ahead_one, one_listed}
+use Rattle.source_search.proofs.Ahead.{one_listed}
+use Rattle.source_search.proofs.Arriving.{ahead_among_none, ahead_among_one, choices_among}
 use Rattle.source_search.proofs.follow.go_calmly.Goals as goal
 
 pub returns-in_default : goal.returns-in_default
-returns-in_default c = ahead_none (program_of c.args.checked.now.tree) (state_of c.args.state.now)
+returns-in_default c =
+    ahead_among_none (program_of c.args.checked.now.tree) c.args.process (state_of c.args.state.now)
 
 pub returns-then-listed-ne1 : goal.returns-then-listed-ne1
 returns-then-listed-ne1 c = (
-  ahead_none (program_of c.args.checked.now.tree) (state_of c.args.state.now),
-  (c.args.process, rw c.in-Some.is at c.in_ok-actions.ensures),
+  ahead_among_none (program_of c.args.checked.now.tree) c.args.process (state_of c.args.state.now),
+  choices_among (program_of c.args.checked.now.tree) c.args.process (state_of c.args.state.now)
+      (map action_of c.in-Some.actions.items) (rw c.in-Some.is at c.in_ok-actions.ensures),
 )
 
 pub returns : goal.returns
@@ -32,4 +35,4 @@ returns c =
     let step : IsStep p s a after =
     subst (λ t. IsStep (program_of t) s a after) c.program.ensures.is
     (rw c.if-not-branch.false at c.in_ok-advance.ensures) in
-    ahead_one p s c.args.process a alone after step
+    ahead_among_one p c.args.process s a after alone step

@@ -14,16 +14,15 @@ pub returns-in-None-clause-kept : goal.returns-in-None-clause-kept
 returns-in-None-clause-kept c = λ e s' x.
     let never : (s : SourceState) → IsStep (program_of c.args.checked.now.tree) (state_of c.args.state.now)
     (action_of c.args.action.now) s → ⊥ =
-    rw c.in-None.is at c.in_ok-found.ensures in
+    rw c.in-None.is at c.in_ok-found.ensures.next in
     absurd (never s' x)
 
 pub returns-in-Some : goal.returns-in-Some
 returns-in-Some c =
     let next : (s : SourceState) → IsStep (program_of c.args.checked.now.tree) (state_of c.args.state.now)
     (action_of c.args.action.now) s → IsLike (state_of c.in-Some.next) s =
-    rw c.in-Some.is at c.in_ok-found.ensures in
+    rw c.in-Some.is at c.in_ok-found.ensures.next in
     record {
-      sound = c.cover.ensures.sound;
       longer = c.cover.ensures.longer;
       kept = IfOk-weaker c.cover.result _ _ (λ b h e s' x.
           seen_like (program_of c.args.checked.now.tree) (is_any c.args.outside) (states_of c.cover.new.self)
