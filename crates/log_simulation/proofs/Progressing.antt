@@ -17,11 +17,10 @@ use Rattle.machine.specs.declared.event.EventName.TheVariants as name
 use Rattle.machine.specs.ConcretePieces.{is_piece}
 use Rattle.machine.specs.ConcreteServing.{plain}
 use Rattle.machine.specs.FrontRuns.{EventStep, doing_of}
-use Rattle.machine.specs.PieceSteps.{IsPieceStep}
-use Rattle.machine.specs.Runs.{Doing, Strayed, Killed, IsKillStep}
+use Rattle.machine.specs.Runs.{Doing, Killed, IsKillStep}
 use Rattle.machine.specs.States.{State, thread_of, state_of}
 use Rattle.machine.proofs.Placing.{thread_at-put}
-use Rattle.piece_machine.specs.PieceConcrete.{PieceConcrete, kill_piece, pieces_at, piece_of, stray_piece, with_local}
+use Rattle.piece_machine.specs.PieceConcrete.{PieceConcrete, kill_piece, piece_of, stray_piece, with_local}
 use Rattle.piece_machine.specs.PieceFronts.{OutsidePiece}
 use Rattle.runner.specs.LogRuns.{local_step_of, shared_step_of}
 use Rattle.runner.specs.Logs.{EntersOwn, EntersOutside, Ends, opening}

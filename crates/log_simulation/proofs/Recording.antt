@@ -2,7 +2,7 @@
 use Rattle.std.proofs.Common.{◌≡◌, ◌+◌, ◌<◌, ◌≤◌, ℕ, zero, suc, Bool, true, false, List, [], length, Option, Some, None}
 use Rattle.std.proofs.Common.{refl, ap, sym, ◌∙◌, arith, subst}
 use Rattle.std.specs.Prelude.{◌^◌, ◌++◌, ◌||◌, MatchBool, map}
-use Rattle.std.proofs.lemmas.List.{append-nil, append_assoc, length-map}
+use Rattle.std.proofs.lemmas.List.{append-nil, append_assoc}
 use Rattle.words.specs.Updates.{put}
 use Rattle.words.specs.declared.version.ImageVersion.{ImageVersion}
 use Rattle.locals.specs.Threads.{Thread}
@@ -19,7 +19,7 @@ use Rattle.proof_commutation.specs.Placed.{actions_of, actions_up_to}
 use Rattle.proof_thread.specs.Deferrals.{deferred_by_mark, deferred_by_step, mark_of}
 use Rattle.machine.specs.FrontRuns.{EventStep}
 use Rattle.machine.specs.States.{State}
-use Rattle.piece_machine.specs.PieceConcrete.{PieceConcrete, pieces_at}
+use Rattle.piece_machine.specs.PieceConcrete.{PieceConcrete}
 use Rattle.words.specs.Limits.{run_buckets}
 use Rattle.meaning.specs.Labels.{Kind, Action}
 use Rattle.meaning.specs.States.{SourceState}

@@ -1,5 +1,5 @@
 -- The source behind a log of the machine, entry by entry.
-use Rattle.std.specs.Prelude.{ℕ, zero, suc, ◌≡◌, ◌++◌, Bool, List, replicate, Option, Some, None}
+use Rattle.std.specs.Prelude.{ℕ, zero, suc, ◌++◌, Bool, List, replicate, Option, Some, None}
 use Rattle.words.specs.Limits.{run_buckets}
 use Rattle.words.specs.Updates.{put}
 use Rattle.locals.specs.Threads.{Thread}

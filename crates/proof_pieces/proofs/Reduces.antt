@@ -26,7 +26,7 @@ use Rattle.machine.specs.PieceSteps.{IsAct}
 use Rattle.proof_pieces.specs.Whole.{either, behind, resumed, whole_at, whole}
 use Rattle.proof_pieces.specs.Silence.{MovesAnswered, IsHushed, IsHeard, is_wait, is_silent, piece_answer}
 use Rattle.proof_pieces.specs.WholeCalls.{ServesWhole}
-use Rattle.proof_pieces.specs.Traces.{pieces_before, pieces_of, KeepsTime, TakesPiece, taken_at, taken}
+use Rattle.proof_pieces.specs.Traces.{pieces_before, pieces_of, TakesPiece, taken_at, taken}
 use Rattle.proof_pieces.proofs.Calls.{called_is}
 use Rattle.proof_pieces.proofs.Reading.{seen, seen_first, unput}
 use Rattle.proof_pieces.proofs.Sleepers.{joined, wakes_both, requeued_both}
