@@ -6,7 +6,7 @@ use Rattle.machine.specs.declared.event.StepFault.{StepFault}
 use Rattle.machine.specs.Views.{parts_of, printed_by}
 use Rattle.machine.proofs.Whole.{kept_after}
 use Rattle.machine.proofs.Printed.{printed_so, at_most_one}
-use Rattle.machine.proofs.machine.Machine.step.Goals as goal
+use Rattle.machine.proofs.machine.Machine.step_as.Goals as goal
 
 on_err : (r : Result Event StepFault) (A B C : Type 0) → (A → B → C) → OnErr r (A × B) → OnErr r C
 on_err (Ok e) A B C f h = tt
