@@ -9,22 +9,27 @@ use Rattle.machine.proofs.Whole.{stands_at, made_at, stepped, told_there}
 use Rattle.machine.proofs.Steps.{breaks_when, rests_when, forks_when}
 use Rattle.machine.proofs.parts.step_parts.Goals as goal
 
-pub take_local-requires-clause-asks : goal.take_local-requires-clause-asks
-take_local-requires-clause-asks c =
+pub take_local-requires : goal.take_local-requires
+take_local-requires c =
+    let within : c.args.t ≤ length c.args.threads.now.items = search rules in
     let x = c.index_mut.result.now in
-    told_there c.args.image.now c.args.threads.now.items c.args.t c.args.next x x c.requires.thread
-    c.index_mut.ensures.value c.requires.next ∙ c.in-Local.is
+    record {
+      asks = told_there c.args.image.now c.args.threads.now.items c.args.t c.args.next x x (c.requires.thread.0, within)
+          c.index_mut.ensures.value c.requires.next ∙ c.in-Local.is;
+    }
 
 pub take_request-requires-clause-asks : goal.take_request-requires-clause-asks
 take_request-requires-clause-asks c =
+    let within : c.args.t ≤ length c.args.threads.now.items = search rules in
     let x = c.index_mut-in-Shared.result.now in
-    told_there c.args.image.now c.args.threads.now.items c.args.t c.args.next x x c.requires.thread
+    told_there c.args.image.now c.args.threads.now.items c.args.t c.args.next x x (c.requires.thread.0, within)
     c.index_mut-in-Shared.ensures.value c.requires.next ∙ c.in-Shared.is
 
 pub take_exit-requires-clause-asks : goal.take_exit-requires-clause-asks
 take_exit-requires-clause-asks c =
+    let within : c.args.t ≤ length c.args.threads.now.items = search rules in
     let x = c.index_mut-in-Exit.result.now in
-    told_there c.args.image.now c.args.threads.now.items c.args.t c.args.next x x c.requires.thread
+    told_there c.args.image.now c.args.threads.now.items c.args.t c.args.next x x (c.requires.thread.0, within)
     c.index_mut-in-Exit.ensures.value c.requires.next ∙ c.in-Exit.is
 
 pub fork_parts-requires-clause-asks : goal.fork_parts-requires-clause-asks
@@ -84,7 +89,8 @@ returns-in-Exit-clause-done c =
 pub returns-in-Broken-clause-err : goal.returns-in-Broken-clause-err
 returns-in-Broken-clause-err c =
     let k = parts_of c.args.shared.now c.args.threads.now.items in
-    let m = made_at k.threads c.args.t c.requires.thread in
+    let within : c.args.t ≤ length c.args.threads.now.items = search rules in
+    let m = made_at k.threads c.args.t (c.requires.thread.0, within) in
     stepped c.args.image.now k c.args.t (length k.threads) m.0 _ m.1 c.requires.awake refl
     (breaks_when (length k.threads) c.args.t k.common (look c.args.image.now c.args.t m.0)
     (sym (c.requires.next m.0 m.1) ∙ c.in-Broken.is))
@@ -92,7 +98,8 @@ returns-in-Broken-clause-err c =
 pub returns-in-Ended-clause-err : goal.returns-in-Ended-clause-err
 returns-in-Ended-clause-err c =
     let k = parts_of c.args.shared.now c.args.threads.now.items in
-    let m = made_at k.threads c.args.t c.requires.thread in
+    let within : c.args.t ≤ length c.args.threads.now.items = search rules in
+    let m = made_at k.threads c.args.t (c.requires.thread.0, within) in
     stepped c.args.image.now k c.args.t (length k.threads) m.0 _ m.1 c.requires.awake refl
     (rests_when (length k.threads) c.args.t k.common (look c.args.image.now c.args.t m.0)
     (sym (c.requires.next m.0 m.1) ∙ c.in-Ended.is))
