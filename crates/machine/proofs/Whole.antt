@@ -1,15 +1,18 @@
 -- A step on the parts of a machine is a step of the machine.
 use Rattle.std.proofs.Common.{◌≡◌, ℕ, zero, suc, ◌-◌, ◌<◌, ◌≤◌, List, [], ◌∷◌}
 use Rattle.std.proofs.Common.{length, get_or, Some, None, Result, Ok, Err, slice_get, slice_set, replicate}
-use Rattle.std.proofs.Common.{sym, ap, ◌∙◌, arith}
+use Rattle.std.proofs.Common.{refl, sym, ap, ◌∙◌, arith}
 use Rattle.std.specs.Prelude.{IfOk, OnErr}
 use Rattle.std.proofs.Math.Path.{fun_ext}
 use Rattle.words.specs.declared.version.ImageVersion.TheVariants.{One}
 use Rattle.words.specs.Versions.{most_of}
 use Rattle.isa.specs.Programs.{Program, memory_size}
 use Rattle.buckets.specs.Sleepers.{Sleepers, queue, place_of}
-use Rattle.locals.specs.Threads.{Thread, opening_thread}
+use Rattle.robustexit.specs.declared.phase.ExitPhase.TheVariants.{Ended}
+use Rattle.locals.specs.Threads.{Thread, Exits, opening_thread}
 use Rattle.locals.specs.Looks.{look}
+use Rattle.locals.specs.Requests.{next_step_of}
+use Rattle.locals.specs.declared.request.NextStep.{NextStep}
 use Rattle.machine.specs.declared.event.Event.{Event}
 use Rattle.machine.specs.declared.event.StepFault.{StepFault}
 use Rattle.machine.specs.States.{ConcreteState, thread_at, thread_of, opening_concrete}
@@ -28,6 +31,16 @@ pub stands_at : (ts : List Thread) (t : ℕ) (x d : Thread) → 0 < t → t ≤ 
 stands_at ts zero x d some few h = absurd (omega arith)
 stands_at ts (suc t) x d some few h =
     got ts t x d (omega arith) (h ∙ ap (λ i. get_or ts i d) (let e : suc t - 1 ≡ t = omega arith in e))
+
+-- a thread of a number in range was made
+pub made_at : (ts : List Thread) (t : ℕ) → (0 < t) × (t ≤ length ts) → (x : Thread) × (thread_at ts t ≡ Some x)
+made_at ts t there = (_, stands_at ts t _ (Exits Ended) there.0 there.1 refl)
+
+-- the next step of the thread that stands there, as it was told
+pub told_there : (p : Program) (ts : List Thread) (t : ℕ) (n : NextStep) (x d : Thread) → (0 < t) × (t ≤ length ts)
+    → x ≡ get_or ts (t - 1) d → ((y : Thread) → thread_at ts t ≡ Some y → n ≡ next_step_of (look p t y))
+    → next_step_of (look p t x) ≡ n
+told_there p ts t n x d there at told = sym (told x (stands_at ts t x d there.0 there.1 at))
 
 pub stepped : (p : Program) (k : ConcreteState) (t made : ℕ) (x : Thread) (r : Result Stepped StepFault)
     → thread_of k t ≡ Some x → k.common.asleep t ≡ None → made ≡ length k.threads

@@ -222,11 +222,12 @@ impl Machine {
         self.common.output()
     }
 
-    /// What a step of thread `t` would be refused for, if it stood at `here` and were awake.
-    pub fn refusal_at(&self, t: u32, here: &Local) -> Option<StepFault>
-        ensures { result ≡ fault_at self.now.program (concrete self.now) t here.now }
+    /// What a step of thread `t` would be refused for, if it stood where its next step is `next` and were awake.
+    pub fn refusal_as(&self, t: u32, next: NextStep) -> Option<StepFault>
+        ensures { (x : Thread) → next ≡ next_step_of (look self.now.program t x)
+            → result ≡ fault_at self.now.program (concrete self.now) t x }
     {
-        self.common.refusal(&self.image, self.threads(), t, here)
+        self.common.refusal(self.threads(), t, next)
     }
 
     /// Whether the next step of thread `t` would be a local one, if it stood at `here`.
@@ -279,12 +280,33 @@ impl Machine {
         if t == 0 || t as usize > self.threads.len() || self.asleep(t).is_some() {
             return Err(StepFault::CannotMove);
         }
+        let next = self.next_step(t);
+        self.step_as(t, next)
+    }
+
+    /// The step of thread `t`, which was made and is awake, whose next step is `next`. It is `step` for a caller that
+    /// has asked for the next step already.
+    pub fn step_as(&mut self, t: u32, next: NextStep) -> Result<Event, StepFault>
+        requires room { 1 ≤ self.old.room }
+        requires thread { (0 < t) × (t ≤ length self.old.threads) }
+        requires awake { (state_of (concrete self.old)).asleep t ≡ None }
+        requires next { (x : Thread) → thread_of (concrete self.old) t ≡ Some x
+            → next ≡ next_step_of (look self.old.program t x) }
+        ensures done { IfOk result (λ e. step_of self.old.program (concrete self.old) t
+            ≡ Ok (concrete self.new, e)) }
+        ensures room { IfOk result (λ e. self.old.room ≡ self.new.room + printed_by e) }
+        ensures err { IfErr result (λ f. (step_of self.old.program (concrete self.old) t ≡ Err f)
+            × (self.new ≡ self.old)) }
+        ensures program { self.new.program ≡ self.old.program }
+        ensures holders { self.new.sleepers.holders ≡ self.old.sleepers.holders }
+        ensures holds { IsWellFormed self.new.program (concrete self.new) }
+    {
         let Machine {
             image,
             common,
             threads,
         } = self;
-        step_parts(image, common, threads, t)
+        step_parts(image, common, threads, t, next)
     }
 
     /// What the next step of thread `t` is.

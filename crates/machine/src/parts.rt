@@ -5,6 +5,7 @@ ghost use Rattle.words.specs.Limits.{most_threads};
 ghost use Rattle.isa.specs.Programs.{memory_size};
 ghost use Rattle.locals.specs.Threads.{Thread, opening_thread};
 ghost use Rattle.locals.specs.Looks.{look};
+ghost use Rattle.locals.specs.Requests.{next_step_of};
 ghost use Rattle.buckets.specs.Sleepers.{place_of};
 ghost use Rattle.machine.specs.States.{thread_at};
 ghost use Rattle.machine.specs.ConcreteSteps.{step_of};
@@ -68,17 +69,20 @@ pub fn variable(image: &Image, monitor: u32, index: u32) -> Addr
     Addr(image.version().monitors_base() + 2 * monitor + members + 2 + index)
 }
 
-/// One step of thread `t`, which was made and is awake, on the parts of a machine.
+/// The step of thread `t`, which was made and is awake, whose next step is `next`, on the parts of a machine.
 pub fn step_parts(
     image: &Image,
     shared: &mut Common,
     threads: &mut Vec<Local>,
     t: u32,
+    next: NextStep,
 ) -> Result<Event, StepFault>
     requires room { length shared.old.output < shared.old.capacity }
     requires thread { (0 < t) × (t ≤ vec_len threads.old) }
     requires few { vec_len threads.old ≤ most_threads }
     requires awake { place_of shared.old.sleepers t ≡ None }
+    requires next { (x : Thread) → thread_at threads.old.items t ≡ Some x
+        → next ≡ next_step_of (look image.now t x) }
     requires space { most_threads ≤ vec_capacity threads.old }
     ensures done { IfOk result
         (λ e. step_of image.now (parts_of shared.old threads.old.items) t
@@ -91,7 +95,7 @@ pub fn step_parts(
     ensures holders { shared.new.sleepers.holders ≡ shared.old.sleepers.holders }
     ensures space { vec_capacity threads.new ≡ vec_capacity threads.old }
 {
-    match threads[t as usize - 1].next_step(image, t) {
+    match next {
         NextStep::Local => Ok(take_local(image, t, &mut threads[t as usize - 1])),
         NextStep::Shared(request) => {
             take_request(image, shared, t, &mut threads[t as usize - 1], request)

@@ -1,5 +1,6 @@
 ghost use Rattle.std.specs.Prelude.{◌≡◌, ℕ, Some, None, if◌then◌else◌, nat_lt, length};
-ghost use Rattle.locals.specs.Looks.{look};
+ghost use Rattle.locals.specs.Looks.{Look};
+ghost use Rattle.locals.specs.Requests.{next_step_of};
 ghost use Rattle.machine.specs.ConcreteServing.{serve};
 ghost use Rattle.machine.specs.ConcreteSteps.{thread_step, fault_of};
 ghost use Rattle.machine.specs.RequestMeanings.{asked_of};
@@ -7,8 +8,7 @@ ghost use Rattle.machine.specs.Views.{common};
 
 use crate::common::Common;
 use crate::event::StepFault;
-use isa::Image;
-use locals::{Local, NextStep, Request};
+use locals::{NextStep, Request};
 use words::{Addr, MOST_THREADS};
 
 impl Common {
@@ -53,13 +53,13 @@ impl Common {
         }
     }
 
-    /// What the next step of this state of thread `t`, where it is awake and so many threads were made, would be
-    /// refused for.
-    pub fn refusal(&self, image: &Image, made: u32, t: u32, local: &Local) -> Option<StepFault>
-        ensures { result ≡ fault_of
-            (thread_step made t (common self.now) (look image.now t local.now)) }
+    /// What the next step of thread `t`, where it is `next`, the thread is awake and so many threads were made, would
+    /// be refused for.
+    pub fn refusal(&self, made: u32, t: u32, next: NextStep) -> Option<StepFault>
+        ensures { (l : Look) → next ≡ next_step_of l
+            → result ≡ fault_of (thread_step made t (common self.now) l) }
     {
-        match local.next_step(image, t) {
+        match next {
             NextStep::Local | NextStep::Exit(_) => None,
             NextStep::Shared(request) => {
                 if self.can_serve(request) {

@@ -1,5 +1,5 @@
 -- Each step is one of the whole machine or a piece of a call.
-use Rattle.std.proofs.Common.{◌≡◌, ℕ, ◌+◌, ◌-◌, List, [], length, Option, Some, None, Result, Ok, Err, slice_set, inl, inr}
+use Rattle.std.proofs.Common.{◌≡◌, ℕ, length, Option, Some, None, Result, Ok, Err, inl, inr}
 use Rattle.std.proofs.Common.{refl, sym, ap, ◌∙◌, subst}
 use Rattle.std.proofs.lemmas.Bool.{both_ways, cases_Bool, cases_eq, eq-eqb, ne_eqb, cond-true, cond-false}
 use Rattle.words.specs.Updates.{put}
@@ -21,7 +21,7 @@ use Rattle.machine.specs.PieceStates.{call_of, call_at}
 use Rattle.machine.specs.PieceSteps.{BlocksAt, BlocksCall}
 use Rattle.piece_machine.specs.PieceViews.{IsApart}
 use Rattle.piece_machine.specs.PieceConcrete.{PieceConcrete, Outcome, pieces_at, lies_in, wanted, is_held, whole_at}
-use Rattle.piece_machine.specs.PieceConcrete.{lock_at, take_at, compare_word, compare_at, act_at, piece_at, call_step}
+use Rattle.piece_machine.specs.PieceConcrete.{lock_at, take_at, compare_word, compare_at, piece_at, call_step}
 use Rattle.piece_machine.specs.PieceConcrete.{look_step, awake_step, thread_step}
 use Rattle.piece_machine.specs.PieceTaken.{Calls, Taken, TakenSo, WholeStep, BucketTaken, WordFound, WordDiffers, CallActs}
 use Rattle.piece_machine.proofs.OwnCalls.{told_call}

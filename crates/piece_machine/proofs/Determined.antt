@@ -1,34 +1,31 @@
 -- The one step of a thread is one of the relation, and is refused exactly where the relation has none.
-use Rattle.std.proofs.Common.{◌≡◌, ◌≢◌, ℕ, ◌+◌, ◌-◌, false, List, [], length, Option}
-use Rattle.std.proofs.Common.{Some, None, Result, Ok, Err, slice_set, inl, inr, refl, sym, ap, ◌∙◌, subst, arith}
+use Rattle.std.proofs.Common.{◌≡◌, ◌≢◌, ℕ, ◌-◌, false, List, [], length}
+use Rattle.std.proofs.Common.{Some, None, Ok, slice_set, refl, sym, ap, ◌∙◌, subst, arith}
 use Rattle.std.proofs.Common.{length-set}
 use Rattle.std.specs.Prelude.{slice_index}
 use Rattle.std.proofs.Math.Path.{fun_ext}
-use Rattle.std.proofs.lemmas.Bool.{both_ways, cases_Bool, cases_eq, eq-eqb, ne_eqb, cond-true, cond-false}
 use Rattle.words.specs.Updates.{put}
 use Rattle.isa.specs.Programs.{Program}
 use Rattle.buckets.specs.Places.{with_place}
 use Rattle.futexcalls.specs.declared.pieces.FutexCall.{FutexCall}
 use Rattle.futexcalls.specs.declared.pieces.FutexCall.TheVariants.{Wait, Wake, Requeue}
 use Rattle.futexcalls.specs.declared.pieces.FutexPhase.{FutexPhase}
-use Rattle.futexcalls.specs.declared.pieces.FutexPhase.TheVariants.{First, Second, Compare, Act}
-use Rattle.futexcalls.specs.Pieces.{buckets_of, takes_at, after_lock, again_of, LiesIn, Compares}
+use Rattle.futexcalls.specs.declared.pieces.FutexPhase.TheVariants.{First, Compare, Act}
+use Rattle.futexcalls.specs.Pieces.{buckets_of, takes_at, after_lock, again_of, Compares}
 use Rattle.futexcalls.specs.PieceResults.{woken_by, moved_by}
 use Rattle.locals.specs.Threads.{Thread}
-use Rattle.locals.specs.Looks.{Request, Look, Goes, Asks, Leaves, Breaks, Rests, look}
+use Rattle.locals.specs.Looks.{look}
 use Rattle.machine.specs.declared.event.Event.{Event}
 use Rattle.machine.specs.declared.event.EventName.{EventName}
 use Rattle.machine.specs.declared.event.EventName.TheVariants as name
-use Rattle.machine.specs.declared.event.StepFault.{StepFault}
-use Rattle.machine.specs.declared.event.StepFault.TheVariants.{CannotMove, Broken}
 use Rattle.machine.specs.States.{Common, ConcreteState, thread_of, state_of, with_thread, with_sleepers}
 use Rattle.machine.specs.Runs.{Moves, Own}
 use Rattle.machine.specs.ConcreteServing.{load, event_of, plain}
 use Rattle.machine.specs.ConcreteSteps.{step_of}
 use Rattle.machine.specs.ConcretePieces.{call_name, is_piece}
 use Rattle.machine.specs.FrontRuns.{doing_of}
-use Rattle.machine.specs.PieceStates.{PieceState, request_of, call_of, call_at}
-use Rattle.machine.specs.PieceSteps.{goes_outside, IsLock, IsEqual, IsAgain, IsAct, BlocksAt, BlocksCall}
+use Rattle.machine.specs.PieceStates.{PieceState}
+use Rattle.machine.specs.PieceSteps.{goes_outside, IsLock, IsEqual, IsAgain, IsAct}
 use Rattle.machine.specs.Views.{IsWellFormed}
 use Rattle.machine.proofs.Placing.{threads_put, put-here}
 use Rattle.machine.proofs.Keeping.{Holds, holds-concrete, keeps}

@@ -1,7 +1,6 @@
 -- A kill from outside is a step of the machine with pieces: the thread has left its call, and its buckets are free.
 use Rattle.std.proofs.Common.{◌≡◌, ℕ, ◌==◌, Bool, true, false, not, Option, Some, None, List, [], Ok}
 use Rattle.std.proofs.Common.{slice_set, inl, inr, refl, sym, ap, ◌∙◌}
-use Rattle.std.specs.Prelude.{slice_index_or}
 use Rattle.std.proofs.Math.Path.{fun_ext}
 use Rattle.std.proofs.lemmas.Bool.{both_ways, cases_eq}
 use Rattle.words.specs.Updates.{put}
@@ -30,7 +29,7 @@ use Rattle.piece_machine.specs.PieceConcrete.{PieceConcrete, pieces_at, killed}
 use Rattle.piece_machine.specs.PieceDetermined.{IsFit}
 use Rattle.piece_machine.specs.PieceViews.{phase_in, parts, kill_step, IsKept, Kills}
 use Rattle.piece_machine.proofs.OwnCalls.{one_thread, made_of}
-use Rattle.piece_machine.proofs.Owns.{phase_put, phase_at, has_phase}
+use Rattle.piece_machine.proofs.Owns.{phase_put, has_phase}
 
 -- a dying thread stands outside calls
 dying_first : (p : Program) (s : PieceState) (t : ℕ) (x : Thread) → IsHeldRight p s → s.base.thread t ≡ Some x
@@ -97,19 +96,18 @@ kill_done p k c t e fit done =
 -- what is kept behind it, where the thread gave up what its phase says
 pub killed_parts : (v v1 v' : View) (phases : List FutexPhase) (t : ℕ) (call : Option FutexCall) (phase : FutexPhase)
     → IsKept v phases → (thread_of (concrete v) t ≡ None → ⊥) → call ≡ called v.program t (thread_of (concrete v) t)
-    → phase ≡ slice_index_or phases t phase
+    → phase ≡ phase_in phases t
     → holder_of v1.sleepers ≡ with_place (holder_of v.sleepers) (held_at (bucket_count v.sleepers) phase call) None
     → bucket_count v1.sleepers ≡ bucket_count v.sleepers → v'.sleepers.holders ≡ v1.sleepers.holders
     → parts (record { view = v'; phases = slice_set phases t First })
     ≡ killed v.program (parts (record { view = v; phases = phases })) t (concrete v')
 killed_parts v v1 v' phases t call phase kept made calls at holders count held_as =
     let m = made_of (thread_of (concrete v) t) made in
-    let stands_in = phase_at v phases t m.0 phase kept m.1 at in
     let put_first = phase_put phases t First (has_phase v phases t m.0 kept m.1) in
     let gave : holder_of v'.sleepers
     ≡ with_place (holder_of v.sleepers) (held v.program (pieces_of v (phase_in phases)) t) None =
     same_holders v1.sleepers v'.sleepers held_as ∙ holders ∙ (λ i. with_place (holder_of v.sleepers)
-    (held_at (bucket_count v.sleepers) (sym stands_in i) (calls i)) None) in λ i. record {
+    (held_at (bucket_count v.sleepers) (at i) (calls i)) None) in λ i. record {
       concrete = concrete v';
       phase = put_first i;
       holder = gave i;

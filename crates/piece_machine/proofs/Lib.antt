@@ -14,3 +14,4 @@ pub mod Beyond
 pub mod Locally
 pub mod Fronts
 pub mod Committed
+pub mod Counts

@@ -4,7 +4,7 @@ use Rattle.std.proofs.Common.{refl, sym, ap, ◌∙◌, inl, inr, subst, arith}
 use Rattle.std.specs.Prelude.{slice_index_or}
 use Rattle.std.proofs.Math.Path.{fun_ext}
 use Rattle.std.proofs.lemmas.Bool.{cases_eq}
-use Rattle.std.proofs.lemmas.List.{get_or-set_same, get_or-set_other, get_or_default}
+use Rattle.std.proofs.lemmas.List.{get_or-set_same, get_or-set_other}
 use Rattle.isa.specs.Programs.{Program}
 use Rattle.words.specs.Updates.{put}
 use Rattle.futexcalls.specs.declared.pieces.FutexPhase.{FutexPhase}
@@ -135,8 +135,3 @@ pub has_phase : (v : View) (phases : List FutexPhase) (t : ℕ) (x : Thread) →
 has_phase v phases t x kept stands =
     let place = has_place v.program (concrete v) t x kept.well stands in
     omega (arith, place.few, kept.well.few, kept.well.fits, kept.long)
-
-pub phase_at : (v : View) (phases : List FutexPhase) (t : ℕ) (x : Thread) (phase : FutexPhase) → IsKept v phases
-    → thread_of (concrete v) t ≡ Some x → phase ≡ slice_index_or phases t phase → phase_in phases t ≡ phase
-phase_at v phases t x phase kept stands is =
-    get_or_default phases t First phase (has_phase v phases t x kept stands) ∙ sym is

@@ -1,5 +1,5 @@
 -- What a step of the machine with pieces was: one of the whole machine, or a piece of a call.
-use Rattle.std.specs.Prelude.{ℕ, ◌≡◌, ◌≢◌, ◌+◌, List, [], length, Option, Some, None, Ok}
+use Rattle.std.specs.Prelude.{ℕ, ◌≡◌, ◌≢◌, ◌+◌, [], length, Some, None, Ok}
 use Rattle.words.specs.Updates.{put}
 use Rattle.isa.specs.Programs.{Program}
 use Rattle.futexcalls.specs.declared.pieces.FutexCall.{FutexCall}

@@ -1,12 +1,13 @@
 -- A machine whose threads take futex calls in pieces, as contracts see it, and its steps.
 use Rattle.std.specs.Prelude.{ℕ, ◌≡◌, ◌<◌, ◌==◌, Bool, List, [], ◌∷◌, Option, Some, None, false, length, slice_index_or}
+use Rattle.std.specs.List.{sum_by}
 use Rattle.words.specs.Limits.{most_threads}
 use Rattle.buckets.specs.Sleepers.{bucket_count, holder_of}
 use Rattle.isa.specs.Programs.{Program}
 use Rattle.futexcalls.specs.declared.pieces.FutexCall.{FutexCall}
 use Rattle.futexcalls.specs.declared.pieces.FutexCall.TheVariants.{Wait, Wake, Requeue}
 use Rattle.futexcalls.specs.declared.pieces.FutexPhase.{FutexPhase}
-use Rattle.futexcalls.specs.declared.pieces.FutexPhase.TheVariants.{First, Compare, Act}
+use Rattle.futexcalls.specs.declared.pieces.FutexPhase.TheVariants.{First, Second, Compare, Act}
 use Rattle.futexcalls.specs.Pieces.{takes_at, LiesIn}
 use Rattle.locals.specs.Threads.{Thread}
 use Rattle.locals.specs.Looks.{look}
@@ -35,6 +36,17 @@ pub record PieceView : Type 0 where
 -- the phase of a thread
 abbrev pub phase_in : List FutexPhase → ℕ → FutexPhase
 phase_in phases t = slice_index_or phases t First
+
+-- a phase within a call counts once
+abbrev pub within : FutexPhase → ℕ
+within First = 0
+within Second = 1
+within Compare = 1
+within Act = 1
+
+-- how many threads are within a call
+abbrev pub count_within : List FutexPhase → ℕ
+count_within phases = sum_by within phases
 
 -- the state that it stands for
 abbrev pub pieces : PieceView → PieceState

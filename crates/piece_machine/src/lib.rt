@@ -6,6 +6,7 @@ mod laws;
 mod local_steps;
 mod movers;
 mod outside;
+mod phases;
 mod piece_machine;
 mod sleeping;
 

@@ -1,13 +1,15 @@
 //! Which threads can take a step, and what one would be refused for.
 ghost use Rattle.std.specs.Prelude.{◌≡◌, ◌≤◌, ◌<◌, ℕ, Some, None, true, length, MatchBool};
-ghost use Rattle.futexcalls.specs.declared.pieces.FutexPhase.TheVariants.{First};
+ghost use Rattle.locals.specs.Looks.{look};
+ghost use Rattle.locals.specs.Requests.{next_step_of};
+ghost use Rattle.locals.specs.Threads.{Thread};
 ghost use Rattle.machine.specs.PieceSteps.{BlocksCall, CanTakePiece};
 ghost use Rattle.piece_machine.specs.PieceConcrete.{can_take, piece_fault_at};
 ghost use Rattle.piece_machine.specs.PieceViews.{pieces, parts, GoesTo, IsBlocked, IsAtRest, RefusesCall};
 
 use crate::piece_machine::{PieceMachine, call_in};
-use futexcalls::{FutexCall, FutexPhase};
-use locals::{Local, NextStep};
+use futexcalls::FutexCall;
+use locals::NextStep;
 use machine::StepFault;
 
 impl PieceMachine {
@@ -38,42 +40,30 @@ impl PieceMachine {
     pub fn holds_none(&self) -> bool
         ensures { result ≡ true → (b : ℕ) → (pieces self.now).holder b ≡ None }
     {
-        for t in 0..self.machine.threads() {
-            if !self.is_outside(t + 1) {
-                return false;
-            }
-        }
-        true
+        self.phases.all_first()
     }
 
-    // Whether thread `t` is outside calls.
-    fn is_outside(&self, t: u32) -> bool
-        requires { (0 < t) × (t ≤ length self.now.view.threads) }
-        ensures { result ≡ true → (pieces self.now).phase t ≡ First }
+    /// What a step of thread `t` would be refused for, if its local steps had led it to where its next step is `next`.
+    pub fn refusal_as(&self, t: u32, next: NextStep) -> Option<StepFault>
+        ensures { (here : Thread) → GoesTo self.now.view t here
+            → next ≡ next_step_of (look self.now.view.program t here)
+            → result ≡ piece_fault_at self.now.view.program (parts self.now) t here }
     {
-        matches!(self.phases[t as usize], FutexPhase::First)
-    }
-
-    /// What a step of thread `t` would be refused for, if its local steps had led it to `here`.
-    pub fn refusal_at(&self, t: u32, here: &Local) -> Option<StepFault>
-        requires { GoesTo self.now.view t here.now }
-        ensures { result ≡ piece_fault_at self.now.view.program (parts self.now) t here.now }
-    {
-        if self.machine.asleep(t).is_some() {
+        if !self.machine.is_made(t) || self.machine.asleep(t).is_some() {
             return Some(StepFault::CannotMove);
         }
-        match self.machine.next_step_at(t, here) {
+        match next {
             NextStep::Shared(request) => match call_in(request) {
                 Some(call) => self.call_refusal(t, call),
-                None => self.machine.refusal_at(t, here),
+                None => self.machine.refusal_as(t, next),
             },
             NextStep::Exit(phase) => {
                 if self.machine.is_held_up(t, phase) {
                     return Some(StepFault::CannotMove);
                 }
-                self.machine.refusal_at(t, here)
+                self.machine.refusal_as(t, next)
             }
-            _ => self.machine.refusal_at(t, here),
+            _ => self.machine.refusal_as(t, next),
         }
     }
 
@@ -116,7 +106,7 @@ impl PieceMachine {
         if !self.machine.has_words(call) {
             return false;
         }
-        match self.machine.next_bucket(call, self.phases[t as usize]) {
+        match self.machine.next_bucket(call, self.phases.at(t)) {
             Some(bucket) => self.machine.holder(bucket).is_some(),
             None => false,
         }

@@ -107,8 +107,8 @@ impl PieceMachine {
             return Err(StepFault::CannotMove);
         }
         let call = self.call_at(t);
-        give_up(&mut self.machine, t, call, self.phases[t as usize]);
-        self.phases[t as usize] = FutexPhase::First;
+        give_up(&mut self.machine, t, call, self.phases.at(t));
+        self.phases.put(t, FutexPhase::First);
         let event = self.machine.kill(t)?;
         Ok(event)
     }

@@ -1,26 +1,30 @@
-ghost use Rattle.std.specs.Prelude.{◌≡◌, ◌≤◌, ◌+◌, None, Some, Ok, Err, IfOk, IfErr, OnOk};
+ghost use Rattle.std.specs.Prelude.{◌≡◌, ◌≤◌, ◌<◌, ◌+◌, length, None, Some, Ok, Err, IfOk, IfErr, OnOk};
 ghost use Rattle.buckets.specs.BucketCount.{IsBucketCount};
+ghost use Rattle.locals.specs.Looks.{look};
+ghost use Rattle.locals.specs.Requests.{next_step_of};
+ghost use Rattle.locals.specs.Threads.{Thread};
 ghost use Rattle.machine.specs.ConcretePieces.{MakesCall};
 ghost use Rattle.machine.specs.PieceStates.{opening_pieces, call_of};
 ghost use Rattle.machine.specs.RequestMeanings.{asked_of};
+ghost use Rattle.machine.specs.States.{state_of, thread_of};
+ghost use Rattle.machine.specs.Views.{concrete};
 ghost use Rattle.piece_machine.specs.PieceConcrete.{opening_at, piece_of};
 ghost use Rattle.piece_machine.specs.PieceDetermined.{IsFit};
 ghost use Rattle.piece_machine.specs.PieceViews.{pieces, parts, IsComeTo, IsApart, expected_of, told_next};
 
+use crate::phases::Phases;
 use futexcalls::{FutexCall, FutexPhase};
 use isa::Image;
 use locals::{NextStep, Request};
 use machine::{CallStep, Event, EventName, Machine, StepFault};
 use std::alloc::{AllocError, Global};
 use std::marker::Model;
-use words::MOST_THREADS;
 
 /// A machine whose threads take futex calls in pieces. Contracts see the machine and its threads' phases.
 #[derive(Drop)]
 pub struct PieceMachine {
     pub(crate) machine: Machine,
-    // For each thread from 0 how far it has come in its call. There is no thread 0.
-    pub(crate) phases: Vec<FutexPhase>,
+    pub(crate) phases: Phases,
 }
 
 impl Model for PieceMachine {
@@ -28,9 +32,9 @@ impl Model for PieceMachine {
 
     ghost Value = { PieceView };
 
-    ghost view = { λ m. record { view = m.machine; phases = m.phases.items } };
+    ghost view = { λ m. record { view = m.machine; phases = m.phases } };
 
-    ghost invariant = { λ m. IsKept m.machine m.phases.items };
+    ghost invariant = { λ m. IsKept m.machine m.phases };
 }
 
 /// The futex call that a request is, if it is one.
@@ -100,7 +104,7 @@ impl PieceMachine {
     {
         Ok(PieceMachine {
             machine: Machine::new(alloc, image, buckets)?,
-            phases: vec![in alloc; FutexPhase::First; MOST_THREADS as usize + 1]?,
+            phases: Phases::new(alloc)?,
         })
     }
 
@@ -149,25 +153,18 @@ impl PieceMachine {
         if !self.machine.is_made(t) || self.machine.asleep(t).is_some() {
             return Err(StepFault::CannotMove);
         }
-        match self.machine.next_step(t) {
-            NextStep::Shared(request) => match call_in(request) {
-                Some(call) => self.call_step(t, call),
-                None => self.whole_step(t),
-            },
-            NextStep::Exit(phase) => {
-                if self.machine.is_held_up(t, phase) {
-                    return Err(StepFault::CannotMove);
-                }
-                self.whole_step(t)
-            }
-            _ => self.whole_step(t),
-        }
+        let next = self.machine.next_step(t);
+        self.step_as(t, next)
     }
 
-    // A step of thread `t`, which is awake, that is none of a futex call, and that no held bucket is in the way of.
-    fn whole_step(&mut self, t: u32) -> Result<Event, StepFault>
+    /// The step of thread `t`, which was made and is awake, whose next step is `next`. It is `step` for a caller that
+    /// has asked for the next step already.
+    pub fn step_as(&mut self, t: u32, next: NextStep) -> Result<Event, StepFault>
         requires room { 1 ≤ self.old.view.room }
-        requires apart { IsApart self.old.view.program (pieces self.old) t }
+        requires thread { (0 < t) × (t ≤ length self.old.view.threads) }
+        requires awake { (state_of (concrete self.old.view)).asleep t ≡ None }
+        requires next { (x : Thread) → thread_of (concrete self.old.view) t ≡ Some x
+            → next ≡ next_step_of (look self.old.view.program t x) }
         ensures done { IfOk result (λ e. piece_of self.old.view.program (parts self.old) t
             ≡ Ok (parts self.new, e)) }
         ensures err { IfErr result
@@ -176,12 +173,43 @@ impl PieceMachine {
         ensures program { self.new.view.program ≡ self.old.view.program }
         ensures room { self.old.view.room ≤ self.new.view.room + 1 }
     {
-        let event = self.machine.step(t)?;
+        match next {
+            NextStep::Shared(request) => match call_in(request) {
+                Some(call) => self.call_step(t, call),
+                None => self.whole_step(t, next),
+            },
+            NextStep::Exit(phase) => {
+                if self.machine.is_held_up(t, phase) {
+                    return Err(StepFault::CannotMove);
+                }
+                self.whole_step(t, next)
+            }
+            _ => self.whole_step(t, next),
+        }
+    }
+
+    // A step of thread `t`, which is awake, that is none of a futex call, and that no held bucket is in the way of.
+    fn whole_step(&mut self, t: u32, next: NextStep) -> Result<Event, StepFault>
+        requires room { 1 ≤ self.old.view.room }
+        requires thread { (0 < t) × (t ≤ length self.old.view.threads) }
+        requires apart { IsApart self.old.view.program (pieces self.old) t }
+        requires next { (x : Thread) → thread_of (concrete self.old.view) t ≡ Some x
+            → next ≡ next_step_of (look self.old.view.program t x) }
+        ensures done { IfOk result (λ e. piece_of self.old.view.program (parts self.old) t
+            ≡ Ok (parts self.new, e)) }
+        ensures err { IfErr result
+            (λ f. (piece_of self.old.view.program (parts self.old) t ≡ Err f)
+            × (self.new ≡ self.old)) }
+        ensures program { self.new.view.program ≡ self.old.view.program }
+        ensures room { self.old.view.room ≤ self.new.view.room + 1 }
+    {
+        let event = self.machine.step_as(t, next)?;
         Ok(event)
     }
 
     // A piece of the futex call that thread `t` makes, which is awake.
     fn call_step(&mut self, t: u32, call: FutexCall) -> Result<Event, StepFault>
+        requires thread { t ≤ length self.old.view.threads }
         requires makes { MakesCall self.old.view t call }
         requires awake { (pieces self.old).base.asleep t ≡ None }
         ensures done { IfOk result (λ e. piece_of self.old.view.program (parts self.old) t
@@ -195,16 +223,16 @@ impl PieceMachine {
         if !self.machine.has_words(call) {
             return Err(StepFault::Broken);
         }
-        let phase = self.phases[t as usize];
+        let phase = self.phases.at(t);
         let bucket = self.machine.next_bucket(call, phase);
         match self.machine.take_piece(t, call, phase) {
             CallStep::Next(next) => {
-                self.phases[t as usize] = next;
+                self.phases.put(t, next);
                 Ok(told(bucket, call))
             }
             CallStep::Blocked => Err(StepFault::CannotMove),
             CallStep::Done(event) => {
-                self.phases[t as usize] = FutexPhase::First;
+                self.phases.put(t, FutexPhase::First);
                 Ok(event)
             }
         }

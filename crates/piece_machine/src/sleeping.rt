@@ -17,7 +17,7 @@ impl PieceMachine {
         if !self.machine.is_made(t) {
             return None;
         }
-        if !matches!(self.phases[t as usize], FutexPhase::Act) {
+        if !matches!(self.phases.at(t), FutexPhase::Act) {
             return None;
         }
         match self.call_at(t) {

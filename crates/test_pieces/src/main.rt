@@ -122,7 +122,7 @@ fn show_next<R: Print>(rt: &R, machine: &PieceMachine, thread: u32) -> Result<()
     if thread == 0 || thread > whole.threads() {
         return Err(Failure::Row);
     }
-    match machine.refusal_at(thread, whole.local(thread)) {
+    match machine.refusal_as(thread, whole.next_step(thread)) {
         Some(fault) => show_refusal(rt, thread, fault)?,
         None => println!(rt; "  {thread} can go on")?,
     }

@@ -1,27 +1,40 @@
 -- A step of the thread is one of the machine.
-use Rattle.std.proofs.Common.{◌≡◌, ◌≤◌, Some, Result, Ok, Err, length, rules, sym, ◌∙◌, subst, refl}
+use Rattle.std.proofs.Common.{◌≡◌, ◌≤◌, Result, Ok, Err, length, rules, refl, sym, ◌∙◌}
 use Rattle.std.specs.Prelude.{IfOk, IfErr}
-use Rattle.locals.specs.Threads.{Thread}
 use Rattle.locals.specs.Looks.{look}
 use Rattle.machine.specs.declared.event.Event.{Event}
 use Rattle.machine.specs.declared.event.StepFault.{StepFault}
-use Rattle.machine.specs.RequestMeanings.{AsksFork}
 use Rattle.machine.specs.Views.{parts_of}
-use Rattle.machine.proofs.Whole.{stands_at, stepped}
-use Rattle.machine.proofs.Steps.{breaks_when, rests_when}
+use Rattle.machine.proofs.Whole.{stands_at, made_at, stepped, told_there}
+use Rattle.machine.proofs.Steps.{breaks_when, rests_when, forks_when}
 use Rattle.machine.proofs.parts.step_parts.Goals as goal
 
-inside : (x y : Thread) → Some x ≡ Some y → x ≡ y
-inside x y h = cc
+pub take_local-requires : goal.take_local-requires
+take_local-requires c =
+    let within : c.args.t ≤ length c.args.threads.now.items = search rules in
+    let x = c.index_mut.result.now in
+    record {
+      asks = told_there c.args.image.now c.args.threads.now.items c.args.t c.args.next x x (c.requires.thread.0, within)
+          c.index_mut.ensures.value c.requires.next ∙ c.in-Local.is;
+    }
+
+pub take_request-requires-clause-asks : goal.take_request-requires-clause-asks
+take_request-requires-clause-asks c =
+    let within : c.args.t ≤ length c.args.threads.now.items = search rules in
+    let x = c.index_mut-in-Shared.result.now in
+    told_there c.args.image.now c.args.threads.now.items c.args.t c.args.next x x (c.requires.thread.0, within)
+    c.index_mut-in-Shared.ensures.value c.requires.next ∙ c.in-Shared.is
+
+pub take_exit-requires-clause-asks : goal.take_exit-requires-clause-asks
+take_exit-requires-clause-asks c =
+    let within : c.args.t ≤ length c.args.threads.now.items = search rules in
+    let x = c.index_mut-in-Exit.result.now in
+    told_there c.args.image.now c.args.threads.now.items c.args.t c.args.next x x (c.requires.thread.0, within)
+    c.index_mut-in-Exit.ensures.value c.requires.next ∙ c.in-Exit.is
 
 pub fork_parts-requires-clause-asks : goal.fork_parts-requires-clause-asks
 fork_parts-requires-clause-asks c = λ x at.
-    let within : c.args.t ≤ length c.args.threads.now.items = search rules in
-    let stands = stands_at c.args.threads.now.items c.args.t c.index.result.now c.index.result.now
-    c.requires.thread.0 within c.index.ensures in
-    let here : AsksFork (look c.args.image.now c.args.t c.index.result.now) c.in-Fork.has_room = search rules in
-    subst (λ (y : Thread). AsksFork (look c.args.image.now c.args.t y) c.in-Fork.has_room)
-    (inside _ _ (sym stands ∙ at)) here
+    forks_when (look c.args.image.now c.args.t x) _ _ c.in-Fork.has_room (sym (c.requires.next x at) ∙ c.in-Fork.is)
 
 if_ok : (r : Result Event StepFault) (P Q : Event → Type 0) → ((e : Event) → P e → Q e) → IfOk r P → IfOk r Q
 if_ok (Ok e) P Q f h = f e h
@@ -77,18 +90,16 @@ pub returns-in-Broken-clause-err : goal.returns-in-Broken-clause-err
 returns-in-Broken-clause-err c =
     let k = parts_of c.args.shared.now c.args.threads.now.items in
     let within : c.args.t ≤ length c.args.threads.now.items = search rules in
-    let x = c.index.result.now in
-    let stands = stands_at c.args.threads.now.items c.args.t x x c.requires.thread.0 within c.index.ensures in
-    stepped c.args.image.now k c.args.t (length k.threads) x _ stands c.requires.awake refl
-    (breaks_when (length k.threads) c.args.t k.common (look c.args.image.now c.args.t x)
-    (sym c.next_step.ensures ∙ c.in-Broken.is))
+    let m = made_at k.threads c.args.t (c.requires.thread.0, within) in
+    stepped c.args.image.now k c.args.t (length k.threads) m.0 _ m.1 c.requires.awake refl
+    (breaks_when (length k.threads) c.args.t k.common (look c.args.image.now c.args.t m.0)
+    (sym (c.requires.next m.0 m.1) ∙ c.in-Broken.is))
 
 pub returns-in-Ended-clause-err : goal.returns-in-Ended-clause-err
 returns-in-Ended-clause-err c =
     let k = parts_of c.args.shared.now c.args.threads.now.items in
     let within : c.args.t ≤ length c.args.threads.now.items = search rules in
-    let x = c.index.result.now in
-    let stands = stands_at c.args.threads.now.items c.args.t x x c.requires.thread.0 within c.index.ensures in
-    stepped c.args.image.now k c.args.t (length k.threads) x _ stands c.requires.awake refl
-    (rests_when (length k.threads) c.args.t k.common (look c.args.image.now c.args.t x) (sym c.next_step.ensures
-    ∙ c.in-Ended.is))
+    let m = made_at k.threads c.args.t (c.requires.thread.0, within) in
+    stepped c.args.image.now k c.args.t (length k.threads) m.0 _ m.1 c.requires.awake refl
+    (rests_when (length k.threads) c.args.t k.common (look c.args.image.now c.args.t m.0)
+    (sym (c.requires.next m.0 m.1) ∙ c.in-Ended.is))

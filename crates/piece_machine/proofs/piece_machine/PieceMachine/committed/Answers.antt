@@ -10,7 +10,7 @@ use Rattle.piece_machine.proofs.piece_machine.PieceMachine.committed.Goals as go
 pub returns-then-not-is_made : goal.returns-then-not-is_made
 returns-then-not-is_made c =
     let v = c.self.inside.machine in
-    let ph = c.self.inside.phases.items in
+    let ph = c.self.inside.phases in
     let t = c.args.t in
     subst (λ (q : PieceView). None ≡ committed q.view.program (pieces q) t) c.self.view_is
     (sym (ap (λ o. committed_at (phase_in ph t) (called v.program t o)) c.if-not-is_made.ensures

@@ -9,7 +9,7 @@ use Rattle.piece_machine.proofs.piece_machine.PieceMachine.copy_local.Goals as g
 pub invariant_of-self : goal.invariant_of-self
 invariant_of-self c =
     let v = c.self.inside.machine in
-    let ph = c.self.inside.phases.items in
+    let ph = c.self.inside.phases in
     let can = subst (λ (q : PieceView). can_move (concrete q.view) c.args.t ≡ true) (sym c.self.view_is)
     c.requires.can_move in
     let goes = subst (λ (q : PieceView). GoesTo q.view c.args.t c.args.local.now) (sym c.self.view_is) c.requires.goes in

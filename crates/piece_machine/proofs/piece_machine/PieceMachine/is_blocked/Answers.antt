@@ -20,7 +20,7 @@ returns-in-Some c =
     (BlocksCall (pieces q) t (Some call) → ⊥)) (sym c.self.view_is) c.waits_for_bucket.ensures in
     subst (λ (q : PieceView). MatchBool b (IsBlocked q.view.program (pieces q) t)
     (IsBlocked q.view.program (pieces q) t → ⊥)) c.self.view_is
-    (call_blocked v (pieces_of v (phase_in c.self.inside.phases.items)) t call b refl
+    (call_blocked v (pieces_of v (phase_in c.self.inside.phases)) t call b refl
     (makes_call v t c.in-Shared.request call (never_none (concrete v) t there.0 there.1) c.in-Shared.ensures
     c.in-Some.ensures) waits)
 
@@ -33,5 +33,5 @@ returns-in-Exit c =
     let m = made (concrete v) t there.0 there.1 in
     subst (λ (q : PieceView). MatchBool b (IsBlocked q.view.program (pieces q) t)
     (IsBlocked q.view.program (pieces q) t → ⊥)) c.self.view_is
-    (exit_blocked v (pieces_of v (phase_in c.self.inside.phases.items)) t c.in-Exit.phase b refl m.0 m.1
+    (exit_blocked v (pieces_of v (phase_in c.self.inside.phases)) t c.in-Exit.phase b refl m.0 m.1
     (c.in-Exit.ensures m.0 m.1) c.is_held_up.ensures)

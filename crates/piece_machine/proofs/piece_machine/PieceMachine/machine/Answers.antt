@@ -12,4 +12,4 @@ returns-clause-come c =
 pub returns-clause-fit : goal.returns-clause-fit
 returns-clause-fit c =
     subst (λ (q : PieceView). IsFit q.view.program (parts q)) c.self.view_is
-    (kept_fit c.self.inside.machine c.self.inside.phases.items c.self.invariant)
+    (kept_fit c.self.inside.machine c.self.inside.phases c.self.invariant)

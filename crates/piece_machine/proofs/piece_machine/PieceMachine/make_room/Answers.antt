@@ -10,7 +10,7 @@ pub invariant_of-self : goal.invariant_of-self
 invariant_of-self c =
     let v = c.self.inside.machine in
     let v' = c.make_room.new.self in
-    let ph = phase_in c.self.inside.phases.items in
+    let ph = phase_in c.self.inside.phases in
     let e = c.make_room.ensures in
     let state : pieces_of v' ph ≡ pieces_of v ph = λ i. record {
       base = state_of (e.same.1 i);
@@ -27,7 +27,7 @@ invariant_of-self c =
 
 pub returns-clause-same : goal.returns-clause-same
 returns-clause-same c =
-    let ph = phase_in c.self.inside.phases.items in
+    let ph = phase_in c.self.inside.phases in
     let e = c.make_room.ensures in (
       e.same.0 ∙ ap (λ (q : PieceView). q.view.program) c.self.view_is,
       (λ i. record {
@@ -40,7 +40,7 @@ returns-clause-same c =
 
 pub returns-clause-parts : goal.returns-clause-parts
 returns-clause-parts c =
-    let ph = phase_in c.self.inside.phases.items in
+    let ph = phase_in c.self.inside.phases in
     let e = c.make_room.ensures in
     (λ i. record {
       concrete = e.same.1 i;

@@ -9,7 +9,7 @@ use Rattle.piece_machine.proofs.piece_machine.PieceMachine.run_local.Goals as go
 pub invariant_of-self : goal.invariant_of-self
 invariant_of-self c =
     let v = c.self.inside.machine in
-    let ph = c.self.inside.phases.items in
+    let ph = c.self.inside.phases in
     let can = subst (λ (q : PieceView). can_move (concrete q.view) c.args.t ≡ true) (sym c.self.view_is) c.requires in
     let r = c.run_local.ensures in
     local_put v c.run_local.new.self ph c.args.t r.here c.self.invariant can

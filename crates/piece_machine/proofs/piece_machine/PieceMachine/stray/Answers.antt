@@ -12,7 +12,7 @@ pub invariant_of-self-2 : goal.invariant_of-self-2
 invariant_of-self-2 c =
     let v = c.self.inside.machine in
     let v' = c.stray.new.self in
-    let ph = c.self.inside.phases.items in
+    let ph = c.self.inside.phases in
     let e = c.in_ok-event.ensures in
     let k = parts (record { view = v; phases = ph }) in
     let r = stray_done v.program k (concrete v') c.args.t c.in_ok-event.event (kept_fit v ph c.self.invariant) e.done in
@@ -25,7 +25,7 @@ pub returns-clause-done : goal.returns-clause-done
 returns-clause-done c =
     let v = c.self.inside.machine in
     let v' = c.stray.new.self in
-    let ph = c.self.inside.phases.items in
+    let ph = c.self.inside.phases in
     let e = c.in_ok-event.ensures in
     let k = parts (record { view = v; phases = ph }) in
     subst (λ (q : PieceView). stray_piece (parts q) c.args.t
@@ -36,7 +36,7 @@ returns-clause-done c =
 pub returns-in_err-event-clause-err : goal.returns-in_err-event-clause-err
 returns-in_err-event-clause-err c =
     let v = c.self.inside.machine in
-    let ph = c.self.inside.phases.items in
+    let ph = c.self.inside.phases in
     let f = c.in_err-event.field-0.0 in
     let err = c.in_err-event.ensures.err in
     hand_on c.from_residual.result f _ c.from_residual.ensures.1 (

@@ -10,7 +10,6 @@ use Rattle.machine.specs.PieceSteps.{BlocksCall}
 use Rattle.machine.specs.Views.{concrete}
 use Rattle.piece_machine.specs.PieceViews.{PieceView, pieces, phase_in}
 use Rattle.piece_machine.proofs.Blocked.{made}
-use Rattle.piece_machine.proofs.Owns.{phase_at}
 use Rattle.piece_machine.proofs.piece_machine.PieceMachine.waits_for_bucket.Goals as goal
 
 one_bucket : (a b : ℕ) → Some a ≡ Some b → a ≡ b
@@ -27,16 +26,13 @@ by_holder s t b call (Some u) lies takes holds = (lies, b, u, takes, holds)
 pub returns-in-Some : goal.returns-in-Some
 returns-in-Some c =
     let v = c.self.inside.machine in
-    let ph = c.self.inside.phases.items in
+    let ph = c.self.inside.phases in
     let t = c.args.t in
     let call = c.args.call in
-    let there = subst (λ (q : PieceView). (0 < t) × (t ≤ length q.view.threads)) (sym c.self.view_is) c.requires in
-    let m = made (concrete v) t there.0 there.1 in
     let s = pieces_of v (phase_in ph) in
-    let at = phase_at v ph t m.0 c.index.result.now c.self.invariant m.1 c.index.ensures in
     subst (λ (q : PieceView). MatchBool c.is_some.result (BlocksCall (pieces q) t (Some call))
     (BlocksCall (pieces q) t (Some call) → ⊥)) c.self.view_is
     (subst (λ (b : Bool). MatchBool b (BlocksCall s t (Some call)) (BlocksCall s t (Some call) → ⊥))
     (sym c.is_some.ensures)
     (by_holder s t c.in-Some.bucket call c.holder.result c.if-not-has_words.ensures
-    (ap (λ f. takes_at s.buckets f call) at ∙ sym c.in-Some.ensures) (sym c.holder.ensures)))
+    (ap (λ f. takes_at s.buckets f call) (sym c.at.ensures) ∙ sym c.in-Some.ensures) (sym c.holder.ensures)))

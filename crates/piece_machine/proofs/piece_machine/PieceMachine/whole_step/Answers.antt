@@ -10,8 +10,8 @@ use Rattle.piece_machine.proofs.piece_machine.PieceMachine.whole_step.Goals as g
 pub returns-clause-done : goal.returns-clause-done
 returns-clause-done c =
     let v = c.self.inside.machine in
-    let v' = c.step.new.self in
-    let ph = c.self.inside.phases.items in
+    let v' = c.step_as.new.self in
+    let ph = c.self.inside.phases in
     let e = c.in_ok-event.ensures in
     let apart : IsApart v.program (pieces (record { view = v; phases = ph })) c.args.t =
     subst (λ (q : PieceView). IsApart q.view.program (pieces q) c.args.t) (sym c.self.view_is) c.requires.apart in
@@ -22,8 +22,8 @@ returns-clause-done c =
 pub invariant_of-self-2 : goal.invariant_of-self-2
 invariant_of-self-2 c =
     let v = c.self.inside.machine in
-    let v' = c.step.new.self in
-    let ph = c.self.inside.phases.items in
+    let v' = c.step_as.new.self in
+    let ph = c.self.inside.phases in
     let e = c.in_ok-event.ensures in
     let apart : IsApart v.program (pieces (record { view = v; phases = ph })) c.args.t =
     subst (λ (q : PieceView). IsApart q.view.program (pieces q) c.args.t) (sym c.self.view_is) c.requires.apart in
@@ -33,7 +33,7 @@ invariant_of-self-2 c =
 pub returns-in_err-event-clause-err : goal.returns-in_err-event-clause-err
 returns-in_err-event-clause-err c =
     let v = c.self.inside.machine in
-    let ph = c.self.inside.phases.items in
+    let ph = c.self.inside.phases in
     let f = c.in_err-event.field-0.0 in
     let err = c.in_err-event.ensures.err in
     let k = parts (record { view = v; phases = ph }) in

@@ -1,12 +1,21 @@
 -- What always holds is kept, and the room falls by what was printed.
-use Rattle.std.proofs.Common.{◌≡◌, ◌+◌, ◌-◌, length, Result, Ok, Err, ap, sym, arith}
+use Rattle.std.proofs.Common.{◌≡◌, ◌+◌, ◌-◌, length, Some, Result, Ok, Err, ap, sym, subst, arith}
 use Rattle.std.specs.Prelude.{IfOk, OnErr}
+use Rattle.locals.specs.Threads.{Thread}
+use Rattle.locals.specs.Looks.{look}
+use Rattle.locals.specs.Requests.{next_step_of}
 use Rattle.machine.specs.declared.event.Event.{Event}
 use Rattle.machine.specs.declared.event.StepFault.{StepFault}
-use Rattle.machine.specs.Views.{parts_of, printed_by}
+use Rattle.machine.specs.States.{thread_at}
+use Rattle.machine.specs.Views.{View, parts_of, printed_by}
 use Rattle.machine.proofs.Whole.{kept_after}
 use Rattle.machine.proofs.Printed.{printed_so, at_most_one}
-use Rattle.machine.proofs.machine.Machine.step.Goals as goal
+use Rattle.machine.proofs.machine.Machine.step_as.Goals as goal
+
+pub step_parts-requires-clause-next : goal.step_parts-requires-clause-next
+step_parts-requires-clause-next c =
+    subst (λ (v : View). (x : Thread) → thread_at v.threads c.args.t ≡ Some x
+    → c.args.next ≡ next_step_of (look v.program c.args.t x)) (sym c.self.view_is) c.requires.next
 
 on_err : (r : Result Event StepFault) (A B C : Type 0) → (A → B → C) → OnErr r (A × B) → OnErr r C
 on_err (Ok e) A B C f h = tt
@@ -37,7 +46,7 @@ returns-clause-room c =
     if_ok c.step_parts.result _ _ (λ e done.
     let more : length new.output ≡ length old.output + printed_by e =
     printed_so c.self.inside.image k k' c.args.t e done in
-    omega (arith, was, more, at_most_one e, s.capacity, c.requires)) s.done
+    omega (arith, was, more, at_most_one e, s.capacity, c.requires.room)) s.done
 
 pub returns-clause-holds : goal.returns-clause-holds
 returns-clause-holds c = (invariant_of-self c).0
