@@ -1,7 +1,6 @@
 -- Where a thread has committed to sleep, by its phase and its call.
-use Rattle.std.proofs.Common.{◌≡◌, ◌≢◌, ℕ, Option, Some, None, refl}
+use Rattle.std.proofs.Common.{◌≡◌, ◌≢◌, Option, None, refl}
 use Rattle.futexcalls.specs.declared.pieces.FutexCall.{FutexCall}
-use Rattle.futexcalls.specs.declared.pieces.FutexCall.TheVariants.{Wait, Wake, Requeue}
 use Rattle.futexcalls.specs.declared.pieces.FutexPhase.{FutexPhase}
 use Rattle.futexcalls.specs.declared.pieces.FutexPhase.TheVariants.{First, Second, Compare, Act}
 use Rattle.machine.specs.PieceStates.{committed_at}

@@ -1,7 +1,6 @@
 -- How many threads are within a call.
 use Rattle.std.proofs.Common.{◌≡◌, ℕ, zero, suc, ◌+◌, ◌<◌, ◌≤◌, List, [], ◌∷◌, length, slice_set, refl, arith}
-use Rattle.std.proofs.lemmas.List.Sums.{sum_by-set, sum_by-cons, sum_by-le}
-use Rattle.std.specs.List.{sum_by}
+use Rattle.std.proofs.lemmas.List.Sums.{sum_by-set, sum_by-cons}
 use Rattle.futexcalls.specs.declared.pieces.FutexPhase.{FutexPhase}
 use Rattle.futexcalls.specs.declared.pieces.FutexPhase.TheVariants.{First, Second, Compare, Act}
 use Rattle.piece_machine.specs.PieceViews.{phase_in, within, count_within}
@@ -11,6 +10,17 @@ outside_is First h = refl
 outside_is Second h = absurd cc
 outside_is Compare h = absurd cc
 outside_is Act h = absurd cc
+
+pub within_most : (phase : FutexPhase) → within phase ≤ 1
+within_most First = omega arith
+within_most Second = omega arith
+within_most Compare = omega arith
+within_most Act = omega arith
+
+-- they are no more than the phases
+pub count_few : (phases : List FutexPhase) → count_within phases ≤ length phases
+count_few [] = omega arith
+count_few (phase ∷ phases) = omega (arith, count_few phases, within_most phase, sum_by-cons within phase phases)
 
 -- where none is, each phase is the first
 pub none_within : (phases : List FutexPhase) → count_within phases ≡ 0 → (t : ℕ) → phase_in phases t ≡ First

@@ -1,5 +1,5 @@
 -- A step of the thread is one of the machine.
-use Rattle.std.proofs.Common.{◌≡◌, ◌≤◌, Result, Ok, Err, length, rules, refl, sym, ◌∙◌}
+use Rattle.std.proofs.Common.{◌≤◌, Result, Ok, Err, length, rules, refl, sym, ◌∙◌}
 use Rattle.std.specs.Prelude.{IfOk, IfErr}
 use Rattle.locals.specs.Looks.{look}
 use Rattle.machine.specs.declared.event.Event.{Event}

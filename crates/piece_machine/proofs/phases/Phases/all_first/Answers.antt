@@ -1,5 +1,5 @@
 -- None is counted.
-use Rattle.std.proofs.Common.{◌≡◌, ℕ, List, sym, ◌∙◌, subst}
+use Rattle.std.proofs.Common.{◌≡◌, ℕ, List, subst, arith}
 use Rattle.futexcalls.specs.declared.pieces.FutexPhase.{FutexPhase}
 use Rattle.futexcalls.specs.declared.pieces.FutexPhase.TheVariants.{First}
 use Rattle.piece_machine.specs.PieceViews.{phase_in}

@@ -1,10 +1,8 @@
 -- The phase and the call tell where the thread has committed to sleep.
 use Rattle.std.proofs.Common.{◌≡◌, None, sym, ap, ◌∙◌, subst}
 use Rattle.machine.specs.PieceStates.{called, committed, committed_at}
-use Rattle.machine.specs.States.{thread_of}
-use Rattle.machine.specs.Views.{concrete}
 use Rattle.piece_machine.specs.PieceViews.{PieceView, phase_in, pieces}
-use Rattle.piece_machine.proofs.Committed.{none_committed, before_act}
+use Rattle.piece_machine.proofs.Committed.{none_committed}
 use Rattle.piece_machine.proofs.piece_machine.PieceMachine.committed.Goals as goal
 
 pub returns-then-not-is_made : goal.returns-then-not-is_made

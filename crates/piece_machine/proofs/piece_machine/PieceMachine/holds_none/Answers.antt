@@ -1,5 +1,5 @@
 -- All phases are the first, and who holds a bucket is within a call.
-use Rattle.std.proofs.Common.{◌≡◌, ℕ, true, Option, Some, None, refl, sym, ap, subst}
+use Rattle.std.proofs.Common.{◌≡◌, ℕ, Option, Some, None, refl, ap, subst}
 use Rattle.std.proofs.lemmas.Bool.{both_ways}
 use Rattle.isa.specs.Programs.{Program}
 use Rattle.buckets.specs.Places.{names}

@@ -1,5 +1,5 @@
 -- Nobody holds a bucket, and no thread is within a call.
-use Rattle.std.proofs.Common.{◌≡◌, ℕ, zero, suc, ◌<◌, [], length, replicate, refl, sym, ap, ◌∙◌, arith, rules}
+use Rattle.std.proofs.Common.{◌≡◌, ℕ, zero, suc, ◌<◌, [], length, replicate, refl, sym, ap, ◌∙◌, arith}
 use Rattle.std.specs.Prelude.{slice_index_or}
 use Rattle.std.proofs.Math.Path.{fun_ext}
 use Rattle.std.proofs.lemmas.List.{length-replicate}
@@ -21,8 +21,7 @@ all_first (suc n) (suc t) = all_first n t
 pub returns-clause-parts : goal.returns-clause-parts
 returns-clause-parts c =
     let e = c.in_ok-new.ensures in
-    let items : c.in_ok-vec.field-0.items ≡ replicate 65 First = c.in_ok-vec.ensures.items_if_clones_equal
-    (λ y k. search rules) in
+    let items = c.in_ok-new-2.ensures in
     λ i. record {
       concrete = e.opening i;
       phase = (ap phase_in items ∙ fun_ext (all_first 65)) i;
@@ -34,8 +33,7 @@ pub returns-clause-opening : goal.returns-clause-opening
 returns-clause-opening c =
     let v = c.in_ok-new.field-0 in
     let e = c.in_ok-new.ensures in
-    let items : c.in_ok-vec.field-0.items ≡ replicate 65 First = c.in_ok-vec.ensures.items_if_clones_equal
-    (λ y k. search rules) in
+    let items = c.in_ok-new-2.ensures in
     λ i. record {
       base = (ap state_of e.opening ∙ (opens_so c.args.image.now).0) i;
       phase = (ap phase_in items ∙ fun_ext (all_first 65)) i;
@@ -47,10 +45,9 @@ pub invariant_of-result : goal.invariant_of-result
 invariant_of-result c =
     let v = c.in_ok-new.field-0 in
     let e = c.in_ok-new.ensures in
-    let items : c.in_ok-vec.field-0.items ≡ replicate 65 First = c.in_ok-vec.ensures.items_if_clones_equal
-    (λ y k. search rules) in
+    let items = c.in_ok-new-2.ensures in
     let some : 0 < c.args.buckets = omega (arith, some_bucket c.args.buckets c.requires) in
-    let opening : pieces_of v (phase_in c.in_ok-vec.field-0.items) ≡ opening_pieces c.args.image.now c.args.buckets =
+    let opening : pieces_of v (phase_in c.in_ok-new-2.field-0) ≡ opening_pieces c.args.image.now c.args.buckets =
     returns-clause-opening c in
     record {
       well = rw e.program e.holds;

@@ -58,7 +58,7 @@ returns-in-None c = λ here stands is.
     let awake = awake_of c.asleep.result ((state_of (concrete v)).asleep t)
     (sym c.is_some.ensures ∙ c.if-is_some.false) c.asleep.ensures in
     subst (λ (q : PieceView). c.refusal_as.result ≡ piece_fault_at q.view.program (parts q) t here) c.self.view_is
-    (c.refusal_as.ensures here told
+    (c.refusal_as.ensures here (sym c.in-Shared.is ∙ told)
     ∙ apart_fault v.program k t goes.origin here (goes.stands, awake)
     (none_asked (pieces_at (with_local k t here)) t (look v.program t here) c.in-Shared.request (sym c.in-Shared.is ∙ told)
     c.in-None.ensures))
@@ -73,7 +73,7 @@ returns-else-is_held_up c = λ here stands is.
     let awake = awake_of c.asleep.result ((state_of (concrete v)).asleep t)
     (sym c.is_some.ensures ∙ c.if-is_some.false) c.asleep.ensures in
     subst (λ (q : PieceView). c.refusal_as-in-Exit.result ≡ piece_fault_at q.view.program (parts q) t here) c.self.view_is
-    (c.refusal_as-in-Exit.ensures here told
+    (c.refusal_as-in-Exit.ensures here (sym c.in-Exit.is ∙ told)
     ∙ apart_fault v.program k t goes.origin here (goes.stands, awake)
     (leaves (pieces_at (with_local k t here)) t (look v.program t here) c.in-Exit.phase (sym c.in-Exit.is ∙ told)
     c.if-is_held_up.ensures))

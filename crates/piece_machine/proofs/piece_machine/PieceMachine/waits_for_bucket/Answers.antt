@@ -1,5 +1,5 @@
 -- The bucket that the call takes next is in the way where it has a holder.
-use Rattle.std.proofs.Common.{◌≡◌, ℕ, ◌<◌, ◌≤◌, Bool, length, Option, Some, None, is_some, sym, ap, ◌∙◌}
+use Rattle.std.proofs.Common.{◌≡◌, ℕ, Bool, Option, Some, None, is_some, sym, ap, ◌∙◌}
 use Rattle.std.proofs.Common.{subst}
 use Rattle.std.specs.Prelude.{MatchBool}
 use Rattle.futexcalls.specs.declared.pieces.FutexCall.{FutexCall}
@@ -7,9 +7,7 @@ use Rattle.futexcalls.specs.Pieces.{takes_at, LiesIn}
 use Rattle.machine.specs.ConcretePieces.{pieces_of}
 use Rattle.machine.specs.PieceStates.{PieceState}
 use Rattle.machine.specs.PieceSteps.{BlocksCall}
-use Rattle.machine.specs.Views.{concrete}
 use Rattle.piece_machine.specs.PieceViews.{PieceView, pieces, phase_in}
-use Rattle.piece_machine.proofs.Blocked.{made}
 use Rattle.piece_machine.proofs.piece_machine.PieceMachine.waits_for_bucket.Goals as goal
 
 one_bucket : (a b : ℕ) → Some a ≡ Some b → a ≡ b
