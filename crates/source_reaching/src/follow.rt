@@ -223,7 +223,7 @@ fn follow_one<'a>(
     }
 }
 
-/// Follows the actions of a process, as long as the next one is calm and there is no choice, and notes them; some
+/// Follows the actions of a process, as long as the next one is calm and there is no choice, and notes them; a
 /// thousand at most. Answers the choices, where there are several. Whatever the other processes are, where the state that
 /// is come to is covered, so is the one before.
 pub fn follow_own<'a>(
