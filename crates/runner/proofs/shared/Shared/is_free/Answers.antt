@@ -1,4 +1,4 @@
-use Rattle.std.proofs.Common.{◌≡◌, ◌∙◌, Some, true, is_some, ap, subst, sym}
+use Rattle.std.proofs.Common.{◌≡◌, ◌∙◌, Some, true, false, is_some, subst, sym}
 use Rattle.locals.specs.Steps.{local_step}
 use Rattle.machine.specs.States.{thread_of}
 use Rattle.machine.specs.Views.{View, concrete}
@@ -24,8 +24,8 @@ returns g c =
     let x = c.local.result.now in
     let at = subst (λ (w : View). thread_of (concrete w) c.args.t ≡ Some x) c.machine-machine.ensures.shows
     c.local.ensures in
-    let shared = c.if-is_before_local.ensures
-    ∙ ap (λ (w : View). is_some (local_step w.program c.args.t x)) c.machine-machine.ensures.shows in
+    let shared = subst (λ (w : View). false ≡ is_some (local_step w.program c.args.t x)) c.machine-machine.ensures.shows
+    c.if-is_before_local.ensures in
     subst (λ (x : SharedView). c.can_move.result ≡ true
     → IsHeldUp g.J.RunName.program (log_state x).concrete c.args.t → ⊥) c.self.view_is
     (λ is w. takes_free g.J.RunName.program p (parts s.machine) c.args.t x c.self.invariant.0.program
