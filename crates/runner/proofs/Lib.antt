@@ -9,7 +9,7 @@ pub mod Passing
 pub mod Lives
 pub mod Waiting
 pub mod Resting
-pub mod InPlace
+pub mod Walking
 pub mod Scheduling
 pub mod Locally
 pub mod Once

@@ -13,7 +13,7 @@ use Rattle.locals.specs.Looks.{Request, AskReturn, AskReturnValue, Look, Goes}
 use Rattle.locals.specs.Looks.{Asks, Leaves, Breaks, Rests, Effect, Then, Keeps, To, Tests, Asking, Trying, Calls}
 use Rattle.locals.specs.Looks.{Returns, ReturnsValue, Fails, Misses, Guards, Checks, effect, if_so, or_dies}
 use Rattle.locals.specs.Looks.{return_look, at_place, look_at, look}
-use Rattle.locals.specs.Steps.{local_step, local_after, and_step, local_next}
+use Rattle.locals.specs.Steps.{local_after, and_step, local_next}
 use Rattle.machine.specs.States.{ConcreteState, thread_of}
 use Rattle.machine.specs.Runs.{has_ended}
 use Rattle.machine.specs.ConcreteSteps.{put_thread, can_move}

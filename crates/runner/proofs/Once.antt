@@ -1,6 +1,6 @@
 -- An entry leads to one state, and can't be taken where its local steps end too early.
 use Rattle.std.proofs.Common.{◌≡◌, ◌<◌, ◌-◌, ◌+◌, ◌++◌, ℕ, zero, suc, List, [], ◌∷◌, Option, Some, None, refl, ap, sym}
-use Rattle.std.proofs.Common.{◌∙◌, ◌≤◌, arith, subst, length, length-set, slice_get, slice_set, Bool, true, false, Result}
+use Rattle.std.proofs.Common.{◌∙◌, ◌≤◌, arith, subst, length, length-set, slice_get, slice_set, Bool, true, false}
 use Rattle.std.proofs.Common.{Ok, Err}
 use Rattle.std.proofs.Common.{inl, inr}
 use Rattle.isa.specs.Programs.{Program}
@@ -12,7 +12,6 @@ use Rattle.machine.specs.States.{thread_at, thread_of}
 use Rattle.piece_machine.specs.PieceConcrete.{PieceConcrete, Outcome, stray_piece, whole_at, with_local}
 use Rattle.piece_machine.specs.PieceFronts.{OutsidePiece}
 use Rattle.runner.specs.Logs.{Ends, Enters, EntersOwn, EntersOutside, Runs, is_outside}
-use Rattle.machine.specs.declared.event.StepFault.{StepFault}
 use Rattle.machine.specs.declared.event.StepFault.TheVariants.{CannotMove}
 use Rattle.machine.specs.ConcreteOutside.{stray_at}
 use Rattle.runner.proofs.Owning.{inside, own_entry, tells_outside, wake_or_kill}
@@ -158,3 +157,7 @@ still_made threads after (suc t) x h stands is =
     let less = made_by threads t x stands in
     let many : length after ≡ length threads = ap length is ∙ length-set threads (suc t - 1) h in
     (omega arith, omega (arith, less, many))
+
+pub made_so : (threads : List Thread) (t : ℕ) (x : Thread) → thread_at threads t ≡ Some x → (0 < t) × (t ≤ length threads)
+made_so threads zero x h = absurd cc
+made_so threads (suc t) x h = (omega arith, within_made threads (suc t) x h)

@@ -1,10 +1,10 @@
 -- A run of the machine itself is that of a log: each of its steps is an entry.
-use Rattle.std.proofs.Common.{◌≡◌, ℕ, true, false, not, length, [], ◌∷◌, ◌++◌, Option, Some, None, Result, Ok, Err}
+use Rattle.std.proofs.Common.{◌≡◌, ℕ, true, false, not, length, [], ◌∷◌, ◌++◌, Option, Some, None, Ok, Err}
 use Rattle.std.proofs.Common.{replicate, inl, inr, refl, ap, sym, ◌∙◌}
 use Rattle.isa.specs.Programs.{Program}
 use Rattle.robustexit.specs.declared.phase.ExitPhase.TheVariants.{Entry as EntryPhase, Pending, ClearId, LastWake, Ended}
 use Rattle.locals.specs.Threads.{Thread, Runs as Running, Dies, Exits}
-use Rattle.locals.specs.Looks.{Look, Goes, Asks, Leaves, Breaks, Rests, look}
+use Rattle.locals.specs.Looks.{Rests, look}
 use Rattle.locals.specs.Steps.{local_next}
 use Rattle.machine.specs.declared.event.Event.{Event}
 use Rattle.machine.specs.declared.event.Entry.{Entry}

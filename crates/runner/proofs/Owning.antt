@@ -30,7 +30,7 @@ use Rattle.machine.proofs.Outside.{stray_told}
 use Rattle.machine.proofs.Killing.{kill_told}
 use Rattle.machine.proofs.OwnEvents.{own_so}
 use Rattle.piece_machine.specs.PieceConcrete.{PieceConcrete, Outcome, whole_at, lock_at, take_at, over, compare_word}
-use Rattle.piece_machine.specs.PieceConcrete.{compare_at, acted, act_at, piece_at, call_step, look_step, awake_step}
+use Rattle.piece_machine.specs.PieceConcrete.{compare_at, acted, piece_at, call_step, look_step, awake_step}
 use Rattle.piece_machine.specs.PieceConcrete.{thread_step, piece_of, with_local, lies_in, is_held, wanted, killed_at}
 use Rattle.piece_machine.specs.PieceConcrete.{stray_piece, kill_piece}
 use Rattle.piece_machine.specs.PieceFronts.{OutsidePiece}

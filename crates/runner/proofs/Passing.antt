@@ -1,6 +1,6 @@
 -- A thread whose next entry would pass the limit keeps that through the entries of others.
 use Rattle.std.proofs.Common.{◌≡◌, ◌≢◌, ℕ, zero, suc, ◌+◌, ◌-◌, ◌<◌, ◌≤◌, ◌==◌, Bool, true, false, not}
-use Rattle.std.proofs.Common.{◌||◌, List, length, Option, Some, None, Result, Ok, Err, slice_get}
+use Rattle.std.proofs.Common.{◌||◌, List, length, Option, Some, None, Result, Ok, Err, OnOk, slice_get}
 use Rattle.std.proofs.Common.{slice_set, replicate, inl, inr, refl, ap, sym, ◌∙◌, arith, subst, length-set}
 use Rattle.std.proofs.lemmas.Bool.{both_ways, cases_eq}
 use Rattle.std.proofs.lemmas.Option.{slice_get_within}
@@ -27,7 +27,7 @@ use Rattle.runner.specs.Views.{PieceView, LogState}
 use Rattle.runner.specs.Logs.{Ends, event_cost, cost}
 use Rattle.runner.specs.Entries.{entry_end, Takes, TakesKill, TakesOutside, RefusesEntry}
 use Rattle.runner.specs.Reports.{IsHeldUp, IsStopped}
-use Rattle.runner.specs.Rounds.{AllPast, IsPast}
+use Rattle.runner.specs.Rounds.{AllPast, IsPast, step_cost}
 use Rattle.runner.proofs.Handing.{costs_so, refused_by, refused_end, up}
 use Rattle.runner.proofs.Growing.{cost_more, ends}
 use Rattle.runner.proofs.Beside.{Beside, kills_beside, own_beside, stray_beside}
@@ -351,3 +351,19 @@ same_step start old new false false before same still = before refl ∙ sym (sam
 -- a thread that can move was made
 pub made_within : (k : ConcreteState) (u : ℕ) → can_move k u ≡ true → u ≤ length k.threads
 made_within k u moves = let is = up k u moves in numbered k u is.thread is.stands
+
+-- where the limit leaves room for any entry, nobody is past it
+step_small : (o : Option Thread) → step_cost o ≤ 1
+step_small None = omega arith
+step_small (Some x) = omega arith
+
+pub none_yet : (p : Program) (limit : ℕ) (h h' : LogState) (refused : List Bool) → AllPast p limit h refused
+    → cost h.log + 257 ≤ limit → AllPast p limit h' refused
+none_yet p limit h h' refused past room t is =
+    let x = past t is in
+    absurd (omega (arith, x.past, x.turn, room, step_small (local_step p t x.here)))
+
+-- what holds holds behind any outcome
+pub on_any : {A E P : Type 0} (r : Result A E) → P → OnOk r P
+on_any (Ok x) h = h
+on_any (Err e) h = tt

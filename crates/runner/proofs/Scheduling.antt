@@ -14,8 +14,6 @@ use Rattle.machine.specs.declared.event.Event.{Event}
 use Rattle.machine.specs.Runs.{Doing}
 use Rattle.machine.specs.declared.event.StepFault.{StepFault}
 use Rattle.machine.specs.declared.event.StepFault.TheVariants.{CannotMove, Broken}
-use Rattle.machine.specs.States.{thread_of}
-use Rattle.machine.specs.ConcreteSteps.{can_move}
 use Rattle.machine.specs.Views.{concrete}
 use Rattle.piece_machine.specs.PieceConcrete.{PieceConcrete, can_take, kill_piece, piece_of, stray_piece, with_local}
 use Rattle.piece_machine.specs.PieceDetermined.{IsFit}

@@ -1,5 +1,5 @@
 -- A thread that is held up waits for a held bucket, and then some thread within a call can go on.
-use Rattle.std.proofs.Common.{◌≡◌, ℕ, zero, suc, Bool, true, false, not, ◌&&◌, Option, Some, None, Ok, Err, is_some}
+use Rattle.std.proofs.Common.{◌≡◌, ℕ, zero, suc, Bool, true, false, not, ◌&&◌, Option, Some, None, Err, is_some}
 use Rattle.std.proofs.Common.{inl, inr, refl, ap, sym, ◌∙◌, subst}
 use Rattle.std.proofs.lemmas.Bool.{cases_Bool}
 use Rattle.isa.specs.Programs.{Program}
@@ -10,7 +10,6 @@ use Rattle.machine.specs.declared.event.StepFault.TheVariants.{CannotMove}
 use Rattle.machine.specs.States.{thread_of}
 use Rattle.machine.specs.ConcreteSteps.{can_move}
 use Rattle.machine.specs.PieceSteps.{CanTakePiece}
-use Rattle.machine.proofs.Placing.{thread_at-put}
 use Rattle.machine.proofs.Refusing.{moves_so}
 use Rattle.proof_pieces.proofs.Rests.{holders_go_on}
 use Rattle.piece_machine.specs.PieceConcrete.{PieceConcrete, can_take, is_blocked, is_held, pieces_at, piece_of, wanted}

@@ -8,7 +8,7 @@ use Rattle.machine.specs.declared.event.Event.{Event}
 use Rattle.machine.specs.declared.event.EventName.TheVariants as name
 use Rattle.machine.specs.States.{state_of, with_thread}
 use Rattle.machine.specs.ConcreteServing.{plain}
-use Rattle.machine.specs.Runs.{Step, NextIsBroken}
+use Rattle.machine.specs.Runs.{Step}
 use Rattle.machine.specs.FrontRuns.{EventStep, label_of, event_label}
 use Rattle.machine.specs.PieceStates.{PieceState}
 use Rattle.machine.specs.PieceSteps.{PieceRun, NextPieceIsBroken}

@@ -1,5 +1,7 @@
 ghost use Rattle.std.specs.Prelude.{◌≡◌, ◌≢◌, ◌≤◌, ◌<◌, ◌^◌, ◌++◌, ◌∷◌, [], length, true, None, Some, Ok};
 ghost use Rattle.std.specs.Prelude.{IfOk, OnOk, OnErr, IsOk};
+ghost use Rattle.locals.specs.Looks.{look};
+ghost use Rattle.locals.specs.Requests.{next_step_of};
 ghost use Rattle.machine.specs.States.{state_of, thread_of};
 ghost use Rattle.machine.specs.ConcreteSteps.{can_move};
 ghost use Rattle.machine.specs.Views.{concrete};
@@ -7,22 +9,26 @@ ghost use Rattle.piece_machine.specs.PieceConcrete.{kill_piece, stray_piece};
 ghost use Rattle.piece_machine.specs.PieceViews.{GoesTo, parts};
 ghost use Rattle.runner.specs.Entries.{entry_end};
 
-use locals::Local;
+use crate::stepping::is_local;
+use locals::{Local, NextStep};
 use machine::{Entry, Event};
 use packed_log::PackedLog;
 use piece_machine::PieceMachine;
 use std::alloc::AllocError;
 
-/// Takes in where thread `t` has come after `count` local steps, as one entry of the log.
+/// Takes in where thread `t` has come after `count` local steps, and where its next step is `next`, as one entry of the
+/// log.
 pub fn enter(
     machine: &mut PieceMachine,
     log: &mut PackedLog,
     t: u32,
     here: &Local,
+    next: NextStep,
     count: u32,
 ) -> Result<Option<Event>, AllocError>
     requires thread { can_move (concrete machine.old.view) t ≡ true }
     requires goes { GoesTo machine.old.view t here.now }
+    requires next { next ≡ next_step_of (look machine.old.view.program t here.now) }
     requires fine { IsOk (entry_end machine.old.view.program (parts machine.old) t here.now) }
     ensures gives { IfOk result
         (λ event. entry_end machine.old.view.program (parts machine.old) t here.now
@@ -36,7 +42,7 @@ pub fn enter(
     ensures program { machine.new.view.program ≡ machine.old.view.program }
 {
     make_room(machine, log)?;
-    let event = hand_in(machine, t, here);
+    let event = hand_in(machine, t, here, next);
     log.push_reserved(Entry {
         thread: t,
         local: count,
@@ -111,21 +117,22 @@ pub fn make_room(machine: &mut PieceMachine, log: &mut PackedLog) -> Result<(), 
 }
 
 // Puts a thread where it has come, and takes the shared step that it stands before, if any.
-fn hand_in(machine: &mut PieceMachine, t: u32, here: &Local) -> Option<Event>
+fn hand_in(machine: &mut PieceMachine, t: u32, here: &Local, next: NextStep) -> Option<Event>
     requires thread { can_move (concrete machine.old.view) t ≡ true }
     requires goes { GoesTo machine.old.view t here.now }
+    requires next { next ≡ next_step_of (look machine.old.view.program t here.now) }
     requires fine { IsOk (entry_end machine.old.view.program (parts machine.old) t here.now) }
     requires room { 1 ≤ machine.old.view.room }
     ensures gives { entry_end machine.old.view.program (parts machine.old) t here.now
         ≡ Ok (parts machine.new, result) }
     ensures program { machine.new.view.program ≡ machine.old.view.program }
 {
-    let turn = machine.machine().is_before_local(t, here);
     machine.copy_local(t, here);
+    let turn = is_local(next);
     if turn {
         return None;
     }
-    match machine.step(t) {
+    match machine.step_as(t, next) {
         Ok(event) => Some(event),
         Err(_) => unreachable!(),
     }

@@ -1,14 +1,26 @@
 ghost use Rattle.words.specs.Limits.{most_local_steps};
-ghost use Rattle.std.specs.Prelude.{◌≡◌, ◌≤◌, ◌+◌, true, IfErr, OnOk};
+ghost use Rattle.std.specs.Prelude.{◌≡◌, ◌≢◌, ◌≤◌, ◌<◌, ◌+◌, length, true, None, Some, Err, IfErr, IfNone, IfSome};
+ghost use Rattle.std.specs.Prelude.{MatchBool, OnOk};
+ghost use Rattle.locals.specs.Looks.{look};
+ghost use Rattle.locals.specs.Requests.{next_step_of};
+ghost use Rattle.locals.specs.Threads.{Thread};
 ghost use Rattle.machine.specs.ConcreteSteps.{can_move};
+ghost use Rattle.machine.specs.declared.event.StepFault.TheVariants.{CannotMove};
+ghost use Rattle.machine.specs.States.{state_of, thread_of};
 ghost use Rattle.machine.specs.Views.{concrete};
+ghost use Rattle.piece_machine.specs.PieceConcrete.{PieceConcrete, piece_fault_at, with_local};
+ghost use Rattle.piece_machine.specs.PieceDetermined.{IsFit};
+ghost use Rattle.piece_machine.specs.PieceViews.{GoesTo, parts};
+ghost use Rattle.runner.specs.Entries.{BreaksAfter, entry_end};
 ghost use Rattle.runner.specs.Logs.{EntersOwn, event_cost};
-ghost use Rattle.piece_machine.specs.PieceViews.{parts};
-ghost use Rattle.runner.specs.Entries.{BreaksAfter};
 ghost use Rattle.runner.specs.Reports.{IsHeldUp};
+ghost use Rattle.runner.specs.Walks.{Walked, LooksFrom};
 
 use crate::fault::RunFault;
-use machine::Entry;
+use crate::stepping::is_local;
+use isa::Image;
+use locals::{Local, NextStep};
+use machine::{Entry, Machine, StepFault};
 use piece_machine::PieceMachine;
 use words::MOST_LOCAL_STEPS;
 
@@ -28,18 +40,122 @@ pub fn take_entry(machine: &mut PieceMachine, t: u32) -> (Entry, Result<(), RunF
         × BreaksAfter machine.old.view.program (parts machine.old) t result.0.local) }
     ensures program { machine.new.view.program ≡ machine.old.view.program }
 {
+    let local = machine.run_local(t, MOST_LOCAL_STEPS);
+    let next = machine.machine().next_step(t);
+    end_entry(machine, t, local, next)
+}
+
+/// The same of a thread that may be held up: None where a held bucket is in its way, and then nothing has changed. Where
+/// one may be, the thread takes its local steps ahead of the machine first, in `ahead`.
+pub fn take_if_free(
+    machine: &mut PieceMachine,
+    image: &Image,
+    t: u32,
+    ahead: &mut Local,
+) -> Option<(Entry, Result<(), RunFault>)>
+    requires image { image.now ≡ machine.old.view.program }
+    requires thread { can_move (concrete machine.old.view) t ≡ true }
+    requires fit { IsFit machine.old.view.program (parts machine.old) }
+    requires room { 1 ≤ machine.old.view.room }
+    ensures enters { IfSome result (λ taken. EntersOwn machine.old.view.program (parts machine.old) taken.0
+        (parts machine.new)) }
+    ensures turn { IfSome result (λ taken. taken.0.local ≤ most_local_steps) }
+    ensures goes { IfSome result (λ taken. OnOk taken.1 (1 ≤ taken.0.local + event_cost taken.0.event)) }
+    ensures breaks { IfSome result (λ taken. IfErr taken.1
+        (λ fault. (fault ≡ RunFault.Broken)
+        × BreaksAfter machine.old.view.program (parts machine.old) t taken.0.local)) }
+    ensures held { IfNone result ((parts machine.new ≡ parts machine.old)
+        × IsHeldUp machine.old.view.program (parts machine.old) t) }
+    ensures program { machine.new.view.program ≡ machine.old.view.program }
+{
+    if machine.holds_none() {
+        return Some(take_entry(machine, t));
+    }
+    let (local, next) = look_ahead(machine.machine(), image, t, ahead);
+    if waits_for_bucket(machine, t, next) {
+        return None;
+    }
+    catch_up(machine, t, local, ahead);
+    Some(end_entry(machine, t, local, next))
+}
+
+// How many local steps thread `t` takes in its turn, and what its next step is behind them. It takes them in `ahead`,
+// where there are any.
+fn look_ahead(machine: &Machine, image: &Image, t: u32, ahead: &mut Local) -> (u32, NextStep)
+    requires image { image.now ≡ machine.now.program }
+    requires thread { (0 < t) × (t ≤ length machine.now.threads) }
+    ensures { (origin : Thread) → thread_of (concrete machine.now) t ≡ Some origin
+        → LooksFrom machine.now.program t origin result.0 result.1 ahead.new }
+{
+    let next = machine.next_step(t);
+    if !is_local(next) {
+        return (0, next);
+    }
+    ahead.copy_from(machine.local(t));
+    let local = ahead.run(image, t, MOST_LOCAL_STEPS);
+    (local, machine.next_step_at(t, ahead))
+}
+
+// Whether a held bucket is in the way of thread `t`, if its local steps led it to where its next step is `next`.
+fn waits_for_bucket(machine: &PieceMachine, t: u32, next: NextStep) -> bool
+    ensures { (here : Thread) → GoesTo machine.now.view t here
+        → next ≡ next_step_of (look machine.now.view.program t here)
+        → MatchBool result (piece_fault_at machine.now.view.program (parts machine.now) t here ≡ Some CannotMove)
+        (piece_fault_at machine.now.view.program (parts machine.now) t here ≢ Some CannotMove) }
+{
+    match machine.refusal_as(t, next) {
+        Some(StepFault::CannotMove) => true,
+        Some(StepFault::Broken) | None => false,
+    }
+}
+
+// Puts thread `t` on the machine where its local steps led ahead of it, if it took any.
+fn catch_up(machine: &mut PieceMachine, t: u32, local: u32, ahead: &Local)
+    requires thread { can_move (concrete machine.old.view) t ≡ true }
+    requires goes { 0 < local → GoesTo machine.old.view t ahead.now }
+    ensures some { 0 < local → parts machine.new ≡ with_local (parts machine.old) t ahead.now }
+    ensures none { local ≡ 0 → machine.new ≡ machine.old }
+    ensures program { machine.new.view.program ≡ machine.old.view.program }
+    ensures room { machine.new.view.room ≡ machine.old.view.room }
+{
+    if local == 0 {
+        return;
+    }
+    machine.copy_local(t, ahead);
+}
+
+// Ends the entry of thread `t`, which stands behind its local steps, where its next step is `next`.
+fn end_entry(
+    machine: &mut PieceMachine,
+    t: u32,
+    local: u32,
+    next: NextStep,
+) -> (Entry, Result<(), RunFault>)
+    requires thread { (0 < t) × (t ≤ length machine.old.view.threads) }
+    requires awake { (state_of (concrete machine.old.view)).asleep t ≡ None }
+    requires next { (x : Thread) → thread_of (concrete machine.old.view) t ≡ Some x
+        → next ≡ next_step_of (look machine.old.view.program t x) }
+    requires room { 1 ≤ machine.old.view.room }
+    ensures count { result.0.local ≡ local }
+    ensures enters { (k : PieceConcrete) → Walked machine.old.view.program k t local (parts machine.old)
+        → EntersOwn machine.old.view.program k result.0 (parts machine.new) }
+    ensures goes { (k : PieceConcrete) → Walked machine.old.view.program k t local (parts machine.old)
+        → OnOk result.1 (1 ≤ result.0.local + event_cost result.0.event) }
+    ensures breaks { IfErr result.1 (λ fault. (k : PieceConcrete)
+        (w : Walked machine.old.view.program k t local (parts machine.old))
+        → (entry_end machine.old.view.program k t w.here ≢ Err CannotMove)
+        → (fault ≡ RunFault.Broken) × BreaksAfter machine.old.view.program k t result.0.local) }
+    ensures program { machine.new.view.program ≡ machine.old.view.program }
+{
     let mut entry = Entry {
         thread: t,
-        local: machine.run_local(t, MOST_LOCAL_STEPS),
+        local,
         event: None,
     };
-    if machine
-        .machine()
-        .is_before_local(t, machine.machine().local(t))
-    {
+    if is_local(next) {
         return (entry, Ok(()));
     }
-    match machine.step(t) {
+    match machine.step_as(t, next) {
         Ok(event) => {
             entry.event = Some(event);
             (entry, Ok(()))

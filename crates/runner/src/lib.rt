@@ -17,6 +17,7 @@ mod schedule;
 mod seeded;
 mod share;
 mod shared;
+mod stepping;
 
 pub use fault::RunFault;
 pub use laws::logs_are_machine_runs;

@@ -1,6 +1,6 @@
-ghost use Rattle.std.specs.Prelude.{◌≡◌, ◌≤◌, ◌<◌, ◌+◌, ◌^◌, length, true, Some, IfOk, IfErr, IfSome, IfNone};
+ghost use Rattle.std.specs.Prelude.{◌≡◌, ◌≤◌, ◌<◌, ◌+◌, ◌^◌, length, true, None, Some, IfOk, IfErr, IfSome, IfNone};
 ghost use Rattle.locals.specs.Threads.{Thread};
-ghost use Rattle.machine.specs.States.{thread_of};
+ghost use Rattle.machine.specs.States.{state_of, thread_of};
 ghost use Rattle.machine.specs.Views.{concrete};
 ghost use Rattle.piece_machine.specs.PieceConcrete.{PieceConcrete};
 ghost use Rattle.piece_machine.specs.PieceViews.{parts};
@@ -9,6 +9,7 @@ ghost use Rattle.runner.specs.declared.log_schedule.FollowLogFault.TheVariants.{
 ghost use Rattle.runner.specs.LogSchedules.{CannotTake, FailsLogAt, IsFollowedLog, shape_of};
 
 use crate::report::{Report, report_of};
+use crate::stepping::is_local;
 use isa::Image;
 use machine::{Entry, Event, EventName};
 use packed_log::{LogReader, PackedLog};
@@ -177,6 +178,7 @@ fn alone(thread: u32, event: Event) -> Entry
 // Takes the shared step that thread `t` stands before; None where it stands before none.
 fn take_shared(machine: &mut PieceMachine, t: u32) -> Option<Event>
     requires thread { (0 < t) × (t ≤ length machine.old.view.threads) }
+    requires awake { (state_of (concrete machine.old.view)).asleep t ≡ None }
     requires room { 1 ≤ machine.old.view.room }
     ensures some { IfSome result (λ event. (here : Thread)
         → thread_of (concrete machine.old.view) t ≡ Some here
@@ -187,13 +189,11 @@ fn take_shared(machine: &mut PieceMachine, t: u32) -> Option<Event>
         → ⊥) }
     ensures program { machine.new.view.program ≡ machine.old.view.program }
 {
-    if machine
-        .machine()
-        .is_before_local(t, machine.machine().local(t))
-    {
+    let next = machine.machine().next_step(t);
+    if is_local(next) {
         return None;
     }
-    match machine.step(t) {
+    match machine.step_as(t, next) {
         Ok(event) => Some(event),
         Err(_) => None,
     }

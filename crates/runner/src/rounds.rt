@@ -86,7 +86,7 @@ fn run_round<J: RunName, G: Gate>(
 
 /// Makes the next entry of thread `t`, if it can make one and wasn't refused before. Says whether it did. A thread whose
 /// entry would pass the limit is refused from then on; one that a held bucket is in the way of isn't. The piece is any:
-/// where the entry may be refused the thread goes on in it.
+/// near the limit the thread goes on in it.
 pub(crate) fn make_entry<J: RunName, G: Gate>(
     shared: &mut Shared<J>,
     refused: &mut [bool],
@@ -115,16 +115,11 @@ pub(crate) fn make_entry<J: RunName, G: Gate>(
     if !shared.machine().can_move(t) {
         return Ok(false);
     }
-    if !shared.is_free(t) {
-        return try_entry(shared, refused, image, share, gate, t, piece);
-    }
     gate.pass(t);
-    shared.go_on(t, share)?;
-    Ok(true)
+    shared.try_on(image, t, share)
 }
 
-// The same near the limit, and where a bucket is held: the thread goes on away from the machine, in this piece, since its
-// entry may be refused.
+// The same near the limit: the thread goes on away from the machine, in this piece, since its entry may be refused.
 fn try_entry<J: RunName, G: Gate>(
     shared: &mut Shared<J>,
     refused: &mut [bool],

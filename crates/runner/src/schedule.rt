@@ -9,6 +9,7 @@ ghost use Rattle.runner.specs.Schedules.{FailsAt, IsFollowed, IsOneStep, Refuses
 
 use crate::entering::wake_from_outside;
 use crate::report::{Report, report_of};
+use crate::stepping::is_local;
 use isa::Image;
 use machine::{Entry, StepFault};
 use packed_log::PackedLog;
@@ -159,15 +160,15 @@ fn take_step(machine: &mut PieceMachine, t: u32) -> Result<Entry, StepFault>
     ensures err { OnErr result (piece_of machine.old.view.program (parts machine.old) t ≡ Err Broken) }
     ensures program { machine.new.view.program ≡ machine.old.view.program }
 {
-    let here = machine.machine();
-    if here.is_before_local(t, here.local(t)) {
+    let next = machine.machine().next_step(t);
+    if is_local(next) {
         return Ok(Entry {
             thread: t,
             local: machine.run_local(t, 1),
             event: None,
         });
     }
-    let event = machine.step(t)?;
+    let event = machine.step_as(t, next)?;
     Ok(Entry {
         thread: t,
         local: 0,

@@ -1,6 +1,8 @@
 ghost use Rattle.words.specs.Limits.{most_local_steps};
 ghost use Rattle.std.specs.Prelude.{suc, ◌≡◌, ◌≢◌, ◌≤◌, ◌<◌, ◌+◌, [], length, true, false, Some, None, Ok, IfOk};
 ghost use Rattle.std.specs.Prelude.{IfErr, OnOk, IfSome, IfNone, MatchBool, MatchOption};
+ghost use Rattle.locals.specs.Looks.{look};
+ghost use Rattle.locals.specs.Requests.{next_step_of};
 ghost use Rattle.machine.specs.States.{thread_of};
 ghost use Rattle.machine.specs.ConcreteSteps.{can_move};
 ghost use Rattle.piece_machine.specs.PieceDetermined.{IsFit};
@@ -17,15 +19,18 @@ ghost use Rattle.runner.specs.Views.{log_state};
 
 use crate::entering::{enter, enter_kill, enter_outside, make_room};
 use crate::fault::RunFault;
-use crate::in_place::take_entry;
+use crate::in_place::{take_entry, take_if_free};
 use crate::naming::RunName;
 use crate::next::{After, Next};
 use crate::piece::Piece;
 use crate::share::{PARTS, Share};
+use crate::stepping::is_local;
 use isa::Image;
+use locals::{Local, NextStep};
 use machine::{Machine, StepFault};
 use packed_log::PackedLog;
 use piece_machine::PieceMachine;
+use robustexit::ExitPhase;
 use std::alloc::{AllocError, Global};
 use std::marker::{Model, PhantomData};
 use std::sync::ledger;
@@ -47,6 +52,8 @@ pub struct Shared<J: RunName> {
     // The parts of the count that were not given out.
     rest: ledger::Share<J>,
     given: u32,
+    // Where a thread goes on ahead of the machine while its entry may still be refused.
+    ahead: Local,
 }
 
 impl<J: RunName> Model for Shared<J> {
@@ -89,6 +96,7 @@ impl<J: RunName> Shared<J> {
             book,
             rest,
             given: 0,
+            ahead: Local::exiting(ExitPhase::Ended),
         })
     }
 
@@ -287,11 +295,19 @@ impl<J: RunName> Shared<J> {
             (log_state self.new).concrete }
         ensures within { cost self.new.log ≤ J.limit }
     {
-        let count = piece.count;
-        if let Some(fault) = self.refusal(t, piece) {
+        let next = self.machine.machine().next_step_at(t, &piece.here);
+        if let Some(fault) = self.refusal(t, piece, next) {
             return Err(fault);
         }
-        let Ok(event) = enter(&mut self.machine, &mut self.log, t, &piece.here, count) else {
+        let count = piece.count;
+        let Ok(event) = enter(
+            &mut self.machine,
+            &mut self.log,
+            t,
+            &piece.here,
+            next,
+            count,
+        ) else {
             return Err(RunFault::Memory);
         };
         self.steps += count + u32::from(event.is_some());
@@ -418,11 +434,13 @@ impl<J: RunName> Shared<J> {
         ensures { result ≡ true → IsHeldUp J.program (log_state self.now).concrete t → ⊥ }
     {
         let machine = self.machine.machine();
-        if machine.is_before_local(t, machine.local(t)) {
-            self.machine.holds_none()
-        } else {
-            self.machine.can_move(t)
+        if self.machine.holds_none() {
+            return true;
         }
+        if machine.is_before_local(t, machine.local(t)) {
+            return false;
+        }
+        self.machine.can_move(t)
     }
 
     /// Takes the next entry of thread `t`, which can move and isn't held up, in its place on the machine, so that nothing
@@ -449,8 +467,40 @@ impl<J: RunName> Shared<J> {
         outcome
     }
 
-    // Why the piece is refused, if not for memory.
-    fn refusal(&self, t: u32, piece: &Piece<J>) -> Option<RunFault>
+    /// The same of a thread that may be held up, and whether it made its entry: a thread that is held up makes none, and
+    /// then nothing has changed.
+    pub(crate) fn try_on(
+        &mut self,
+        image: &Image,
+        t: u32,
+        share: &mut Share<J>,
+    ) -> Result<bool, RunFault>
+        requires image { image.now ≡ J.program }
+        requires thread { can_move (log_state self.old).concrete.concrete t ≡ true }
+        requires fit { IsFit J.program (log_state self.old).concrete }
+        requires room { cost self.old.log + suc most_local_steps ≤ J.limit }
+        ensures made { IfOk result (λ made. made ≡ true → cost self.old.log < cost self.new.log) }
+        ensures none { IfOk result (λ made. made ≡ false → (log_state self.new ≡ log_state self.old)
+            × IsHeldUp J.program (log_state self.new).concrete t) }
+        ensures err { IfErr result (λ fault. CanFail J.program J.outside J.limit fault) }
+        ensures within { cost self.new.log ≤ J.limit }
+    {
+        if make_room(&mut self.machine, &mut self.log).is_err() {
+            return Err(RunFault::Memory);
+        }
+        let Some(taken) = take_if_free(&mut self.machine, image, t, &mut self.ahead) else {
+            return Ok(false);
+        };
+        let (entry, outcome) = taken;
+        self.log.push_reserved(entry);
+        self.steps += entry.local + u32::from(entry.event.is_some());
+        share.count_one(&mut self.book);
+        outcome.and(Ok(true))
+    }
+
+    // Why the piece, which stands where its next step is `next`, is refused, if not for memory.
+    fn refusal(&self, t: u32, piece: &Piece<J>, next: NextStep) -> Option<RunFault>
+        requires next { next ≡ next_step_of (look J.program t piece.now.here) }
         ensures some { IfSome result
             (λ fault. RefusesEntry J.program J.limit (log_state self.now) t piece.now fault) }
         ensures none { IfNone result (IsFine J.program J.limit (log_state self.now) t piece.now) }
@@ -461,13 +511,14 @@ impl<J: RunName> Shared<J> {
         if !self.machine.machine().can_move(t) {
             return Some(RunFault::CannotMove);
         }
-        match self.machine.refusal_at(t, &piece.here) {
+        let count = piece.count;
+        match self.machine.refusal_as(t, next) {
             Some(StepFault::CannotMove) => return Some(RunFault::CannotMove),
             Some(StepFault::Broken) => return Some(RunFault::Broken),
             None => {}
         }
-        let shared = !self.machine.machine().is_before_local(t, &piece.here);
-        if self.limit - self.steps < piece.count + u32::from(shared) {
+        let shared = !is_local(next);
+        if self.limit - self.steps < count + u32::from(shared) {
             return Some(RunFault::Limit);
         }
         None

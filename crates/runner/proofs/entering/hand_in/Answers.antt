@@ -1,29 +1,43 @@
-use Rattle.std.proofs.Common.{◌≡◌, None, Ok, Err, ap, is_some, ◌∙◌, sym, subst}
-use Rattle.locals.specs.Steps.{local_step}
-use Rattle.machine.specs.Views.{View}
+use Rattle.std.proofs.Common.{◌≡◌, None, Ok, Err, ap, ◌∙◌, sym, subst}
+use Rattle.locals.specs.Looks.{look}
 use Rattle.piece_machine.specs.PieceConcrete.{piece_of}
 use Rattle.piece_machine.specs.PieceViews.{PieceView as MachineView, parts}
 use Rattle.runner.proofs.Handing.{not_refused, step_end, turn_end}
+use Rattle.runner.proofs.Walking.{put_awake, put_made, put_next}
 use Rattle.runner.proofs.entering.hand_in.Goals as goal
+
+pub step_as-requires-clause-thread : goal.step_as-requires-clause-thread
+step_as-requires-clause-thread c =
+    put_made c.args.machine.now c.copy_local.new.self c.args.t c.requires.goes.origin c.args.here.now
+    c.requires.goes.stands c.copy_local.ensures
+
+pub step_as-requires-clause-awake : goal.step_as-requires-clause-awake
+step_as-requires-clause-awake c =
+    put_awake c.args.machine.now c.copy_local.new.self c.args.t c.args.here.now c.requires.thread c.copy_local.ensures
+
+pub step_as-requires-clause-next : goal.step_as-requires-clause-next
+step_as-requires-clause-next c =
+    λ x at. put_next c.args.machine.now c.copy_local.new.self c.args.t c.requires.goes.origin c.args.here.now x c.args.next
+    c.requires.goes.stands c.copy_local.ensures c.requires.next at
 
 pub returns-clause-gives : goal.returns-clause-gives
 returns-clause-gives c =
     step_end c.args.machine.now.view.program (parts c.args.machine.now) c.args.t c.args.here.now
-    (parts c.step.new.self) c.in-Ok.event
-    (c.if-turn.ensures ∙ ap (λ (w : View). is_some (local_step w.program c.args.t c.args.here.now)) c.machine.ensures.shows)
-    (subst (λ (m : MachineView). piece_of m.view.program (parts m) c.args.t ≡ Ok (parts c.step.new.self, c.in-Ok.event))
+    (parts c.step_as.new.self) c.in-Ok.event
+    (c.if-turn.ensures (look c.args.machine.now.view.program c.args.t c.args.here.now) c.requires.next)
+    (subst (λ (m : MachineView). piece_of m.view.program (parts m) c.args.t ≡ Ok (parts c.step_as.new.self, c.in-Ok.event))
     c.copy_local.ensures c.in-Ok.ensures.done)
 
 pub returns-then-turn-clause-gives : goal.returns-then-turn-clause-gives
 returns-then-turn-clause-gives c =
     turn_end c.args.machine.now.view.program (parts c.args.machine.now) c.args.t c.args.here.now
-    (c.if-turn.ensures ∙ ap (λ (w : View). is_some (local_step w.program c.args.t c.args.here.now)) c.machine.ensures.shows)
+    (c.if-turn.ensures (look c.args.machine.now.view.program c.args.t c.args.here.now) c.requires.next)
     ∙ ap (λ (m : MachineView). Ok (parts m, None)) (sym c.copy_local.ensures)
 
 pub unreachable-requires : goal.unreachable-requires
 unreachable-requires c =
     not_refused c.args.machine.now.view.program (parts c.args.machine.now) c.args.t c.args.here.now c.in-Err.field-0
     c.requires.fine
-    (c.if-turn.ensures ∙ ap (λ (w : View). is_some (local_step w.program c.args.t c.args.here.now)) c.machine.ensures.shows)
+    (c.if-turn.ensures (look c.args.machine.now.view.program c.args.t c.args.here.now) c.requires.next)
     (subst (λ (m : MachineView). piece_of m.view.program (parts m) c.args.t ≡ Err c.in-Err.field-0) c.copy_local.ensures
     c.in-Err.ensures.err.0)

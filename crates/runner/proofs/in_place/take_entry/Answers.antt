@@ -1,38 +1,78 @@
--- The step behind the local steps is the machine's, or may not be.
-use Rattle.std.proofs.Common.{◌≡◌, ◌∙◌, Some, ap, is_some, refl, subst}
-use Rattle.locals.specs.Steps.{local_step}
+-- The thread has taken its local steps in its place.
+use Rattle.std.proofs.Common.{◌≡◌, Some, ap, arith, subst}
+use Rattle.isa.specs.Programs.{Program}
+use Rattle.locals.specs.Looks.{look}
+use Rattle.locals.specs.Requests.{next_step_of}
+use Rattle.locals.specs.Threads.{Thread}
 use Rattle.machine.specs.States.{thread_of}
 use Rattle.machine.specs.Views.{View, concrete}
 use Rattle.piece_machine.specs.PieceViews.{parts}
-use Rattle.runner.proofs.InPlace.{breaks_after, enters_by, led_to}
+use Rattle.runner.specs.Entries.{BreaksAfter}
+use Rattle.runner.specs.Logs.{EntersOwn}
+use Rattle.runner.specs.Reports.{IsHeldUp}
+use Rattle.runner.proofs.Walking.{if_err, walk_waits, walked_as, walked_awake, walked_made, walked_on}
 use Rattle.runner.proofs.in_place.take_entry.Goals as goal
 
-pub returns-in-Ok-clause-enters : goal.returns-in-Ok-clause-enters
-returns-in-Ok-clause-enters c =
-    let r = c.run_local.ensures.runs in
+pub end_entry-requires-clause-thread : goal.end_entry-requires-clause-thread
+end_entry-requires-clause-thread c =
     let old = c.args.machine.now in
-    let mid = c.run_local.new.self in
-    let at = subst (λ (w : View). thread_of (concrete w) c.args.t ≡ Some c.local.result.now) c.machine-2.ensures.shows
-    c.local.ensures in
-    let shared = c.if-is_before_local.ensures
-    ∙ ap (λ (w : View). is_some (local_step w.program c.args.t c.local.result.now)) c.machine.ensures.shows in
-    enters_by old.view.program mid.view.program (parts old) (parts mid) (parts c.step.new.self) c.args.t
-    c.run_local.result r.origin r.here c.local.result.now c.in-Ok.event c.requires.thread r.stands r.goes
-    (ap (λ v. v.program) r.after) (led_to old mid c.args.t r.here r.after c.run_local.ensures.phases) at shared
-    c.in-Ok.ensures.done
+    let mid = c.run_local-local.new.self in
+    walked_made old.view.program (parts old) (parts mid) c.args.t c.run_local-local.result
+    (walked_on old mid c.args.t c.run_local-local.result c.requires.thread c.run_local-local.ensures.runs
+    c.run_local-local.ensures.phases)
 
-pub returns-in-Err-clause-breaks : goal.returns-in-Err-clause-breaks
-returns-in-Err-clause-breaks c =
-    let r = c.run_local.ensures.runs in
+pub end_entry-requires-clause-awake : goal.end_entry-requires-clause-awake
+end_entry-requires-clause-awake c =
     let old = c.args.machine.now in
-    let mid = c.run_local.new.self in
-    let at = subst (λ (w : View). thread_of (concrete w) c.args.t ≡ Some c.local.result.now) c.machine-2.ensures.shows
-    c.local.ensures in
-    let shared = c.if-is_before_local.ensures
-    ∙ ap (λ (w : View). is_some (local_step w.program c.args.t c.local.result.now)) c.machine.ensures.shows in (
-      refl,
-      breaks_after old.view.program mid.view.program (parts old) (parts mid) c.args.t c.run_local.result r.origin r.here
-          c.local.result.now c.in-Err.field-0 c.requires.free c.requires.thread r.stands r.goes r.within r.whole
-          (ap (λ v. v.program) r.after) (led_to old mid c.args.t r.here r.after c.run_local.ensures.phases)
-          at shared c.in-Err.ensures.err.0,
-    )
+    let mid = c.run_local-local.new.self in
+    walked_awake old.view.program (parts old) (parts mid) c.args.t c.run_local-local.result
+    (walked_on old mid c.args.t c.run_local-local.result c.requires.thread c.run_local-local.ensures.runs
+    c.run_local-local.ensures.phases)
+
+pub end_entry-requires-clause-next : goal.end_entry-requires-clause-next
+end_entry-requires-clause-next c =
+    subst (λ (w : View). (x : Thread) → thread_of (concrete w) c.args.t ≡ Some x
+    → c.next_step-next.result ≡ next_step_of (look w.program c.args.t x)) c.machine.ensures.shows
+    c.next_step-next.ensures
+
+pub returns-clause-enters : goal.returns-clause-enters
+returns-clause-enters c =
+    let old = c.args.machine.now in
+    let mid = c.run_local-local.new.self in
+    let same = ap (λ (w : View). w.program) c.run_local-local.ensures.runs.after in
+    let w = walked_on old mid c.args.t c.run_local-local.result c.requires.thread c.run_local-local.ensures.runs
+    c.run_local-local.ensures.phases in
+    subst (λ (q : Program). EntersOwn q (parts old) c.end_entry.result.0 (parts c.end_entry.new.machine)) same
+    (c.end_entry.ensures.enters (parts old)
+    (walked_as old.view.program mid.view.program (parts old) (parts mid) c.args.t c.run_local-local.result same w))
+
+pub returns-clause-goes : goal.returns-clause-goes
+returns-clause-goes c =
+    let old = c.args.machine.now in
+    let mid = c.run_local-local.new.self in
+    let same = ap (λ (w : View). w.program) c.run_local-local.ensures.runs.after in
+    let w = walked_on old mid c.args.t c.run_local-local.result c.requires.thread c.run_local-local.ensures.runs
+    c.run_local-local.ensures.phases in
+    c.end_entry.ensures.goes (parts old)
+    (walked_as old.view.program mid.view.program (parts old) (parts mid) c.args.t c.run_local-local.result same w)
+
+pub returns-clause-breaks : goal.returns-clause-breaks
+returns-clause-breaks c =
+    let old = c.args.machine.now in
+    let mid = c.run_local-local.new.self in
+    let p = old.view.program in
+    let n = c.run_local-local.result in
+    let same = ap (λ (w : View). w.program) c.run_local-local.ensures.runs.after in
+    let w = walked_on old mid c.args.t n c.requires.thread c.run_local-local.ensures.runs
+    c.run_local-local.ensures.phases in
+    let w' = walked_as p mid.view.program (parts old) (parts mid) c.args.t n same w in
+    if_err _ _ c.end_entry.result.1
+    (λ fault h.
+    let b = h (parts old) w' (λ waits. c.requires.free
+    (subst (λ (q : Program). IsHeldUp q (parts old) c.args.t) same
+    (walk_waits mid.view.program (parts old) (parts mid) c.args.t n w' waits))) in
+    (b.0, subst (λ (q : Program). BreaksAfter q (parts old) c.args.t c.end_entry.result.0.local) same b.1))
+    c.end_entry.ensures.breaks
+
+pub returns-clause-turn : goal.returns-clause-turn
+returns-clause-turn c = omega (arith, c.end_entry.ensures.count, c.run_local-local.ensures.runs.within)

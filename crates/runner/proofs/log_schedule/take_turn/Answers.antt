@@ -1,12 +1,14 @@
 use Rattle.std.proofs.Common.{◌≡◌, ◌∙◌, ℕ, ap, sym, subst, arith, inl, Some}
 use Rattle.locals.specs.Steps.{local_after}
 use Rattle.machine.specs.ConcreteSteps.{can_move}
+use Rattle.machine.specs.States.{state_of}
 use Rattle.machine.specs.Views.{View, concrete}
 use Rattle.piece_machine.specs.PieceViews.{parts}
 use Rattle.runner.specs.LogSchedules.{shape_of}
 use Rattle.runner.specs.Logs.{EntersOwn, is_outside}
 use Rattle.runner.proofs.Growing.{entry}
-use Rattle.runner.proofs.InPlace.{led_to}
+use Rattle.runner.proofs.Walking.{led_to}
+use Rattle.runner.proofs.Handing.{up}
 use Rattle.runner.proofs.Once.{still_made}
 use Rattle.runner.proofs.Owning.{calm_kill, own_entry}
 use Rattle.runner.proofs.Turning.{no_mover, no_shared, takes_shared, too_few}
@@ -30,6 +32,15 @@ take_shared-requires-clause-thread c =
     let r = c.run_local.ensures.runs in
     still_made c.args.machine.now.view.threads c.run_local.new.self.view.threads c.args.entry.now.thread r.origin r.here r.stands
     (ap (λ v. v.threads) r.after)
+
+pub take_shared-requires-clause-awake : goal.take_shared-requires-clause-awake
+take_shared-requires-clause-awake c =
+    let r = c.run_local.ensures.runs in
+    let old = c.args.machine.now in
+    let moves = ap (λ (w : View). can_move (concrete w) c.args.entry.now.thread) (sym c.machine.ensures.shows)
+    ∙ sym c.can_move.ensures ∙ c.if-not-can_move.false in
+    ap (λ (w : View). (state_of (concrete w)).asleep c.args.entry.now.thread) r.after
+    ∙ (up (concrete old.view) c.args.entry.now.thread moves).awake
 
 pub returns-in_default-clause-none : goal.returns-in_default-clause-none
 returns-in_default-clause-none c =

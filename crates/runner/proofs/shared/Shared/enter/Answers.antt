@@ -1,10 +1,27 @@
-use Rattle.std.proofs.Common.{[], ◌∷◌, length, length-append, sym, subst, ap, ◌∙◌, arith}
+use Rattle.std.proofs.Common.{◌≡◌, [], ◌∷◌, length, length-append, sym, subst, ap, ◌∙◌, arith}
 use mir.Val.{bool_byte}
+use Rattle.locals.specs.Looks.{look}
+use Rattle.locals.specs.Requests.{next_step_of}
+use Rattle.machine.specs.Views.{View}
 use Rattle.piece_machine.specs.PieceViews.{parts}
 use Rattle.runner.specs.Views.{PieceView, LogState, SharedView, log_state}
 use Rattle.runner.specs.Entries.{IsFine}
 use Rattle.runner.proofs.Growing.{entry, keeps}
 use Rattle.runner.proofs.shared.Shared.enter.Goals as goal
+
+pub refusal-requires : goal.refusal-requires
+refusal-requires g c =
+    let same : c.machine.result.now.program ≡ g.J.RunName.program =
+    ap (λ (w : View). w.program) c.machine.ensures.shows ∙ c.self.invariant.0.program in
+    record {
+      next = c.next_step_at-next.ensures ∙ (λ j. next_step_of (look (same j) c.args.t
+          (ap (λ (x : PieceView). x.here) c.piece.view_is j)));
+    }
+
+pub enter-requires-clause-next : goal.enter-requires-clause-next
+enter-requires-clause-next g c =
+    c.next_step_at-next.ensures
+    ∙ ap (λ (w : View). next_step_of (look w.program c.args.t c.piece.inside.here)) c.machine.ensures.shows
 
 pub invariant_of-self-2 : goal.invariant_of-self-2
 invariant_of-self-2 g c =

@@ -1,0 +1,311 @@
+-- What comes of a thread that took the local steps of its turn, on the machine or ahead of it.
+use Rattle.std.proofs.Common.{◌≡◌, ◌≤◌, ◌<◌, ℕ, zero, suc, true, Option, Some, None, Ok, Err, Result}
+use Rattle.std.proofs.Common.{is_some, length, slice_set, false, ◌-◌, IfErr, refl, ap, sym, ◌∙◌, subst, arith}
+use Rattle.std.specs.Result.{result_and}
+use Rattle.isa.specs.Programs.{Program}
+use Rattle.locals.specs.declared.request.NextStep.{NextStep}
+use Rattle.locals.specs.Looks.{look}
+use Rattle.locals.specs.Requests.{next_step_of}
+use Rattle.locals.specs.Steps.{local_step, local_after}
+use Rattle.locals.specs.Threads.{Thread}
+use Rattle.machine.specs.ConcreteSteps.{can_move, fault_of}
+use Rattle.machine.specs.declared.event.Event.{Event}
+use Rattle.machine.specs.declared.event.StepFault.{StepFault}
+use Rattle.machine.specs.declared.event.StepFault.TheVariants.{Broken, CannotMove}
+use Rattle.machine.specs.LocalRuns.{RunsOn}
+use Rattle.machine.specs.States.{state_of, thread_of}
+use Rattle.machine.specs.Views.{View, concrete}
+use Rattle.machine.proofs.Placing.{thread_at-put}
+use Rattle.piece_machine.specs.PieceConcrete.{PieceConcrete, piece_fault_at, piece_of, with_local}
+use Rattle.piece_machine.specs.PieceViews.{PieceView as MachineView, GoesTo, parts}
+use Rattle.runner.specs.Entries.{BreaksAfter, entry_end}
+use Rattle.runner.specs.Logs.{EntersOwn}
+use Rattle.runner.specs.Reports.{IsHeldUp}
+use Rattle.runner.specs.Walks.{LooksFrom, Turns, Walked}
+use Rattle.runner.proofs.Growing.{entry}
+use Rattle.runner.proofs.Handing.{refused_at, refused_by, refused_end, up}
+use Rattle.runner.proofs.Once.{still_made}
+use Rattle.runner.proofs.Unrolling.{put_back}
+
+-- a machine whose thread went on by local steps
+pub led_to : (old mid : MachineView) (t : ℕ) (here : Thread)
+    → mid.view ≡ record old.view { threads = slice_set old.view.threads (t - 1) here } → mid.phases ≡ old.phases
+    → parts mid ≡ with_local (parts old) t here
+led_to old mid t here after phases =
+    λ i. parts (record { view = after i; phases = phases i })
+
+-- it stands there, awake
+pub walked_there : (p : Program) (k mid : PieceConcrete) (t n : ℕ) (w : Walked p k t n mid)
+    → thread_of mid.concrete t ≡ Some w.here
+walked_there p k mid t n w =
+    ap (λ (m : PieceConcrete). thread_of m.concrete t) w.there
+    ∙ thread_at-put k.concrete.threads t w.origin w.here w.stands
+
+pub walked_awake : (p : Program) (k mid : PieceConcrete) (t n : ℕ) → Walked p k t n mid
+    → mid.concrete.common.asleep t ≡ None
+walked_awake p k mid t n w =
+    ap (λ (m : PieceConcrete). m.concrete.common.asleep t) w.there ∙ (up k.concrete t w.moves).awake
+
+pub walked_made : (p : Program) (k mid : PieceConcrete) (t n : ℕ) → Walked p k t n mid
+    → (0 < t) × (t ≤ length mid.concrete.threads)
+walked_made p k mid t n w =
+    still_made k.concrete.threads mid.concrete.threads t w.origin w.here w.stands
+    (ap (λ (m : PieceConcrete). m.concrete.threads) w.there)
+
+-- before a local step its turn is over
+over : (n : ℕ) (o : Option Thread) → is_some o ≡ true → (n < 256 → o ≡ None) → 1 ≤ n
+over zero o some whole = absurd (cc (sym some ∙ ap is_some (whole (omega arith))))
+over (suc n) o some whole = omega arith
+
+pub turn_goes : (p : Program) (k mid : PieceConcrete) (t n : ℕ) (w : Walked p k t n mid)
+    → is_some (local_step p t w.here) ≡ true → 1 ≤ n
+turn_goes p k mid t n w some = over n (local_step p t w.here) some w.turns.whole
+
+-- its entry has those steps alone
+pub walk_enters : (p : Program) (k mid new : PieceConcrete) (t n : ℕ) → Walked p k t n mid → new ≡ mid
+    → EntersOwn p k (entry t n None) new
+walk_enters p k mid new t n w same = record {
+  origin = w.origin;
+  here = w.here;
+  stands = w.stands;
+  moves = w.moves;
+  goes = w.turns.goes;
+  ends = same ∙ w.there;
+}
+
+-- or a shared step behind them
+pub no_step : (o : Option Thread) → is_some o ≡ false → o ≡ None
+no_step None h = refl
+no_step (Some x) h = absurd cc
+
+some_step : (o : Option Thread) → is_some o ≡ true → o ≡ None → ⊥
+some_step o some none = absurd (cc (sym some ∙ ap is_some none))
+
+pub no_local : (p : Program) (t : ℕ) (x : Thread) → is_some (local_step p t x) ≡ true → local_step p t x ≡ None → ⊥
+no_local p t x some none = some_step (local_step p t x) some none
+
+pub step_enters : (p : Program) (k mid new : PieceConcrete) (t n : ℕ) (e : Event) (w : Walked p k t n mid)
+    → is_some (local_step p t w.here) ≡ false → piece_of p mid t ≡ Ok (new, e) → EntersOwn p k (entry t n (Some e)) new
+step_enters p k mid new t n e w shared steps = record {
+  origin = w.origin;
+  here = w.here;
+  stands = w.stands;
+  moves = w.moves;
+  goes = w.turns.goes;
+  ends = (
+    no_step (local_step p t w.here) shared,
+    ap (λ (m : PieceConcrete). piece_of p m t) (sym w.there) ∙ steps,
+  );
+}
+
+-- where that step is refused and doesn't wait for a held bucket, it may not be
+pub walk_breaks : (p : Program) (k mid : PieceConcrete) (t n : ℕ) (f : StepFault) (w : Walked p k t n mid)
+    → is_some (local_step p t w.here) ≡ false → piece_of p mid t ≡ Err f
+    → (entry_end p k t w.here ≡ Err CannotMove → ⊥) → BreaksAfter p k t n
+walk_breaks p k mid t n f w shared fails free = by f ends
+  where
+    ends : entry_end p k t w.here ≡ Err f
+    ends = refused_end (with_local k t w.here) (piece_of p (with_local k t w.here) t) (local_step p t w.here) f
+        (no_step (local_step p t w.here) shared)
+        (ap (λ (m : PieceConcrete). piece_of p m t) (sym w.there) ∙ fails)
+
+    by : (g : StepFault) → entry_end p k t w.here ≡ Err g → BreaksAfter p k t n
+    by Broken breaks = record { origin = w.origin; here = w.here; stands = w.stands; goes = w.turns.goes; breaks = breaks }
+    by CannotMove waits = absurd (free waits)
+
+-- a thread that stands before a shared step has taken them all
+abbrev pub walked_none : (p : Program) (k : PieceConcrete) (t : ℕ) (x : Thread) → thread_of k.concrete t ≡ Some x
+    → can_move k.concrete t ≡ true → is_some (local_step p t x) ≡ false → Walked p k t 0 k
+walked_none p k t x stands moves shared = record {
+  origin = x;
+  here = x;
+  stands = stands;
+  moves = moves;
+  turns = record { goes = refl; turn = omega arith; whole = λ less. no_step (local_step p t x) shared };
+  there = sym (put_back k t x stands);
+}
+
+-- the same by another name of the program
+abbrev pub walked_as : (p q : Program) (k mid : PieceConcrete) (t n : ℕ) → q ≡ p → Walked p k t n mid → Walked q k t n mid
+walked_as p q k mid t n same w = record {
+  origin = w.origin;
+  here = w.here;
+  stands = w.stands;
+  moves = w.moves;
+  turns = subst (λ (x : Program). Turns x t n w.origin w.here) (sym same) w.turns;
+  there = w.there;
+}
+
+-- a thread that went on in its place
+abbrev pub walked_on : (old mid : MachineView) (t n : ℕ) → can_move (concrete old.view) t ≡ true
+    → RunsOn old.view t 256 n mid.view → mid.phases ≡ old.phases → Walked old.view.program (parts old) t n (parts mid)
+walked_on old mid t n moves r phases = record {
+  origin = r.origin;
+  here = r.here;
+  stands = r.stands;
+  moves = moves;
+  turns = record { goes = r.goes; turn = r.within; whole = r.whole };
+  there = led_to old mid t r.here r.after phases;
+}
+
+-- where the step that it stands before waits for a bucket, it was held up
+pub walk_waits : (p : Program) (k mid : PieceConcrete) (t n : ℕ) (w : Walked p k t n mid)
+    → entry_end p k t w.here ≡ Err CannotMove → IsHeldUp p k t
+walk_waits p k mid t n w waits = record {
+  count = n;
+  origin = w.origin;
+  here = w.here;
+  moves = w.moves;
+  stands = w.stands;
+  goes = w.turns.goes;
+  turn = w.turns.turn;
+  whole = w.turns.whole;
+  waits = waits;
+}
+
+-- a thread that looked ahead, and was put there
+pub caught_up : (p : Program) (k mid : PieceConcrete) (t n : ℕ) (origin ahead here : Thread)
+    → thread_of k.concrete t ≡ Some origin → local_after p t n origin ≡ Some here → (0 < n → ahead ≡ here)
+    → (0 < n → mid ≡ with_local k t ahead) → (n ≡ 0 → mid ≡ k) → mid ≡ with_local k t here
+caught_up p k mid t zero origin ahead here stands goes is some none =
+    let e : origin ≡ here = cc in none refl ∙ sym (put_back k t here (stands ∙ ap Some e))
+caught_up p k mid t (suc n) origin ahead here stands goes is some none =
+    some (omega arith) ∙ ap (with_local k t) (is (omega arith))
+
+abbrev pub walked_ahead : (p : Program) (k mid : PieceConcrete) (t n : ℕ) (origin ahead : Thread) (next : NextStep)
+    → thread_of k.concrete t ≡ Some origin → can_move k.concrete t ≡ true → LooksFrom p t origin n next ahead
+    → (0 < n → mid ≡ with_local k t ahead) → (n ≡ 0 → mid ≡ k) → Walked p k t n mid
+walked_ahead p k mid t n origin ahead next stands moves l some none = record {
+  origin = origin;
+  here = l.here;
+  stands = stands;
+  moves = moves;
+  turns = l.turns;
+  there = caught_up p k mid t n origin ahead l.here stands l.turns.goes l.ahead_is some none;
+}
+
+-- its next step is the one that was seen ahead
+pub next_there : (p q : Program) (k mid : PieceConcrete) (t n : ℕ) (x : Thread) (next : NextStep) → q ≡ p
+    → (w : Walked p k t n mid) → next ≡ next_step_of (look p t w.here) → thread_of mid.concrete t ≡ Some x
+    → next ≡ next_step_of (look q t x)
+next_there p q k mid t n x next same w is at =
+    let both : Some w.here ≡ Some x = sym (walked_there p k mid t n w) ∙ at in
+    let e : w.here ≡ x = cc in
+    is ∙ (λ i. next_step_of (look (sym same i) t (e i)))
+
+-- what was seen ahead of a machine
+pub record Looked (v : View) (t n : ℕ) (next : NextStep) (ahead : Thread) : Type 0 where
+  pub origin : Thread
+  pub stands : thread_of (concrete v) t ≡ Some origin
+  pub looks : LooksFrom v.program t origin n next ahead
+
+pub looked : (v w : View) (t n : ℕ) (next : NextStep) (ahead : Thread) → w ≡ v → can_move (concrete v) t ≡ true
+    → ((x : Thread) → thread_of (concrete w) t ≡ Some x → LooksFrom w.program t x n next ahead)
+    → Looked v t n next ahead
+looked v w t n next ahead shows moves looks =
+    let u = up (concrete v) t moves in
+    let all = subst (λ (z : View). (x : Thread) → thread_of (concrete z) t ≡ Some x
+    → LooksFrom z.program t x n next ahead) shows looks in
+    record { origin = u.thread; stands = u.stands; looks = all u.thread u.stands }
+
+pub goes_ahead : (v : View) (t n : ℕ) (next : NextStep) (ahead : Thread) (l : Looked v t n next ahead)
+    → GoesTo v t l.looks.here
+goes_ahead v t n next ahead l =
+    record { origin = l.origin; count = n; stands = l.stands; goes = l.looks.turns.goes }
+
+pub goes_there : (v : View) (t n : ℕ) (next : NextStep) (ahead : Thread) → Looked v t n next ahead → 0 < n
+    → GoesTo v t ahead
+goes_there v t n next ahead l some =
+    subst (λ (x : Thread). GoesTo v t x) (sym (l.looks.ahead_is some)) (goes_ahead v t n next ahead l)
+
+abbrev pub walked_after : (old mid : MachineView) (t n : ℕ) (next : NextStep) (ahead : Thread)
+    → can_move (concrete old.view) t ≡ true → Looked old.view t n next ahead
+    → (0 < n → parts mid ≡ with_local (parts old) t ahead) → (n ≡ 0 → mid ≡ old)
+    → Walked old.view.program (parts old) t n (parts mid)
+walked_after old mid t n next ahead moves l some none =
+    walked_ahead old.view.program (parts old) (parts mid) t n l.origin ahead next l.stands moves l.looks some
+    (λ is. ap (λ (m : MachineView). parts m) (none is))
+
+pub held_ahead : (p : Program) (k : PieceConcrete) (t n : ℕ) (origin ahead : Thread) (next : NextStep)
+    → thread_of k.concrete t ≡ Some origin → can_move k.concrete t ≡ true → (l : LooksFrom p t origin n next ahead)
+    → piece_fault_at p k t l.here ≡ Some CannotMove → IsHeldUp p k t
+held_ahead p k t n origin ahead next stands moves l waits = record {
+  count = n;
+  origin = origin;
+  here = l.here;
+  moves = moves;
+  stands = stands;
+  goes = l.turns.goes;
+  turn = l.turns.turn;
+  whole = l.turns.whole;
+  waits = refused_at p p k t origin l.here CannotMove refl (up k.concrete t moves).awake stands (sym waits);
+}
+
+-- where no bucket is in its way there, its entry doesn't wait for one
+pub free_ahead : (p : Program) (k : PieceConcrete) (t : ℕ) (here : Thread)
+    → (piece_fault_at p k t here ≡ Some CannotMove → ⊥) → entry_end p k t here ≡ Err CannotMove → ⊥
+free_ahead p k t here free waits =
+    let there = with_local k t here in
+    let b = refused_by there (piece_of p there t) (local_step p t here) CannotMove waits in
+    free (ap fault_of b.1)
+
+-- what was seen of the thread where it stands, and behind its local steps
+pub looks_here : (p : Program) (t : ℕ) (x ahead : Thread) (next : NextStep) → next ≡ next_step_of (look p t x)
+    → is_some (local_step p t x) ≡ false → LooksFrom p t x 0 next ahead
+looks_here p t x ahead next is shared = record {
+  here = x;
+  turns = record { goes = refl; turn = omega arith; whole = λ less. no_step (local_step p t x) shared };
+  next_is = is;
+  ahead_is = λ less. absurd (omega (arith, less));
+}
+
+pub looks_on : (p q : Program) (t n : ℕ) (x y here : Thread) (next : NextStep) → q ≡ p → y ≡ x
+    → local_after q t n y ≡ Some here → n ≤ 256 → (n < 256 → local_step q t here ≡ None)
+    → next ≡ next_step_of (look p t here) → LooksFrom p t x n next here
+looks_on p q t n x y here next same from goes turn whole is = record {
+  here = here;
+  turns = record {
+    goes = (λ i. local_after (sym same i) t n (sym from i)) ∙ goes;
+    turn = turn;
+    whole = λ less. ap (λ z. local_step z t here) (sym same) ∙ whole less;
+  };
+  next_is = is;
+  ahead_is = λ less. refl;
+}
+
+-- a thread that was put where its local steps led
+abbrev pub IsPut : MachineView → ℕ → Thread → MachineView → Type 0
+IsPut old t here new =
+    new ≡ record old { view = record old.view { threads = slice_set old.view.threads (t - 1) here } }
+
+pub put_made : (old new : MachineView) (t : ℕ) (origin here : Thread) → thread_of (concrete old.view) t ≡ Some origin
+    → IsPut old t here new → (0 < t) × (t ≤ length new.view.threads)
+put_made old new t origin here stands is =
+    still_made old.view.threads new.view.threads t origin here stands (ap (λ (m : MachineView). m.view.threads) is)
+
+pub put_awake : (old new : MachineView) (t : ℕ) (here : Thread) → can_move (concrete old.view) t ≡ true
+    → IsPut old t here new → (state_of (concrete new.view)).asleep t ≡ None
+put_awake old new t here moves is =
+    ap (λ (m : MachineView). (state_of (concrete m.view)).asleep t) is ∙ (up (concrete old.view) t moves).awake
+
+pub put_next : (old new : MachineView) (t : ℕ) (origin here x : Thread) (next : NextStep)
+    → thread_of (concrete old.view) t ≡ Some origin → IsPut old t here new
+    → next ≡ next_step_of (look old.view.program t here) → thread_of (concrete new.view) t ≡ Some x
+    → next ≡ next_step_of (look new.view.program t x)
+put_next old new t origin here x next stands is next_is at =
+    let both : Some here ≡ Some x = sym (ap (λ (m : MachineView). thread_of (concrete m.view) t) is
+    ∙ thread_at-put old.view.threads t origin here stands) ∙ at in
+    let e : here ≡ x = cc in
+    let same : new.view.program ≡ old.view.program = ap (λ (m : MachineView). m.view.program) is in
+    next_is ∙ (λ i. next_step_of (look (sym same i) t (e i)))
+
+-- what holds of a fault, and so something else does
+pub if_err : {A E : Type 0} → (P Q : E → Type 0) (r : Result A E) → ((e : E) → P e → Q e) → IfErr r P → IfErr r Q
+if_err P Q (Ok x) f h = h
+if_err P Q (Err e) f h = f e h
+
+-- an outcome behind which there is more to say
+pub and_err : {A B E : Type 0} → (P : E → Type 0) (r : Result A E) (b : B) (out : Result B E) → out ≡ result_and r (Ok b)
+    → IfErr r P → IfErr out P
+and_err P (Ok x) b out is h = subst (λ o. IfErr o P) (sym is) tt
+and_err P (Err e) b out is h = subst (λ o. IfErr o P) (sym is) h
