@@ -1,0 +1,14 @@
+//! What one process of a source program reaches by its own actions, whatever the other processes are.
+#![tactic(auto)]
+
+mod each_set;
+mod follow;
+mod next;
+mod own;
+mod reaching;
+
+pub use each_set::sets;
+pub use follow::{Followed, follow_own, is_lost, looks_calm};
+pub use next::next_state;
+pub use own::own_actions;
+pub use reaching::{End, ends};
