@@ -1,0 +1,134 @@
+-- What is covered behind the actions of one process, and behind those of all.
+use Rattle.std.proofs.Common.{◌≡◌, ◌<◌, ◌+◌, ℕ, zero, suc, List, [], ◌∷◌, ◌++◌, length, get_or, map, slice_get, take}
+use Rattle.std.proofs.Common.{Option, Some, None, All, Bool, refl, sym, ap, ◌∙◌, subst, arith, false, true, inl, inr}
+use Rattle.std.specs.Prelude.{IsSome}
+use Rattle.std.proofs.lemmas.List.{map_more}
+use Rattle.std.proofs.lemmas.List.Elements.{All-push, All-weaker}
+use Rattle.std.proofs.lemmas.Option.{slice_get_within}
+use Rattle.program.specs.Trees.{Program}
+use Rattle.meaning.specs.Processes.{Process}
+use Rattle.meaning.specs.Runs.{CanMove}
+use Rattle.meaning.specs.States.{SourceState}
+use Rattle.proof_exploration.specs.Exploring.{IsLike}
+use Rattle.proof_exploration.specs.Searching.{IsCovered}
+use Rattle.proof_exploration.proofs.Representing.{grown, like_covered}
+use Rattle.source_states.specs.States.{state_of}
+use Rattle.source_reaching.specs.Among.{AreCovered, AreEnds, IsAheadAmong, LeadsOwn, among}
+use Rattle.source_reaching.specs.Choices.{by}
+use Rattle.source_reaching.specs.Covered.{IsAhead}
+use Rattle.source_reaching.specs.Ends.{ends_in}
+use Rattle.source_reaching.specs.declared.reaching.End.{End}
+use Rattle.source_reaching.proofs.Ahead.{ahead_then, covered_to}
+use Rattle.source_reaching.proofs.Among.{can_up}
+use Rattle.source_search.specs.Covered.{IsAheadOf, IsCoveredSo, IsFollowedOwn}
+use Rattle.source_search.specs.Found.{IsFrom, is_any, killed_in}
+use Rattle.source_search.specs.declared.outside.Outside.{Outside}
+use Rattle.source_search.specs.Packed.{some_process, unpacked}
+use Rattle.source_search.specs.Spots.{IsAlone, IsMergedOf, IsSpotOf}
+use Rattle.source_search.specs.Kept.{IsExpanded, IsLonger, IsSeen}
+use Rattle.source_search.specs.declared.packed.Packed.{Packed as PackedOf}
+use Rattle.source_search.specs.declared.parts.Parts.{Parts as PartsOf}
+use Rattle.source_search.specs.declared.spot.Spot.{Spot as SpotOf}
+use Rattle.source_search.proofs.Keeping.{all_contained, none_kills, none_strays}
+use Rattle.source_search.proofs.Merging.{among_spot}
+
+module _ (p : Program) where
+  pub covered_like : (kept : List SourceState) (s r : SourceState) → IsCoveredSo p kept s
+      → IsLike s r → IsCoveredSo p kept r
+  covered_like kept s r is like = (is.0, like_covered p kept is.0 s r like is.1)
+
+  pub covered_still : (kept kept' : List SourceState) → IsLonger kept kept' → (s : SourceState)
+      → IsCoveredSo p kept s → IsCoveredSo p kept' s
+  covered_still kept kept' longer s is = (is.0, grown p kept kept' (all_contained kept kept' longer) is.0 s is.1)
+
+  -- what a process's own actions lead to stays covered
+  pub own_still : (kept kept' : List SourceState) → IsLonger kept kept' → (s : SourceState) (t : ℕ)
+      → IsFollowedOwn p kept s t → IsFollowedOwn p kept' s t
+  own_still kept kept' longer s t own kind = (
+    (own kind).0,
+    λ s' x. grown p kept kept' (all_contained kept kept' longer) (own kind).0 s' ((own kind).1 s' x),
+  )
+
+  -- a process that was followed, with the others of a kept state beside it
+  pub ahead_merged : (parts parts' : PartsOf) (x y : PackedOf) (place : ℕ) (spot : SpotOf) (s s' : SourceState)
+      → IsSpotOf x place spot → IsAlone parts spot s → IsAheadAmong p spot.process s s' → IsMergedOf parts parts' x s' y
+      → IsAheadOf p parts parts' x y
+  ahead_merged parts parts' x y place spot s s' is single ahead merged = record {
+    within = merged.within;
+    ahead = subst (λ r. IsAhead p r (unpacked parts' y))
+        (ap (among (unpacked parts x).process) single.same ∙ among_spot parts x place spot is)
+        (λ kept n covered. (ahead single.stands).1 (unpacked parts x).process kept n
+        (like_covered p kept n (unpacked parts' y) (among (unpacked parts x).process s') merged.like covered));
+  }
+
+  -- one end more is covered
+  pub ends_more : (kept kept' : List SourceState) → IsLonger kept kept' → (others : ℕ → Option Process)
+      (ends : List End) (k : ℕ) (e : End) → k < length ends → e ≡ get_or ends k e
+      → (n : ℕ) × AreCovered p kept n others (ends_in (take k ends))
+      → IsCoveredSo p kept' (among others (state_of e.state))
+      → (n : ℕ) × AreCovered p kept' n others (ends_in (take (k + 1) ends))
+  ends_more kept kept' longer others ends k e less is all one = (
+    all.0 + one.0,
+    subst (All (Covered (all.0 + one.0)))
+        (sym (map_more (λ (e : End). state_of e.state) ends k e less
+        ∙ ap (λ (e : End). ends_in (take k ends) ++ state_of e.state ∷ []) (sym is)))
+        (All-push (Covered (all.0 + one.0)) (ends_in (take k ends)) (state_of e.state)
+        (All-weaker (λ s. IsCovered p kept all.0 (among others s)) (Covered (all.0 + one.0))
+        (λ s c. covered_to p kept' all.0 one.0 (all.0 + one.0) (among others s) (omega arith)
+        (grown p kept kept' (all_contained kept kept' longer) all.0 (among others s) c))
+        (ends_in (take k ends)) all.1)
+        (covered_to p kept' one.0 all.0 (all.0 + one.0) (among others (state_of e.state)) (omega arith) one.1)),
+  )
+    where
+      abbrev Covered : ℕ → SourceState → Type 0
+      Covered n s = IsCovered p kept' n (among others s)
+
+  pub ends_none : (kept : List SourceState) (others : ℕ → Option Process) (ends : List End)
+      → (n : ℕ) × AreCovered p kept n others (ends_in (take 0 ends))
+  ends_none kept others ends = (zero, λ k d l. absurd (let no : k < length (ends_in (take 0 ends)) = l in omega (arith, no)))
+
+  -- then so is what each of the process's own actions leads to
+  pub followed_own : (kept : List SourceState) (parts : PartsOf) (x : PackedOf) (place : ℕ) (spot : SpotOf)
+      (s : SourceState) (ends : List SourceState) → IsSpotOf x place spot → IsAlone parts spot s
+      → AreEnds p spot.process s ends → (n : ℕ) × AreCovered p kept n (unpacked parts x).process ends
+      → IsFollowedOwn p kept (unpacked parts x) (suc place)
+  followed_own kept parts x place spot s ends is single are covered kind =
+      subst (λ t. LeadsOwn p kept (unpacked parts x) (by t kind)) is.process
+      (subst (λ r. LeadsOwn p kept r (by spot.process kind))
+      (ap (among (unpacked parts x).process) single.same ∙ among_spot parts x place spot is)
+      (are kind single.stands (unpacked parts x).process kept covered.0 covered.1))
+
+  pub moves_too : (parts : PartsOf) (x : PackedOf) (place : ℕ) (spot : SpotOf) (s : SourceState) → IsSpotOf x place spot
+      → IsAlone parts spot s → CanMove p s spot.process → CanMove p (unpacked parts x) (suc place)
+  moves_too parts x place spot s is single can =
+      subst (CanMove p (unpacked parts x)) is.process
+      (subst (λ r. CanMove p r spot.process)
+      (ap (among (unpacked parts x).process) single.same ∙ among_spot parts x place spot is)
+      (can_up (unpacked parts x).process p s spot.process can))
+
+  -- of all processes, where nothing from outside is searched
+  module _ (may : Outside) (none : is_any may ≡ false) (kept : List SourceState) (parts : PartsOf) (x : PackedOf)
+      (all : (place : ℕ) → place < length x.processes.items → IsFollowedOwn p kept (unpacked parts x) (suc place)) where
+    own_at : (t : ℕ) → IsSome ((unpacked parts x).process t) → IsFollowedOwn p kept (unpacked parts x) t
+    own_at zero is = absurd (let no : false ≡ true = is in cc)
+    own_at (suc j) is = here (slice_get x.processes.items j) refl is
+      where
+        here : (o : Option ℕ) → slice_get x.processes.items j ≡ o
+            → IsSome (some_process parts.processes.items (slice_get x.processes.items j))
+            → IsFollowedOwn p kept (unpacked parts x) (suc j)
+        here (Some n) e is = all j (slice_get_within x.processes.items j n e)
+        here None e is = absurd (let no : false ≡ true =
+            subst (λ o. IsSome (some_process parts.processes.items o)) e is in cc)
+
+    seen : (b : Bool) → is_any may ≡ b → (s : SourceState) → IsCoveredSo p kept s → IsSeen p b kept s
+    seen true e s is = absurd (let differ : true ≡ false = sym e ∙ none in cc)
+    seen false e s is = is
+
+    pub expanded_own : IsExpanded p may kept (unpacked parts x)
+    expanded_own a there from s' (inl y) =
+        let leads : LeadsOwn p kept (unpacked parts x) a = own_at a.process there a.kind in
+        seen (is_any may) refl s' (leads.0, leads.1 s' y)
+    expanded_own a there from s' (inr (inl y)) =
+        absurd (none_strays may none (subst (IsFrom may (unpacked parts x)) y.1 from))
+    expanded_own a there from s' (inr (inr y)) =
+        absurd (none_kills may (killed_in (unpacked parts x)) none (subst (IsFrom may (unpacked parts x)) y.2 from))
