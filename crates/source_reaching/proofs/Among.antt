@@ -15,7 +15,7 @@ use Rattle.source_reaching.specs.Choices.{by}
 use Rattle.source_reaching.specs.Covered.{IsFollowable}
 
 module _ (others : ℕ → Option Process) where
-  beside : (ℕ → Option Process) → ℕ → Option Process
+  abbrev beside : (ℕ → Option Process) → ℕ → Option Process
   beside f q = or_else (f q) (others q)
 
   beside_put : (f : ℕ → Option Process) (k : ℕ) (y : Process)
@@ -41,7 +41,7 @@ module _ (others : ℕ → Option Process) where
 
   module _ (p : Program) (s : SourceState) (a : Action) (s' : SourceState) where
     -- an action is possible with others beside, and leads there with them beside
-    unfoldable pub action_up : (x : IsAction p s a s') → IsAction p (among others s) a (among others s')
+    pub action_up : (x : IsAction p s a s') → IsAction p (among others s) a (among others s')
     action_up x = record {
       before = x.before;
       after = x.after;
@@ -53,7 +53,7 @@ module _ (others : ℕ → Option Process) where
       allows = x.allows;
       variables = x.variables;
       printed = x.printed;
-      processes = ap (λ (f : ℕ → Option Process) (q : ℕ). or_else (f q) (others q)) x.processes
+      processes = ap beside x.processes
           ∙ beside_done x.effect s.process a.process x.after;
     }
 
@@ -70,7 +70,7 @@ module _ (others : ℕ → Option Process) where
       allows = x.allows;
       variables = x.variables;
       printed = x.printed;
-      processes = ap (λ (f : ℕ → Option Process) (q : ℕ). or_else (f q) (others q)) x.processes
+      processes = ap beside x.processes
           ∙ beside_put s.process a.process (Dying Killed x.monitors);
     }
 
@@ -83,7 +83,7 @@ module _ (others : ℕ → Option Process) where
         allows = x.2.allows;
         variables = x.2.variables;
         printed = x.2.printed;
-        processes = ap (λ (f : ℕ → Option Process) (q : ℕ). or_else (f q) (others q)) x.2.processes;
+        processes = ap beside x.2.processes;
       },
     ))
     step_up (inr (inr x)) = inr (inr (x.0, x.1, x.2, kill_up x.0 x.1 x.3))
@@ -117,12 +117,13 @@ module _ (others : ℕ → Option Process) where
   like_among s r like = record {
     table = like.table;
     variable = like.variable;
-    process = ap (λ (f : ℕ → Option Process) (q : ℕ). or_else (f q) (others q)) like.process;
+    process = ap beside like.process;
   }
 
   -- who can be followed can be with others beside
   pub followable_among : (p : Program) (s : SourceState) (t : ℕ) (actions : _) → IsSome (s.process t)
       → IsFollowable p s t actions → IsFollowable p (among others s) t actions
+  unfolding action_up
   followable_among p s t actions there is = record {
     calm = record {
       kind = (is.calm).kind;
