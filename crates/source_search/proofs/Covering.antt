@@ -1,6 +1,6 @@
 -- What is covered behind the actions of one process, and behind those of all.
 use Rattle.std.proofs.Common.{◌≡◌, ◌<◌, ◌+◌, ℕ, zero, suc, List, [], ◌∷◌, ◌++◌, length, get_or, map, slice_get, take}
-use Rattle.std.proofs.Common.{Option, Some, None, All, Bool, refl, sym, ap, ◌∙◌, subst, arith, false, true, inl, inr}
+use Rattle.std.proofs.Common.{Option, Some, None, All, refl, sym, ap, ◌∙◌, subst, arith, false, true, inl, inr}
 use Rattle.std.specs.Prelude.{IsSome}
 use Rattle.std.proofs.lemmas.List.{map_more}
 use Rattle.std.proofs.lemmas.List.Elements.{All-push, All-weaker}
@@ -25,11 +25,11 @@ use Rattle.source_search.specs.Found.{IsFrom, is_any, killed_in}
 use Rattle.source_search.specs.declared.outside.Outside.{Outside}
 use Rattle.source_search.specs.Packed.{some_process, unpacked}
 use Rattle.source_search.specs.Spots.{IsAlone, IsMergedOf, IsSpotOf}
-use Rattle.source_search.specs.Kept.{IsExpanded, IsLonger, IsSeen}
+use Rattle.source_search.specs.Kept.{IsExpanded, IsLonger}
 use Rattle.source_search.specs.declared.packed.Packed.{Packed as PackedOf}
 use Rattle.source_search.specs.declared.parts.Parts.{Parts as PartsOf}
 use Rattle.source_search.specs.declared.spot.Spot.{Spot as SpotOf}
-use Rattle.source_search.proofs.Keeping.{all_contained, none_kills, none_strays}
+use Rattle.source_search.proofs.Keeping.{all_contained, none_kills, none_strays, seen_covered}
 use Rattle.source_search.proofs.Merging.{among_spot}
 
 module _ (p : Program) where
@@ -120,14 +120,10 @@ module _ (p : Program) where
         here None e is = absurd (let no : false ≡ true =
             subst (λ o. IsSome (some_process parts.processes.items o)) e is in cc)
 
-    seen : (b : Bool) → is_any may ≡ b → (s : SourceState) → IsCoveredSo p kept s → IsSeen p b kept s
-    seen true e s is = absurd (let differ : true ≡ false = sym e ∙ none in cc)
-    seen false e s is = is
-
     pub expanded_own : IsExpanded p may kept (unpacked parts x)
     expanded_own a there from s' (inl y) =
         let leads : LeadsOwn p kept (unpacked parts x) a = own_at a.process there a.kind in
-        seen (is_any may) refl s' (leads.0, leads.1 s' y)
+        seen_covered p (is_any may) kept s' none (leads.0, leads.1 s' y)
     expanded_own a there from s' (inr (inl y)) =
         absurd (none_strays may none (subst (IsFrom may (unpacked parts x)) y.1 from))
     expanded_own a there from s' (inr (inr y)) =

@@ -13,7 +13,7 @@ use Rattle.meaning.specs.Labels.{Action}
 use Rattle.meaning.specs.Runs.{IsStep}
 use Rattle.meaning.specs.States.{SourceState}
 use Rattle.proof_exploration.specs.Exploring.{IsLike}
-use Rattle.proof_exploration.specs.Searching.{IsKept}
+use Rattle.proof_exploration.specs.Searching.{IsCovered, IsKept}
 use Rattle.proof_exploration.proofs.Alike.{like_self, like_trans}
 use Rattle.proof_exploration.proofs.Representing.{grown, like_covered}
 use Rattle.source_states.specs.Actions.{action_of}
@@ -84,6 +84,12 @@ pub seen_kept : (p : Program) (strays : Bool) (kept : List SourceState) (s : Sou
     → IsSeen p strays kept s
 seen_kept p true kept s is = is
 seen_kept p false kept s is = (zero, is)
+
+-- where nothing from outside is searched, what is covered is seen
+pub seen_covered : (p : Program) (strays : Bool) (kept : List SourceState) (s : SourceState) → strays ≡ false
+    → (n : ℕ) × IsCovered p kept n s → IsSeen p strays kept s
+seen_covered p true kept s e is = absurd (let differ : true ≡ false = e in cc)
+seen_covered p false kept s e is = is
 
 pub seen_like : (p : Program) (strays : Bool) (kept : List SourceState) (s r : SourceState) → IsSeen p strays kept s
     → IsLike s r → IsSeen p strays kept r

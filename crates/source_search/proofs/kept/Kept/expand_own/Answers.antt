@@ -1,4 +1,4 @@
-use Rattle.std.proofs.Common.{◌≡◌, ◌<◌, ◌||◌, ℕ, Bool, suc, arith, absurd, below_more, false, true, subst, sym, ap, ◌∙◌}
+use Rattle.std.proofs.Common.{◌≡◌, ℕ, suc, arith, absurd, below_more, false, true, subst}
 use Rattle.program.specs.Views.{program_of}
 use Rattle.meaning.specs.Runs.{CanMove}
 use Rattle.source_search.specs.Covered.{IsFollowedOwn}
@@ -23,7 +23,27 @@ follow_own-requires-clause-within c = within_still c.args.self.now.parts c.loop-
     c.loop-place.invariant.grown c.args.packed.now c.requires.within
 
 pub loop-place-preserved : goal.loop-place-preserved
-loop-place-preserved c = ?
-
-pub returns-clause-followed : goal.returns-clause-followed
-returns-clause-followed c = ?
+loop-place-preserved c =
+    let p = program_of c.args.checked.now.tree in
+    let x = c.args.packed.now in
+    let s = unpacked c.args.self.now.parts x in
+    let kept = states_of c.loop-place.self in
+    let kept' = states_of c.follow_own.new.self in
+    let k = c.loop-place.place in
+    let still : unpacked c.loop-place.self.parts x ≡ s =
+    unpacked_still c.args.self.now.parts c.loop-place.self.parts c.loop-place.invariant.grown x c.requires.within in
+    let own : IsFollowedOwn p kept' (unpacked c.loop-place.self.parts x) (suc k) =
+    rw c.in-Some.is at c.in_ok-able.ensures.followed in
+    let can : c.in-Some.able ≡ true → CanMove p (unpacked c.loop-place.self.parts x) (suc k) =
+    rw c.in-Some.is at c.in_ok-able.ensures.moves in
+    record {
+      sound = c.in_ok-able.ensures.sound;
+      grown = grown_twice c.args.self.now.parts c.loop-place.self.parts c.follow_own.new.self.parts
+          c.loop-place.invariant.grown c.in_ok-able.ensures.grown;
+      longer = longer_twice (states_of c.args.self.now) kept kept' c.loop-place.invariant.longer
+          c.in_ok-able.ensures.longer;
+      followed = below_more (λ j. IsFollowedOwn p kept' s (suc j)) k
+          (λ j l. own_still p kept kept' c.in_ok-able.ensures.longer s (suc j) (c.loop-place.invariant.followed j l))
+          (subst (λ r. IsFollowedOwn p kept' r (suc k)) still own);
+      moves = ?;
+    }
