@@ -5,7 +5,7 @@ pub mod Kills
 pub mod Successors
 pub mod Endings
 pub mod Packing
-pub mod Merging
+pub mod Merged
 pub mod Keeping
-pub mod Covering
+pub mod Coverage
 pub mod Searched

@@ -74,8 +74,8 @@ impl<'a> Parts<'a> {
         trail: &mut Vec<Action>,
     ) -> Result<Option<Packed>, AllocError>
         ensures grown { OnOk result (IsGrown self.old self.new) }
-        ensures ahead { IsWithin self.old packed.entry → IfOk result (λ o. IfSome o
-            (λ x. IsAheadOf (program_of checked.now.tree) self.old self.new packed.entry x)) }
+        ensures ahead { IsWithin self.old packed → IfOk result (λ o. IfSome o
+            (λ x. IsAheadOf (program_of checked.now.tree) self.old self.new packed x)) }
     {
         let mut settled = packed;
         for _ in 0..MOST {

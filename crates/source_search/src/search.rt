@@ -251,6 +251,47 @@ impl Findings {
         Ok(all)
     }
 
+    // Notes a kept state in which a process has aborted.
+    fn note_failed(&mut self, parts: &Parts, packed: &Packed, place: usize, outside: Outside)
+        ensures complete { self.new.complete ≡ self.old.complete }
+        ensures stuck { self.new.stuck ≡ self.old.stuck }
+        ensures aborted { self.new.aborted ≡ None → (self.old.aborted ≡ None)
+            × (HasFailed outside (unpacked parts.now packed.now) → ⊥) }
+    {
+        if self.aborted.is_none() && some_part_failed(parts, packed, outside) {
+            self.aborted = Some(place);
+        }
+    }
+
+    // Notes one in which no process can move, and some process isn't over, where it is known whether one was seen to
+    // move; false where it can't be told.
+    fn note_stuck<'a>(
+        &mut self,
+        alloc: Global,
+        checked: &'a Checked,
+        parts: &Parts<'a>,
+        packed: &Packed,
+        place: usize,
+        moves: bool,
+    ) -> Result<bool, AllocError>
+        requires { moves ≡ true → (t : ℕ) × CanMove (program_of checked.now.tree) (unpacked parts.now packed.now) t }
+        ensures complete { OnOk result (self.new.complete ≡ self.old.complete) }
+        ensures aborted { OnOk result (self.new.aborted ≡ self.old.aborted) }
+        ensures stuck { IfOk result (λ told. told ≡ true → self.new.stuck ≡ None → (self.old.stuck ≡ None)
+            × (IsStuck (program_of checked.now.tree) (unpacked parts.now packed.now) → ⊥)) }
+    {
+        if self.stuck.is_some() {
+            return Ok(true);
+        }
+        let Some(stuck) = is_stuck_at(alloc, checked, parts, packed, moves)? else {
+            return Ok(false);
+        };
+        if stuck {
+            self.stuck = Some(place);
+        }
+        Ok(true)
+    }
+
     // The same with nothing from outside, by the parts of the state.
     fn look_own<'a>(
         &mut self,
@@ -271,22 +312,12 @@ impl Findings {
         let Some(packed) = kept.packed_at(alloc, place)? else {
             return Ok(false);
         };
-        if self.aborted.is_none() && some_part_failed(&kept.parts, &packed, outside) {
-            self.aborted = Some(place);
-        }
+        self.note_failed(&kept.parts, &packed, place, outside);
         let Some(moves) = kept.expand_own(alloc, checked, &packed, place)? else {
             return Ok(false);
         };
-        if self.stuck.is_some() {
-            return Ok(true);
-        }
-        let Some(stuck) = is_stuck_at(alloc, checked, &kept.parts, &packed, moves)? else {
-            return Ok(false);
-        };
-        if stuck {
-            self.stuck = Some(place);
-        }
-        Ok(true)
+        let told = self.note_stuck(alloc, checked, &kept.parts, &packed, place, moves)?;
+        Ok(told)
     }
 
     // Looks at the state that is kept at a place, and keeps what may come next, or covers it; false where no more can be

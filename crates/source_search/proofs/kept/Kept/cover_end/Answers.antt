@@ -4,7 +4,7 @@ use Rattle.source_states.specs.States.{state_of}
 use Rattle.source_search.specs.Kept.{states_in, states_of}
 use Rattle.source_search.specs.Packed.{unpacked}
 use Rattle.source_search.specs.Spots.{IsMergedOf}
-use Rattle.source_search.proofs.Covering.{covered_like}
+use Rattle.source_search.proofs.Coverage.{covered_like}
 use Rattle.source_search.proofs.Keeping.{longer_still, longer_twice}
 use Rattle.source_search.proofs.Packing.{grown_twice, sound_still}
 use Rattle.source_search.proofs.kept.Kept.cover_end.Goals as goal

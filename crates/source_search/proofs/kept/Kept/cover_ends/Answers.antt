@@ -3,11 +3,12 @@ use Rattle.std.proofs.lemmas.List.{take_all}
 use Rattle.program.specs.Views.{program_of}
 use Rattle.source_reaching.specs.Among.{AreCovered, among}
 use Rattle.source_reaching.specs.Ends.{ends_in}
+use Rattle.source_reaching.specs.declared.reaching.End.{End}
 use Rattle.source_states.specs.States.{state_of}
 use Rattle.source_search.specs.Covered.{IsCoveredSo}
 use Rattle.source_search.specs.Kept.{states_of}
 use Rattle.source_search.specs.Packed.{unpacked}
-use Rattle.source_search.proofs.Covering.{ends_more, ends_none}
+use Rattle.source_search.proofs.Coverage.{ends_more, ends_none}
 use Rattle.source_search.proofs.Keeping.{longer_none, longer_twice}
 use Rattle.source_search.proofs.Packing.{grown_none, grown_twice, unpacked_still, within_still}
 use Rattle.source_search.proofs.kept.Kept.cover_ends.Goals as goal
@@ -17,8 +18,8 @@ loop-k-init c = record {
   sound = c.requires.sound;
   grown = grown_none c.args.self.now.parts;
   longer = longer_none (states_of c.args.self.now);
-  covered = ends_none (program_of c.args.checked.now.tree) (states_of c.args.self.now)
-      (unpacked c.args.self.now.parts c.args.packed.now).process c.args.ends.now;
+  covered = ends_none (program_of c.args.checked.now.tree) (λ (e : End). state_of e.state)
+      (unpacked c.args.self.now.parts c.args.packed.now).process c.args.ends.now (states_of c.args.self.now);
 }
 
 pub cover_end-requires-clause-within : goal.cover_end-requires-clause-within
@@ -41,8 +42,8 @@ loop-k-preserved c =
           c.in_ok-cover_end.ensures.grown;
       longer = longer_twice (states_of c.args.self.now) kept kept' c.loop-k.invariant.longer
           c.in_ok-cover_end.ensures.longer;
-      covered = ends_more p kept kept' c.in_ok-cover_end.ensures.longer (unpacked c.args.self.now.parts x).process
-          c.args.ends.now c.loop-k.k c.index-ends-k.result c.loop-k-test.true c.index-ends-k.is
+      covered = ends_more p (λ (e : End). state_of e.state) (unpacked c.args.self.now.parts x).process c.args.ends.now kept
+          kept' c.in_ok-cover_end.ensures.longer c.loop-k.k c.index-ends-k.result c.loop-k-test.true c.index-ends-k.is
           c.loop-k.invariant.covered one;
     }
 

@@ -4,7 +4,7 @@ use Rattle.meaning.specs.Runs.{CanMove}
 use Rattle.source_search.specs.Covered.{IsFollowedOwn}
 use Rattle.source_search.specs.Kept.{states_of}
 use Rattle.source_search.specs.Packed.{unpacked}
-use Rattle.source_search.proofs.Covering.{own_still}
+use Rattle.source_search.proofs.Coverage.{own_still}
 use Rattle.source_search.proofs.Keeping.{longer_none, longer_twice}
 use Rattle.source_search.proofs.Packing.{grown_none, grown_twice, unpacked_still, within_still}
 use Rattle.source_search.proofs.kept.Kept.expand_own.Goals as goal

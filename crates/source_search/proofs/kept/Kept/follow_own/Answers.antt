@@ -6,7 +6,7 @@ use Rattle.source_states.specs.States.{state_of}
 use Rattle.source_search.specs.Kept.{states_of}
 use Rattle.source_search.specs.Packed.{unpacked}
 use Rattle.source_search.specs.Spots.{IsAlone}
-use Rattle.source_search.proofs.Covering.{followed_own, moves_too}
+use Rattle.source_search.proofs.Coverage.{followed_own, moves_too}
 use Rattle.source_search.proofs.kept.Kept.follow_own.Goals as goal
 
 pub returns-clause-followed : goal.returns-clause-followed

@@ -5,7 +5,7 @@ use Rattle.source_states.specs.States.{state_of}
 use Rattle.source_search.specs.Found.{is_any}
 use Rattle.source_search.specs.Kept.{states_of}
 use Rattle.source_search.specs.Packed.{IsPackedOf, unpacked}
-use Rattle.source_search.proofs.Covering.{covered_like}
+use Rattle.source_search.proofs.Coverage.{covered_like}
 use Rattle.source_search.proofs.Keeping.{seen_covered, seen_kept}
 use Rattle.source_search.proofs.Packing.{sound_still}
 use Rattle.source_search.proofs.kept.Kept.open.Goals as goal

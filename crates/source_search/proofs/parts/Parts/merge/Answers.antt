@@ -5,7 +5,7 @@ use Rattle.source_states.specs.States.{state_of}
 use Rattle.source_table.specs.Tables.{table_of}
 use Rattle.source_search.specs.Packed.{table_in, variables_in}
 use Rattle.source_search.specs.Spots.{IsMergedTo}
-use Rattle.source_search.proofs.Merging.{merged_all}
+use Rattle.source_search.proofs.Merged.{merged_all}
 use Rattle.source_search.proofs.parts.Parts.merge.Goals as goal
 
 pub returns-clause-merged : goal.returns-clause-merged

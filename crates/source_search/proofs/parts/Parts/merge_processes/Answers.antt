@@ -4,7 +4,7 @@ use Rattle.source_offers.specs.Stages.{process_of}
 use Rattle.source_states.specs.States.{state_of}
 use Rattle.source_search.specs.Packed.{process_in}
 use Rattle.source_search.specs.Spots.{IsMergedTo}
-use Rattle.source_search.proofs.Merging.{merged_more, merged_none}
+use Rattle.source_search.proofs.Merged.{merged_more, merged_none}
 use Rattle.source_search.proofs.Packing.{grown_none, grown_twice}
 use Rattle.source_search.proofs.parts.Parts.merge_processes.Goals as goal
 

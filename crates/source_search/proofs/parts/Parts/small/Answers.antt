@@ -8,7 +8,7 @@ use Rattle.source_offers.specs.Stores.{variables_of}
 use Rattle.source_states.specs.States.{state_of}
 use Rattle.source_table.specs.Tables.{table_of}
 use Rattle.source_search.specs.Packed.{process_in, table_in, variables_in}
-use Rattle.source_search.proofs.Merging.{alone_of}
+use Rattle.source_search.proofs.Merged.{alone_of}
 use Rattle.source_search.proofs.parts.Parts.small.Goals as goal
 
 pub returns : goal.returns

@@ -12,12 +12,9 @@ use Rattle.meaning.specs.States.{SourceState}
 use Rattle.proof_exploration.specs.Exploring.{IsLike}
 use Rattle.proof_exploration.specs.Searching.{IsCovered}
 use Rattle.proof_exploration.proofs.Representing.{grown, like_covered}
-use Rattle.source_states.specs.States.{state_of}
 use Rattle.source_reaching.specs.Among.{AreCovered, AreEnds, IsAheadAmong, LeadsOwn, among}
 use Rattle.source_reaching.specs.Choices.{by}
 use Rattle.source_reaching.specs.Covered.{IsAhead}
-use Rattle.source_reaching.specs.Ends.{ends_in}
-use Rattle.source_reaching.specs.declared.reaching.End.{End}
 use Rattle.source_reaching.proofs.Ahead.{ahead_then, covered_to}
 use Rattle.source_reaching.proofs.Among.{can_up}
 use Rattle.source_search.specs.Covered.{IsAheadOf, IsCoveredSo, IsFollowedOwn}
@@ -30,7 +27,7 @@ use Rattle.source_search.specs.declared.packed.Packed.{Packed as PackedOf}
 use Rattle.source_search.specs.declared.parts.Parts.{Parts as PartsOf}
 use Rattle.source_search.specs.declared.spot.Spot.{Spot as SpotOf}
 use Rattle.source_search.proofs.Keeping.{all_contained, none_kills, none_strays, seen_covered}
-use Rattle.source_search.proofs.Merging.{among_spot}
+use Rattle.source_search.proofs.Merged.{among_spot}
 
 module _ (p : Program) where
   pub covered_like : (kept : List SourceState) (s r : SourceState) → IsCoveredSo p kept s
@@ -61,31 +58,28 @@ module _ (p : Program) where
         (like_covered p kept n (unpacked parts' y) (among (unpacked parts x).process s') merged.like covered));
   }
 
-  -- one end more is covered
-  pub ends_more : (kept kept' : List SourceState) → IsLonger kept kept' → (others : ℕ → Option Process)
-      (ends : List End) (k : ℕ) (e : End) → k < length ends → e ≡ get_or ends k e
-      → (n : ℕ) × AreCovered p kept n others (ends_in (take k ends))
-      → IsCoveredSo p kept' (among others (state_of e.state))
-      → (n : ℕ) × AreCovered p kept' n others (ends_in (take (k + 1) ends))
-  ends_more kept kept' longer others ends k e less is all one = (
-    all.0 + one.0,
-    subst (All (Covered (all.0 + one.0)))
-        (sym (map_more (λ (e : End). state_of e.state) ends k e less
-        ∙ ap (λ (e : End). ends_in (take k ends) ++ state_of e.state ∷ []) (sym is)))
-        (All-push (Covered (all.0 + one.0)) (ends_in (take k ends)) (state_of e.state)
-        (All-weaker (λ s. IsCovered p kept all.0 (among others s)) (Covered (all.0 + one.0))
-        (λ s c. covered_to p kept' all.0 one.0 (all.0 + one.0) (among others s) (omega arith)
-        (grown p kept kept' (all_contained kept kept' longer) all.0 (among others s) c))
-        (ends_in (take k ends)) all.1)
-        (covered_to p kept' one.0 all.0 (all.0 + one.0) (among others (state_of e.state)) (omega arith) one.1)),
-  )
-    where
-      abbrev Covered : ℕ → SourceState → Type 0
-      Covered n s = IsCovered p kept' n (among others s)
+  -- one state more that a process comes to is covered
+  module _ {X : Type 0} (f : X → SourceState) (others : ℕ → Option Process) (xs : List X) where
+    pub ends_more : (kept kept' : List SourceState) → IsLonger kept kept' → (k : ℕ) (x : X) → k < length xs
+        → x ≡ get_or xs k x → (n : ℕ) × AreCovered p kept n others (map f (take k xs))
+        → IsCoveredSo p kept' (among others (f x)) → (n : ℕ) × AreCovered p kept' n others (map f (take (k + 1) xs))
+    ends_more kept kept' longer k x less is all one = (
+      all.0 + one.0,
+      subst (All (Covered (all.0 + one.0)))
+          (sym (map_more f xs k x less ∙ ap (λ y. map f (take k xs) ++ f y ∷ []) (sym is)))
+          (All-push (Covered (all.0 + one.0)) (map f (take k xs)) (f x)
+          (All-weaker (λ s. IsCovered p kept all.0 (among others s)) (Covered (all.0 + one.0))
+          (λ s c. covered_to p kept' all.0 one.0 (all.0 + one.0) (among others s) (omega arith)
+          (grown p kept kept' (all_contained kept kept' longer) all.0 (among others s) c))
+          (map f (take k xs)) all.1)
+          (covered_to p kept' one.0 all.0 (all.0 + one.0) (among others (f x)) (omega arith) one.1)),
+    )
+      where
+        abbrev Covered : ℕ → SourceState → Type 0
+        Covered n s = IsCovered p kept' n (among others s)
 
-  pub ends_none : (kept : List SourceState) (others : ℕ → Option Process) (ends : List End)
-      → (n : ℕ) × AreCovered p kept n others (ends_in (take 0 ends))
-  ends_none kept others ends = (zero, λ k d l. absurd (let no : k < length (ends_in (take 0 ends)) = l in omega (arith, no)))
+    pub ends_none : (kept : List SourceState) → (n : ℕ) × AreCovered p kept n others (map f (take 0 xs))
+    ends_none kept = (zero, λ k d l. absurd (let no : k < length (map f (take 0 xs)) = l in omega (arith, no)))
 
   -- then so is what each of the process's own actions leads to
   pub followed_own : (kept : List SourceState) (parts : PartsOf) (x : PackedOf) (place : ℕ) (spot : SpotOf)
