@@ -1,6 +1,6 @@
 -- What is covered behind the actions of one process, and behind those of all.
 use Rattle.std.proofs.Common.{◌≡◌, ◌<◌, ◌+◌, ℕ, zero, suc, List, [], ◌∷◌, ◌++◌, length, get_or, map, slice_get, take}
-use Rattle.std.proofs.Common.{Option, Some, None, All, refl, sym, ap, ◌∙◌, subst, arith, false, true, inl, inr}
+use Rattle.std.proofs.Common.{Option, Some, None, All, Bool, refl, sym, ap, ◌∙◌, subst, arith, false, true, inl, inr}
 use Rattle.std.specs.Prelude.{IsSome}
 use Rattle.std.proofs.lemmas.List.{map_more}
 use Rattle.std.proofs.lemmas.List.Elements.{All-push, All-weaker}
@@ -15,12 +15,12 @@ use Rattle.proof_exploration.proofs.Representing.{grown, like_covered}
 use Rattle.source_reaching.specs.Among.{AreCovered, AreEnds, IsAheadAmong, LeadsOwn, among}
 use Rattle.source_reaching.specs.Choices.{by}
 use Rattle.source_reaching.specs.Covered.{IsAhead}
-use Rattle.source_reaching.proofs.Ahead.{ahead_then, covered_to}
+use Rattle.source_reaching.proofs.Ahead.{ahead_none, ahead_then, covered_to}
 use Rattle.source_reaching.proofs.Among.{can_up}
 use Rattle.source_search.specs.Covered.{IsAheadOf, IsCoveredSo, IsFollowedOwn}
 use Rattle.source_search.specs.Found.{IsFrom, is_any, killed_in}
 use Rattle.source_search.specs.declared.outside.Outside.{Outside}
-use Rattle.source_search.specs.Packed.{some_process, unpacked}
+use Rattle.source_search.specs.Packed.{IsGrown, IsWithin, some_process, unpacked}
 use Rattle.source_search.specs.Spots.{IsAlone, IsMergedOf, IsSpotOf}
 use Rattle.source_search.specs.Kept.{IsExpanded, IsLonger}
 use Rattle.source_search.specs.declared.packed.Packed.{Packed as PackedOf}
@@ -28,6 +28,7 @@ use Rattle.source_search.specs.declared.parts.Parts.{Parts as PartsOf}
 use Rattle.source_search.specs.declared.spot.Spot.{Spot as SpotOf}
 use Rattle.source_search.proofs.Keeping.{all_contained, none_kills, none_strays, seen_covered}
 use Rattle.source_search.proofs.Merged.{among_spot}
+use Rattle.source_search.proofs.Packing.{unpacked_still, within_still}
 
 module _ (p : Program) where
   pub covered_like : (kept : List SourceState) (s r : SourceState) → IsCoveredSo p kept s
@@ -56,6 +57,22 @@ module _ (p : Program) where
         (ap (among (unpacked parts x).process) single.same ∙ among_spot parts x place spot is)
         (λ kept n covered. (ahead single.stands).1 (unpacked parts x).process kept n
         (like_covered p kept n (unpacked parts' y) (among (unpacked parts x).process s') merged.like covered));
+  }
+
+  pub ahead_of_itself : (parts : PartsOf) (x : PackedOf) → IsWithin parts x → IsAheadOf p parts parts x x
+  ahead_of_itself parts x within = record { within = within; ahead = ahead_none p (unpacked parts x) }
+
+  pub ahead_of_then : (a b d : PartsOf) (x y z : PackedOf) → IsAheadOf p a b x y → IsAheadOf p b d y z
+      → IsAheadOf p a d x z
+  ahead_of_then a b d x y z first second = record {
+    within = second.within;
+    ahead = ahead_then p (unpacked a x) (unpacked b y) (unpacked d z) first.ahead second.ahead;
+  }
+
+  pub ahead_of_still : (a b d : PartsOf) (x y : PackedOf) → IsGrown b d → IsAheadOf p a b x y → IsAheadOf p a d x y
+  ahead_of_still a b d x y g first = record {
+    within = within_still b d g y first.within;
+    ahead = subst (IsAhead p (unpacked a x)) (sym (unpacked_still b d g y first.within)) first.ahead;
   }
 
   -- one state more that a process comes to is covered
@@ -122,3 +139,9 @@ module _ (p : Program) where
         absurd (none_strays may none (subst (IsFrom may (unpacked parts x)) y.1 from))
     expanded_own a there from s' (inr (inr y)) =
         absurd (none_kills may (killed_in (unpacked parts x)) none (subst (IsFrom may (unpacked parts x)) y.2 from))
+
+-- one of two, and what follows of either
+pub either_moves : (a b r : Bool) → (r ≡ true → a ≡ false → b ≡ true) → (X : Type 0) → (a ≡ true → X) → (b ≡ true → X)
+    → r ≡ true → X
+either_moves true b r is X first second e = first refl
+either_moves false b r is X first second e = second (is e refl)

@@ -148,8 +148,9 @@ fn part_failed(parts: &Parts, part: u32, outside: Outside) -> bool
 pub(crate) fn some_part_failed(parts: &Parts, packed: &Packed, outside: Outside) -> bool
     ensures { result ≡ false → HasFailed outside (unpacked parts.now packed.now) → ⊥ }
 {
-    for place in 0..packed.processes.len() {
-        if part_failed(parts, packed.processes[place], outside) {
+    let processes = packed.processes.as_slice();
+    for place in 0..processes.len() {
+        if part_failed(parts, processes[place], outside) {
             return true;
         }
     }

@@ -46,8 +46,9 @@ impl<'a> Parts<'a> {
         let Some(variables) = self.variables.get(spot.variables as usize) else {
             return Ok(None);
         };
+        let process = part.copy(alloc)?;
         let mut state = SourceState::unpeopled(alloc, table.copy()?, variables.copy()?);
-        state.place(u64::from(spot.process), part.copy(alloc)?)?;
+        state.place(u64::from(spot.process), process)?;
         Ok(Some(state))
     }
 

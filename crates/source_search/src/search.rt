@@ -187,6 +187,13 @@ fn is_stuck_at<'a>(
     Ok(Some(stuck))
 }
 
+// Whether one of these holds.
+fn either(first: bool, second: bool) -> bool
+    ensures { result ≡ true → first ≡ false → second ≡ true }
+{
+    first || second
+}
+
 impl<'a> Kept<'a> {
     ghost use Rattle.std.specs.Prelude.{IfSome, ◌<◌, length, suc, ℕ};
     ghost use Rattle.meaning.specs.Runs.{CanMove};
@@ -218,7 +225,7 @@ impl<'a> Kept<'a> {
             let Some(able) = self.follow_own(alloc, checked, packed, before, place)? else {
                 return Ok(None);
             };
-            moves = moves || able;
+            moves = either(moves, able);
         }
         Ok(Some(moves))
     }

@@ -1,10 +1,10 @@
-use Rattle.std.proofs.Common.{◌≡◌, ℕ, suc, arith, absurd, below_more, false, true, subst}
+use Rattle.std.proofs.Common.{◌≡◌, ℕ, suc, arith, below_more, false, true, subst}
 use Rattle.program.specs.Views.{program_of}
 use Rattle.meaning.specs.Runs.{CanMove}
 use Rattle.source_search.specs.Covered.{IsFollowedOwn}
 use Rattle.source_search.specs.Kept.{states_of}
 use Rattle.source_search.specs.Packed.{unpacked}
-use Rattle.source_search.proofs.Coverage.{own_still}
+use Rattle.source_search.proofs.Coverage.{either_moves, own_still}
 use Rattle.source_search.proofs.Keeping.{longer_none, longer_twice}
 use Rattle.source_search.proofs.Packing.{grown_none, grown_twice, unpacked_still, within_still}
 use Rattle.source_search.proofs.kept.Kept.expand_own.Goals as goal
@@ -45,5 +45,11 @@ loop-place-preserved c =
       followed = below_more (λ j. IsFollowedOwn p kept' s (suc j)) k
           (λ j l. own_still p kept kept' c.in_ok-able.ensures.longer s (suc j) (c.loop-place.invariant.followed j l))
           (subst (λ r. IsFollowedOwn p kept' r (suc k)) still own);
-      moves = ?;
+      moves = λ e. either_moves c.loop-place.moves c.in-Some.able c.either.result c.either.ensures
+          ((t : ℕ) × CanMove p s t) c.loop-place.invariant.moves
+          (λ b. (suc k, subst (λ r. CanMove p r (suc k)) still (can b))) e;
     }
+
+pub returns-clause-followed : goal.returns-clause-followed
+returns-clause-followed c = λ k less.
+    c.loop-place.invariant.followed k (omega (arith, less, c.loop-place-test.false, c.len-place-end.ensures))

@@ -1,4 +1,4 @@
-use Rattle.std.proofs.Common.{◌≡◌, ◌∙◌, ◌↔◌, ℕ, All, Contains, List, Some, ap, subst, sym}
+use Rattle.std.proofs.Common.{◌≡◌, ◌<◌, ◌∙◌, ◌↔◌, ℕ, All, Contains, List, Some, ap, length, subst, sym}
 use Rattle.std.specs.Prelude.{IsSome}
 use Rattle.source_offers.specs.Stores.{variables_of}
 use Rattle.source_states.specs.States.{state_of}
@@ -19,7 +19,8 @@ returns-clause-merged c = λ within.
     let own = c.as_slice-own.result.now in
     let are : IsMergedTo o.processes.items a.processes.items own s.process c.as_slice-numbers.result.now
     c.in-Some.processes.items =
-    rw c.in-Some.is at (c.in_ok-processes.ensures.merged ?) in
+    rw c.in-Some.is at (c.in_ok-processes.ensures.merged
+    (subst (All (λ n. n < length o.processes.items)) (sym c.as_slice-own.ensures.value) within.processes)) in
     let t : table_in b.tables.items c.in-Some-2.table ≡ Some (table_of c.table.result.now) =
     rw c.in-Some-2.is at c.in_ok-table.ensures.there in
     let v : variables_in d.variables.items c.in-Some-3.variables ≡ Some (variables_of c.variables.result.now) =

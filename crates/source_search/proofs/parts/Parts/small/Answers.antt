@@ -15,11 +15,11 @@ pub returns : goal.returns
 returns c =
     let parts = c.args.self.now in
     let spot = c.args.spot in
-    let q : process_in parts.processes.items spot.part ≡ Some (process_of c.in_ok-copy-3.field-0) =
+    let q : process_in parts.processes.items spot.part ≡ Some (process_of c.in_ok-process.process) =
     ap (option_map process_of) (subst (λ xs. slice_get xs spot.part ≡ Some c.in-Some.part.now) c.deref.ensures.value
     (slice_get_read c.deref.result.now (length c.deref.result.now) spot.part c.in-Some.part.now refl
     c.in-Some.ensures.lookup.3.0 c.in-Some.ensures.lookup.1))
-    ∙ ap Some (sym c.in_ok-copy-3.ensures) in
+    ∙ ap Some (sym c.in_ok-process.ensures) in
     let t : table_in parts.tables.items spot.table ≡ Some (table_of c.in_ok-copy.field-0) =
     ap (option_map table_of) (subst (λ xs. slice_get xs spot.table ≡ Some c.in-Some-get.table.now) c.deref-2.ensures.value
     (slice_get_read c.deref-2.result.now (length c.deref-2.result.now) spot.table c.in-Some-get.table.now refl
@@ -32,7 +32,7 @@ returns c =
     c.in-Some-get-2.ensures.lookup.3.0 c.in-Some-get-2.ensures.lookup.1))
     ∙ ap Some (sym c.in_ok-copy-2.ensures) in
     alone_of parts spot (state_of c.place.new.self) (table_of c.in_ok-copy.field-0) (variables_of c.in_ok-copy-2.field-0)
-    (process_of c.in_ok-copy-3.field-0) t v q
+    (process_of c.in_ok-process.process) t v q
     (c.in_ok-place.ensures
-    ∙ ap (λ (s : SourceState). record s { process = put s.process spot.process (Some (process_of c.in_ok-copy-3.field-0)) })
+    ∙ ap (λ (s : SourceState). record s { process = put s.process spot.process (Some (process_of c.in_ok-process.process)) })
     c.unpeopled-state.ensures)
