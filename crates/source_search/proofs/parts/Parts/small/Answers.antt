@@ -15,6 +15,7 @@ pub returns : goal.returns
 returns c =
     let parts = c.args.self.now in
     let spot = c.args.spot in
+    let number : c.from.result ≡ spot.process = c.from.ensures in
     let q : process_in parts.processes.items spot.part ≡ Some (process_of c.in_ok-process.process) =
     ap (option_map process_of) (subst (λ xs. slice_get xs spot.part ≡ Some c.in-Some.part.now) c.deref.ensures.value
     (slice_get_read c.deref.result.now (length c.deref.result.now) spot.part c.in-Some.part.now refl
@@ -34,5 +35,8 @@ returns c =
     alone_of parts spot (state_of c.place.new.self) (table_of c.in_ok-copy.field-0) (variables_of c.in_ok-copy-2.field-0)
     (process_of c.in_ok-process.process) t v q
     (c.in_ok-place.ensures
+    ∙ ap (λ n. record (state_of c.unpeopled-state.result) {
+      process = put (state_of c.unpeopled-state.result).process n (Some (process_of c.in_ok-process.process));
+    }) number
     ∙ ap (λ (s : SourceState). record s { process = put s.process spot.process (Some (process_of c.in_ok-process.process)) })
     c.unpeopled-state.ensures)
