@@ -77,26 +77,30 @@ module _ (p : Program) where
 
   -- one state more that a process comes to is covered
   module _ {X : Type 0} (f : X → SourceState) (others : ℕ → Option Process) (xs : List X) where
+    abbrev Covered : List SourceState → ℕ → SourceState → Type 0
+    Covered kept n s = IsCovered p kept n (among others s)
+
     pub ends_more : (kept kept' : List SourceState) → IsLonger kept kept' → (k : ℕ) (x : X) → k < length xs
         → x ≡ get_or xs k x → (n : ℕ) × AreCovered p kept n others (map f (take k xs))
         → IsCoveredSo p kept' (among others (f x)) → (n : ℕ) × AreCovered p kept' n others (map f (take (k + 1) xs))
     ends_more kept kept' longer k x less is all one = (
       all.0 + one.0,
-      subst (All (Covered (all.0 + one.0)))
+      subst (All (Covered kept' (all.0 + one.0)))
           (sym (map_more f xs k x less ∙ ap (λ y. map f (take k xs) ++ f y ∷ []) (sym is)))
-          (All-push (Covered (all.0 + one.0)) (map f (take k xs)) (f x)
-          (All-weaker (λ s. IsCovered p kept all.0 (among others s)) (Covered (all.0 + one.0))
+          (All-push (Covered kept' (all.0 + one.0)) (map f (take k xs)) (f x)
+          (All-weaker (λ s. IsCovered p kept all.0 (among others s)) (Covered kept' (all.0 + one.0))
           (λ s c. covered_to p kept' all.0 one.0 (all.0 + one.0) (among others s) (omega arith)
           (grown p kept kept' (all_contained kept kept' longer) all.0 (among others s) c))
           (map f (take k xs)) all.1)
           (covered_to p kept' one.0 all.0 (all.0 + one.0) (among others (f x)) (omega arith) one.1)),
     )
-      where
-        abbrev Covered : ℕ → SourceState → Type 0
-        Covered n s = IsCovered p kept' n (among others s)
 
     pub ends_none : (kept : List SourceState) → (n : ℕ) × AreCovered p kept n others (map f (take 0 xs))
-    ends_none kept = (zero, λ k d l. absurd (let no : k < length (map f (take 0 xs)) = l in omega (arith, no)))
+    ends_none kept = (zero, λ k d l. absurd (let no : k < length (map f (take 0 xs)) = l in nothing k xs no))
+      where
+        nothing : (k : ℕ) (ys : List X) → k < length (map f (take 0 ys)) → ⊥
+        nothing k [] less = omega (arith, less)
+        nothing k (y ∷ ys) less = omega (arith, less)
 
   -- then so is what each of the process's own actions leads to
   pub followed_own : (kept : List SourceState) (parts : PartsOf) (x : PackedOf) (place : ℕ) (spot : SpotOf)

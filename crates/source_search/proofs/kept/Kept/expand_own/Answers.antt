@@ -45,7 +45,7 @@ loop-place-preserved c =
       followed = below_more (λ j. IsFollowedOwn p kept' s (suc j)) k
           (λ j l. own_still p kept kept' c.in_ok-able.ensures.longer s (suc j) (c.loop-place.invariant.followed j l))
           (subst (λ r. IsFollowedOwn p kept' r (suc k)) still own);
-      moves = λ e. either_moves c.loop-place.moves c.in-Some.able c.either.result c.either.ensures
+      moves = λ e. either_moves c.loop-place.moves c.in-Some.able c.either-moves.result c.either-moves.ensures
           ((t : ℕ) × CanMove p s t) c.loop-place.invariant.moves
           (λ b. (suc k, subst (λ r. CanMove p r (suc k)) still (can b))) e;
     }

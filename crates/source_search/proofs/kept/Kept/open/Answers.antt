@@ -11,10 +11,10 @@ use Rattle.source_search.proofs.Packing.{sound_still}
 use Rattle.source_search.proofs.kept.Kept.open.Goals as goal
 
 pub returns-then-is_any-clause-seen : goal.returns-then-is_any-clause-seen
-returns-then-is_any-clause-seen c = IfOk-weaker c.keep-then-is_any.result _ _ (λ b h e.
-    seen_kept (program_of c.args.checked.now.tree) (is_any c.args.outside) (states_of c.keep-then-is_any.new.self)
+returns-then-is_any-clause-seen c = IfOk-weaker c.keep.result _ _ (λ b h e.
+    seen_kept (program_of c.args.checked.now.tree) (is_any c.args.outside) (states_of c.keep.new.self)
     (state_of c.args.state) (h e))
-    c.keep-then-is_any.ensures.kept
+    c.keep.ensures.kept
 
 pub returns-in_default-clause-sound : goal.returns-in_default-clause-sound
 returns-in_default-clause-sound c =

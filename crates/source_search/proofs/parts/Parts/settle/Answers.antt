@@ -1,6 +1,6 @@
 use Rattle.program.specs.Views.{program_of}
 use Rattle.source_search.specs.Covered.{IsAheadOf}
-use Rattle.source_search.proofs.Coverage.{ahead_of_itself, ahead_of_then}
+use Rattle.source_search.proofs.Coverage.{ahead_of_itself, ahead_of_still, ahead_of_then}
 use Rattle.source_search.proofs.Packing.{grown_none, grown_twice}
 use Rattle.source_search.proofs.parts.Parts.settle.Goals as goal
 
@@ -23,3 +23,8 @@ loop-preserved c =
           ahead_of_then p c.args.self.now c.loop.self c.follow_at.new.self c.args.packed c.loop.settled
           c.in-Some-2.next first second;
     }
+
+pub returns-then-is_same-clause-ahead : goal.returns-then-is_same-clause-ahead
+returns-then-is_same-clause-ahead c = λ within.
+    ahead_of_still (program_of c.args.checked.now.tree) c.args.self.now c.loop.self c.follow_at.new.self c.args.packed
+    c.loop.settled c.in_ok-next.ensures.grown (c.loop.invariant.ahead within)
