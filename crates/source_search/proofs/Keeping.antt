@@ -10,16 +10,16 @@ use Rattle.std.proofs.lemmas.List.Elements.{Contains-get_or, Contains-push}
 use Rattle.std.proofs.lemmas.Option.{get_or_from_slice_get, slice_get_within}
 use Rattle.program.specs.Trees.{Program}
 use Rattle.meaning.specs.Labels.{Action}
-use Rattle.meaning.specs.Runs.{CanMove, IsStep}
+use Rattle.meaning.specs.Runs.{IsStep}
 use Rattle.meaning.specs.States.{SourceState}
 use Rattle.proof_exploration.specs.Exploring.{IsLike}
-use Rattle.proof_exploration.specs.Searching.{IsKept}
+use Rattle.proof_exploration.specs.Searching.{IsCovered, IsKept}
 use Rattle.proof_exploration.proofs.Alike.{like_self, like_trans}
 use Rattle.proof_exploration.proofs.Representing.{grown, like_covered}
 use Rattle.source_states.specs.Actions.{action_of}
 use Rattle.source_states.specs.declared.action.Action.{Action as ActionOf}
 use Rattle.source_search.specs.Choices.{AreChoices}
-use Rattle.source_search.specs.Found.{IsFrom, is_any, killed_in}
+use Rattle.source_search.specs.Found.{is_any}
 use Rattle.source_search.specs.declared.outside.Outside.{Outside}
 use Rattle.source_search.specs.Packed.{HasKey, IsGrown, IsSameKey, IsWithin, unpacked}
 use Rattle.source_search.specs.declared.packed.Packed.{Packed as PackedOf}
@@ -85,6 +85,12 @@ pub seen_kept : (p : Program) (strays : Bool) (kept : List SourceState) (s : Sou
 seen_kept p true kept s is = is
 seen_kept p false kept s is = (zero, is)
 
+-- where nothing from outside is searched, what is covered is seen
+pub seen_covered : (p : Program) (strays : Bool) (kept : List SourceState) (s : SourceState) → strays ≡ false
+    → (n : ℕ) × IsCovered p kept n s → IsSeen p strays kept s
+seen_covered p true kept s e is = absurd (let differ : true ≡ false = e in cc)
+seen_covered p false kept s e is = is
+
 pub seen_like : (p : Program) (strays : Bool) (kept : List SourceState) (s r : SourceState) → IsSeen p strays kept s
     → IsLike s r → IsSeen p strays kept r
 seen_like p true kept s r is like = kept_like kept s r is like
@@ -122,16 +128,6 @@ none_kills may n none less = by_second may.strays (nat_lt 0 may.kills) refl none
     by_second false false is e =
         let few : may.kills ≤ 0 = grind (arith, nat_tests, is) in omega (arith, few, less)
 
--- who can't move does nothing of its own
-pub rests : (p : Program) (may : Outside) (kept : List SourceState) (s : SourceState) (n : ℕ) → is_any may ≡ false
-    → (CanMove p s n → ⊥) → IsFollowed p may kept s n
-rests p may kept s n none never kind from s' (inl x) =
-    absurd (never (record { kind = kind; after = s'; moves = x }))
-rests p may kept s n none never kind from s' (inr (inl x)) =
-    absurd (none_strays may none (subst (IsFrom may s) x.1 from))
-rests p may kept s n none never kind from s' (inr (inr x)) =
-    absurd (none_kills may (killed_in s) none (subst (IsFrom may s) x.2 from))
-
 module _ (kept kept' : List SourceState) (longer : IsLonger kept kept') where
   pub kept_still : (s : SourceState) → IsKept kept s → IsKept kept' s
   kept_still s is =
@@ -141,18 +137,17 @@ module _ (kept kept' : List SourceState) (longer : IsLonger kept kept') where
   seen_still p true s is = kept_still s is
   seen_still p false s is = (is.0, grown p kept kept' (all_contained kept kept' longer) is.0 s is.1)
 
-  pub leads_still : (p : Program) (may : Outside) (s : SourceState) (a : Action) → LeadsToKept p may kept s a
-      → LeadsToKept p may kept' s a
-  leads_still p may s a leads s' x = seen_still p (is_any may) s' (leads s' x)
+  pub leads_still : (p : Program) (s : SourceState) (a : Action) → LeadsToKept p kept s a → LeadsToKept p kept' s a
+  leads_still p s a leads s' x = kept_still s' (leads s' x)
 
   -- one action more
-  pub leads_more : (p : Program) (may : Outside) (s : SourceState) (actions : List ActionOf) (i : ℕ) (a : ActionOf)
+  pub leads_more : (p : Program) (s : SourceState) (actions : List ActionOf) (i : ℕ) (a : ActionOf)
       → i < length actions → a ≡ get_or actions i a
-      → All (LeadsToKept p may kept s) (map action_of (take i actions)) → LeadsToKept p may kept' s (action_of a)
-      → All (LeadsToKept p may kept' s) (map action_of (take (i + 1) actions))
-  leads_more p may s actions i a less is all leads =
-      one_more_action (LeadsToKept p may kept' s) actions i a less is
-      (All-weaker (LeadsToKept p may kept s) (LeadsToKept p may kept' s) (leads_still p may s)
+      → All (LeadsToKept p kept s) (map action_of (take i actions)) → LeadsToKept p kept' s (action_of a)
+      → All (LeadsToKept p kept' s) (map action_of (take (i + 1) actions))
+  leads_more p s actions i a less is all leads =
+      one_more_action (LeadsToKept p kept' s) actions i a less is
+      (All-weaker (LeadsToKept p kept s) (LeadsToKept p kept' s) (leads_still p s)
       (map action_of (take i actions)) all)
       leads
 
@@ -175,11 +170,11 @@ module _ (kept kept' : List SourceState) (longer : IsLonger kept kept') where
 
 -- what a process may do was all tried
 pub all_followed : (p : Program) (may : Outside) (kept : List SourceState) (s : SourceState) (n : ℕ)
-    (actions : List Action) → AreChoices p may s n actions → All (LeadsToKept p may kept s) actions
+    (actions : List Action) → AreChoices p may s n actions → All (LeadsToKept p kept s) actions
     → IsFollowed p may kept s n
 all_followed p may kept s n actions are all kind from s' x =
     let tried : (a : Action) × Contains actions a × IsStep p s a s' = are kind s' from x in
-    All-contains (LeadsToKept p may kept s) actions tried.0 all tried.1 s' tried.2
+    seen_kept p (is_any may) kept s' (All-contains (LeadsToKept p kept s) actions tried.0 all tried.1 s' tried.2)
 
 -- and that of each process that is there
 pub all_expanded : (p : Program) (may : Outside) (kept : List SourceState) (s : SourceState) (ns : List ℕ)

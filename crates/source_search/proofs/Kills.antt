@@ -22,8 +22,8 @@ use Rattle.proof_exploration.proofs.Resuming.{without_same}
 use Rattle.source_offers.specs.Stages.{standing}
 use Rattle.source_offers.specs.declared.process.Stage.{Stage as StageOf}
 use Rattle.source_offers.specs.declared.process.Stage.TheVariants as stage
-use Rattle.source_search.specs.Choices.{AreHeld, AreKills, AreResumable, HasEachSet, WouldNotify, by}
-use Rattle.source_search.specs.Choices.{kills_with}
+use Rattle.source_reaching.specs.Choices.{HasEachSet, by}
+use Rattle.source_search.specs.Choices.{AreHeld, AreKills, AreResumable, WouldNotify, kills_with}
 use Rattle.source_search.proofs.Subsets.{among, contains_map, is_one_of, one_of, passes, stays}
 
 -- what a function makes of an element of a list is among what it makes of all

@@ -5,6 +5,7 @@ pub mod Kills
 pub mod Successors
 pub mod Endings
 pub mod Packing
+pub mod Merged
 pub mod Keeping
-pub mod Ahead
+pub mod Coverage
 pub mod Searched

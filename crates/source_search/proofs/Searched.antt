@@ -25,7 +25,8 @@ use Rattle.source_search.specs.Found.{AreFrom, AreNamed, HasFailed, IsCounted, I
 use Rattle.source_search.specs.Found.{killed_in, kills_of}
 use Rattle.source_search.specs.Found.{one_kill}
 use Rattle.source_search.specs.declared.outside.Outside.{Outside}
-use Rattle.source_search.specs.Kept.{IsExpanded, IsLonger, IsSeen, NoneIs}
+use Rattle.source_search.specs.Kept.{IsExpanded, IsLonger, IsLookedAt, IsSeen, NoneIs}
+use Rattle.source_search.specs.declared.search.Findings.{Findings as FindingsOf}
 use Rattle.source_search.proofs.Keeping.{expanded_still, longer_none, longer_twice, none_kills, none_strays, seen_still}
 use Rattle.source_search.proofs.Killed.{killed_more, killed_opening}
 use Rattle.source_search.proofs.Successors.{expanded_like}
@@ -68,12 +69,11 @@ at_first p may first = record {
   never_aborted = λ e. none_yet (λ s. HasFailed may s → ⊥) first;
 }
 
-module _ (p : Program) (may : Outside) (first kept kept' : List SourceState) (place : ℕ)
-    (stuck stuck' aborted aborted' : Option ℕ) (so_far : IsSoFar p may first kept place stuck aborted)
-    (longer : IsLonger kept kept') (r c : SourceState)
-    (here : slice_get kept place ≡ Some r) (like : IsLike r c) where
+module _ (p : Program) (may : Outside) (first kept kept' : List SourceState) (place : ℕ) (found found' : FindingsOf)
+    (so_far : IsSoFar p may first kept place found.stuck found.aborted) (longer : IsLonger kept kept')
+    (looked : IsLookedAt p may kept kept' place found found') where
   less : place < length kept
-  less = slice_get_within kept place r here
+  less = slice_get_within kept place looked.state looked.here
 
   long : length kept' ≡ length kept + length longer.0
   long = ap length longer.1 ∙ length-append kept longer.0
@@ -81,29 +81,27 @@ module _ (p : Program) (may : Outside) (first kept kept' : List SourceState) (pl
   seen : take place kept' ≡ take place kept
   seen = ap (take place) longer.1 ∙ take-append-le place kept longer.0 so_far.within
 
-  there : get_or kept' place r ≡ r
-  there = ap (λ l. get_or l place r) longer.1 ∙ get_or_append_left kept longer.0 r place less
-      ∙ get_or_from_slice_get kept place r r here
+  there : get_or kept' place looked.state ≡ looked.state
+  there = ap (λ l. get_or l place looked.state) longer.1
+      ∙ get_or_append_left kept longer.0 looked.state place less
+      ∙ get_or_from_slice_get kept place looked.state looked.state looked.here
 
-  one_more : (P : SourceState → Type 0) → All P (take place kept) → P r → All P (take (place + 1) kept')
-  one_more P all one =
-      All-more P kept' place r (omega (arith, less, long)) (subst (All P) (sym seen) all) (subst P (sym there) one)
+  one_more : (P : SourceState → Type 0) → All P (take place kept) → P looked.state → All P (take (place + 1) kept')
+  one_more P all one = All-more P kept' place looked.state (omega (arith, less, long)) (subst (All P) (sym seen) all)
+      (subst P (sym there) one)
 
   -- one state more was looked at and expanded
-  pub goes_on : IsExpanded p may kept' c → (stuck' ≡ None → (stuck ≡ None) × (IsStuck p c → ⊥))
-      → (aborted' ≡ None → (aborted ≡ None) × (HasFailed may c → ⊥))
-      → IsSoFar p may first kept' (place + 1) stuck' aborted'
-  goes_on expanded unstuck unaborted = record {
+  pub goes_on : IsSoFar p may first kept' (place + 1) found'.stuck found'.aborted
+  goes_on = record {
     longer = longer_twice first kept kept' so_far.longer longer;
     within = omega (arith, less, long);
     expanded = one_more (IsExpanded p may kept')
         (All-weaker (IsExpanded p may kept) (IsExpanded p may kept') (expanded_still kept kept' longer p may)
         (take place kept) so_far.expanded)
-        (expanded_like p may kept' r c like expanded);
-    never_stuck = λ e. one_more (λ s. IsStuck p s → ⊥) (so_far.never_stuck (unstuck e).0)
-        (λ bad. (unstuck e).1 (like_stuck p r c like bad));
-    never_aborted = λ e. one_more (λ s. HasFailed may s → ⊥) (so_far.never_aborted (unaborted e).0)
-        (λ bad. (unaborted e).1 (like_failed may r c like bad));
+        looked.expanded;
+    never_stuck = λ e. one_more (λ s. IsStuck p s → ⊥) (so_far.never_stuck (looked.stuck e).0) (looked.stuck e).1;
+    never_aborted = λ e. one_more (λ s. HasFailed may s → ⊥) (so_far.never_aborted (looked.aborted e).0)
+        (looked.aborted e).1;
   }
 
 -- all were looked at

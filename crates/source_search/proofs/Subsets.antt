@@ -5,7 +5,6 @@ use Rattle.std.proofs.lemmas.Bool.Decides.{nat_tests}
 use Rattle.std.proofs.lemmas.List.{append-nil}
 use Rattle.std.proofs.lemmas.List.Elements.{All-contains, Contains-append_left, Contains-append_right, filter_more}
 use Rattle.std.proofs.lemmas.List.Elements.{filter_passes}
-use Rattle.source_search.specs.Choices.{HasEachSet}
 
 -- what a function makes of an element is among what it makes of all
 pub contains_map : {X Y : Type 0} (f : X → Y) (xs : List X) (x : X) → Contains xs x → Contains (map f xs) (f x)
@@ -15,23 +14,6 @@ contains_map f (y ∷ ys) x (suc k, l, e) =
     let rest : Contains (map f ys) (f x) = contains_map f ys x (k, omega (arith, l), e) in
     let less : rest.0 < length (map f ys) = rest.1 in
     (suc rest.0, omega (arith, less), rest.2)
-
--- sets of one number more: those without it, and those with it
-pub one_more : (numbers : List ℕ) (i n : ℕ) (lists more : List (List ℕ)) → i < length numbers
-    → n ≡ get_or numbers i 0
-    → more ≡ map (λ list. list ++ n ∷ []) lists → HasEachSet (take i numbers) lists
-    → HasEachSet (take (i + 1) numbers) (lists ++ more)
-one_more numbers i n lists more less is e each is_in =
-    subst (Contains (lists ++ more)) (sym (filter_more is_in numbers i 0 less))
-    (subst (λ x. Contains (lists ++ more) (filter is_in (take i numbers) ++ cond (is_in x) (x ∷ []) [])) is
-    (by_test (is_in n)))
-  where
-    by_test : (b : Bool) → Contains (lists ++ more) (filter is_in (take i numbers) ++ cond b (n ∷ []) [])
-    by_test true = Contains-append_right lists more (filter is_in (take i numbers) ++ n ∷ [])
-        (subst (λ xs. Contains xs (filter is_in (take i numbers) ++ n ∷ [])) (sym e)
-        (contains_map (λ list. list ++ n ∷ []) lists (filter is_in (take i numbers)) (each is_in)))
-    by_test false = Contains-append_left lists more (filter is_in (take i numbers) ++ [])
-        (subst (Contains lists) (sym (append-nil (filter is_in (take i numbers)))) (each is_in))
 
 -- whether a number is one of these
 abbrev pub is_one_of : List ℕ → ℕ → Bool

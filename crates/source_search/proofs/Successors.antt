@@ -1,5 +1,5 @@
 -- Where actions lead to from states that are alike.
-use Rattle.std.proofs.Common.{◌≡◌, ◌<◌, ℕ, List, [], Option, Some, refl, sym, ap, ◌∙◌, inl}
+use Rattle.std.proofs.Common.{◌≡◌, ◌<◌, ℕ, List, Option, Some, refl, sym, ap, ◌∙◌, inl}
 use Rattle.std.proofs.Common.{inr}
 use Rattle.std.proofs.Common.{subst}
 use Rattle.std.specs.Prelude.{IsSome}
@@ -12,21 +12,12 @@ use Rattle.meaning.specs.Processes.{Dying, Process}
 use Rattle.meaning.specs.Runs.{IsKill, IsLeft, IsNotifying, IsStep}
 use Rattle.meaning.specs.States.{SourceState}
 use Rattle.meaning.specs.Table.{AllowsKill, AllowsStray}
-use Rattle.meaning.proofs.Unique.{step_once}
 use Rattle.proof_exploration.specs.Exploring.{IsLike}
-use Rattle.proof_exploration.proofs.Alike.{like_action, like_after, like_back, like_same, printing}
+use Rattle.proof_exploration.proofs.Alike.{like_action, like_after, like_back, printing}
 use Rattle.source_search.specs.Found.{IsFrom, is_any, killed_in, killed_to}
 use Rattle.source_search.specs.declared.outside.Outside.{Outside}
 use Rattle.source_search.specs.Kept.{IsExpanded}
 use Rattle.source_search.proofs.Keeping.{seen_like}
-
--- a state without what was printed
-pub without_like : (s c : SourceState) → c ≡ record s { printed = [] } → IsLike s c
-without_like s c is = record {
-  table = sym (ap (λ (x : SourceState). x.table) is);
-  variable = sym (ap (λ (x : SourceState). x.variable) is);
-  process = sym (ap (λ (x : SourceState). x.process) is);
-}
 
 -- an action leads to a state that is alike
 abbrev pub LeadsAlike : Program → SourceState → Action → SourceState → Type 0
@@ -72,17 +63,6 @@ module _ (p : Program) (s r : SourceState) (like : IsLike s r) (a : Action) (s' 
     inr (inr (x.0, x.1, x.2, kill_alike x.0 x.1 x.3)),
     record { table = refl; variable = refl; process = refl },
   )
-
-module _ (p : Program) (s c : SourceState) (a : Action) (is : c ≡ record s { printed = [] }) where
-  pub not_next : ((u : SourceState) → IsStep p c a u → ⊥) → (s' : SourceState) → IsStep p s a s' → ⊥
-  not_next never s' x =
-      let led : LeadsAlike p c a s' = step_alike p s c (without_like s c is) a s' x in
-      never led.0 led.1
-
-  pub is_next : (n : SourceState) → IsStep p c a n → (s' : SourceState) → IsStep p s a s' → IsLike n s'
-  is_next n step s' x =
-      let led : LeadsAlike p c a s' = step_alike p s c (without_like s c is) a s' x in
-      like_back s' n (like_same s' led.0 n led.2 (step_once p a c led.0 n led.1 step))
 
 -- states that are alike have as many killed
 killed_alike : (s c : SourceState) → IsLike s c → killed_in s ≡ killed_in c

@@ -1,40 +1,17 @@
 -- The actions that a search tries of a process.
-use Rattle.std.specs.Prelude.{ℕ, ◌≡◌, List, ◌∷◌, Bool, true, ◌<◌, Contains, Option, Some, None, Vec, filter, map}
-use Rattle.std.specs.Global.{Global}
+use Rattle.std.specs.Prelude.{ℕ, ◌≡◌, List, ◌∷◌, Bool, true, ◌<◌, Contains, Option, Some, None, map}
 use Rattle.program.specs.Trees.{Program}
 use Rattle.program.specs.declared.kinds.Member.{Member}
-use Rattle.meaning.specs.Labels.{Action, Kill, Kind, Label, Stray, kind_of}
-use Rattle.meaning.specs.Offers.{Effect, Offer, TakesUp, offer}
+use Rattle.meaning.specs.Labels.{Action, Kill, Kind, Stray}
+use Rattle.meaning.specs.Offers.{offer}
 use Rattle.meaning.specs.Processes.{Process, holds}
-use Rattle.meaning.specs.Runs.{IsAction, IsKill, IsKillable, IsNotifying, IsStep}
+use Rattle.meaning.specs.Runs.{IsKill, IsKillable, IsNotifying, IsStep}
 use Rattle.meaning.specs.States.{SourceState}
-use Rattle.meaning.specs.Table.{Table, Allows, AreResumed}
+use Rattle.meaning.specs.Table.{Table, AreResumed}
 use Rattle.proof_exploration.specs.Exploring.{SameMembers}
+use Rattle.source_reaching.specs.Choices.{by}
 use Rattle.source_search.specs.Found.{IsFrom, killed_in}
 use Rattle.source_search.specs.declared.outside.Outside.{Outside}
-
--- an action of this process
-abbrev pub by : ℕ → Kind → Action
-by n kind = record { process = n; kind = kind }
-
--- one of these actions of the process takes up the offer, with this effect and to this table
-pub record IsTried (n : ℕ) (o : Offer) (t : Table) (actions : List Action) (effect : Effect) (after : Process)
-    (t' : Table) : Type 0 where
-  pub label : Label
-  pub listed : Contains actions (by n (kind_of label))
-  pub takes : TakesUp o label effect after
-  pub allows : Allows n label t t'
-
--- whatever takes up the offer, where the table allows it, one of these actions does, with the same effect and to the same
--- table
-abbrev pub AllTakeUp : ℕ → Offer → Table → List Action → Type 0
-AllTakeUp n o t actions = (label : Label) (effect : Effect) (after : Process) (t' : Table)
-    → TakesUp o label effect after → Allows n label t t' → IsTried n o t actions effect after t'
-
--- whatever the process does of its own in this state, one of these actions leads to the same state
-abbrev pub AreOwnChoices : Program → SourceState → ℕ → List Action → Type 0
-AreOwnChoices p s n actions = (kind : Kind) (s' : SourceState) → IsAction p s (by n kind) s'
-    → (k : Kind) × Contains actions (by n k) × IsAction p s (by n k) s'
 
 -- whatever such an action of the process leads to from this state, one of these actions leads to the same
 abbrev pub AreChoices : Program → Outside → SourceState → ℕ → List Action → Type 0
@@ -76,11 +53,3 @@ pub record HasKills (p : Program) (kills : ℕ) (s : SourceState) (n : ℕ) (oth
 abbrev pub kills_with : ℕ → List ℕ → List ℕ → List Action
 kills_with n monitors resumed =
     by n (Kill resumed None) ∷ map (λ m. by n (Kill resumed (Some m))) monitors
-
--- for each set, the numbers in it are one of the lists
-abbrev pub HasEachSet : List ℕ → List (List ℕ) → Type 0
-HasEachSet numbers lists = (is_in : ℕ → Bool) → Contains lists (filter is_in numbers)
-
--- lists, as their numbers
-abbrev pub lists_in : List (Vec ℕ Global) → List (List ℕ)
-lists_in lists = map (λ (list : Vec ℕ Global). list.items) lists

@@ -1,30 +1,25 @@
--- What is covered by the states that a search keeps: calm actions, of one process at a time, lead from it to them.
-use Rattle.std.specs.Prelude.{ℕ, All, List}
+-- What is covered by the states that a search keeps, of the states that processes' own actions lead to.
+use Rattle.std.specs.Prelude.{ℕ, List}
 use Rattle.program.specs.Trees.{Program}
-use Rattle.meaning.specs.Labels.{Action}
-use Rattle.meaning.specs.Runs.{IsStep}
+use Rattle.meaning.specs.Labels.{Kind}
 use Rattle.meaning.specs.States.{SourceState}
-use Rattle.proof_exploration.specs.Exploring.{MovesCalmly}
 use Rattle.proof_exploration.specs.Searching.{IsCovered}
-use Rattle.source_search.specs.Choices.{AreOwnChoices}
+use Rattle.source_reaching.specs.Among.{LeadsOwn}
+use Rattle.source_reaching.specs.Choices.{by}
+use Rattle.source_reaching.specs.Covered.{IsAhead}
+use Rattle.source_search.specs.Packed.{IsWithin, unpacked}
+use Rattle.source_search.specs.declared.packed.Packed.{Packed as PackedOf}
+use Rattle.source_search.specs.declared.parts.Parts.{Parts as PartsOf}
 
--- the process's next action is possible and calm, and these are its choices
-pub record IsFollowable (p : Program) (s : SourceState) (t : ℕ) (actions : List Action) : Type 0 where
-  pub calm : MovesCalmly p s t
-  pub choices : AreOwnChoices p s t actions
+-- the state is covered in some number of actions
+abbrev pub IsCoveredSo : Program → List SourceState → SourceState → Type 0
+IsCoveredSo p kept s = (n : ℕ) × IsCovered p kept n s
 
--- where the second state is covered, the first is
-abbrev pub IsAhead : Program → SourceState → SourceState → Type 0
-IsAhead p s s' = (kept : List SourceState) (n : ℕ) → IsCovered p kept n s' → (m : ℕ) × IsCovered p kept m s
+-- whatever an action of the process's own leads to is covered
+abbrev pub IsFollowedOwn : Program → List SourceState → SourceState → ℕ → Type 0
+IsFollowedOwn p kept s t = (kind : Kind) → LeadsOwn p kept s (by t kind)
 
--- where this action leads to from a state is covered, in at most so many actions
-abbrev pub LeadsWithin : Program → List SourceState → SourceState → ℕ → Action → Type 0
-LeadsWithin p kept s n a = (s' : SourceState) → IsStep p s a s' → IsCovered p kept n s'
-
--- in some number of actions
-abbrev pub LeadsToCovered : Program → List SourceState → SourceState → Action → Type 0
-LeadsToCovered p kept s a = (n : ℕ) × LeadsWithin p kept s n a
-
--- where each of these actions leads to is covered, in one number of actions
-abbrev pub AllCovered : Program → List SourceState → SourceState → List Action → Type 0
-AllCovered p kept s actions = (n : ℕ) × All (LeadsWithin p kept s n) actions
+-- the parts of the second are there, and where it is covered, the first is
+pub record IsAheadOf (p : Program) (parts parts' : PartsOf) (x y : PackedOf) : Type 0 where
+  pub within : IsWithin parts' y
+  pub ahead : IsAhead p (unpacked parts x) (unpacked parts' y)

@@ -1,6 +1,6 @@
 pub mod Found
 pub mod Choices
-pub mod Covered
 pub mod Kept
 pub mod Packed
-pub mod Followed
+pub mod Spots
+pub mod Covered

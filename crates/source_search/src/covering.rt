@@ -1,115 +1,243 @@
-use crate::follow::{Followed, follow_calm, is_lost};
 use crate::kept::{Kept, Way};
-use crate::next::next_state;
 use crate::outside::Outside;
+use crate::packed::Packed;
+use crate::parts::Parts;
+use crate::replay::OPENING;
 use program::Checked;
+use source_reaching::{End, ends, follow_own, is_lost, looks_calm};
 use source_states::{Action, SourceState};
+use sourcemeaning::can_move;
 use std::alloc::{AllocError, Global};
 
-impl<'a> Kept<'a> {
-    ghost use Rattle.std.specs.Prelude.{◌≡◌, IfOk, OnOk, map, true};
-    ghost use Rattle.program.specs.Views.{program_of};
-    ghost use Rattle.source_states.specs.Actions.{action_of};
-    ghost use Rattle.source_states.specs.States.{state_of};
-    ghost use Rattle.source_search.specs.Covered.{AllCovered, LeadsToCovered};
-    ghost use Rattle.source_search.specs.Found.{is_any};
-    ghost use Rattle.source_search.specs.Kept.{IsLonger, IsSeen, IsSound, states_of};
+// How many times a process is followed at most before a state is kept.
+const MOST: usize = 1000;
 
-    // Follows calm actions behind one of several, and keeps the state that they lead to; false where no more can be
-    // kept.
-    fn cover_one(
-        &mut self,
-        alloc: Global,
-        checked: &'a Checked,
-        state: &SourceState<'a>,
-        action: &Action,
-        way: Way,
-    ) -> Result<bool, AllocError>
-        requires sound { IsSound self.old }
-        ensures sound { OnOk result (IsSound self.new) }
-        ensures longer { OnOk result (IsLonger (states_of self.old) (states_of self.new)) }
-        ensures kept { IfOk result (λ kept. kept ≡ true
-            → LeadsToCovered (program_of checked.now.tree) (states_of self.new)
-            (state_of state.now) (action_of action.now)) }
-    {
-        let Some(next) = next_state(alloc, checked, state, action)? else {
-            return Ok(true);
-        };
-        let mut after = next;
-        let mut trail = Vec::new(alloc);
-        let followed = follow_calm(
-            alloc,
-            checked,
-            &mut after,
-            u64::from(way.process),
-            &mut trail,
-        )?;
-        if is_lost(&followed) {
-            return Ok(false);
+impl<'a> Parts<'a> {
+    ghost use Rattle.std.specs.Prelude.{IfOk, IfSome, OnOk};
+    ghost use Rattle.program.specs.Views.{program_of};
+    ghost use Rattle.source_search.specs.Covered.{IsAheadOf};
+    ghost use Rattle.source_search.specs.Packed.{IsGrown, IsWithin};
+
+    // The place of the first process of a kept state whose next action looks calm. Nothing is promised of it.
+    fn calm_in(&self, packed: &Packed) -> Option<usize> {
+        let table = self.tables.get(packed.table as usize)?;
+        for place in 0..packed.processes.len() {
+            let part = self.processes.get(packed.processes[place] as usize)?;
+            if looks_calm(part, table) {
+                return Some(place);
+            }
         }
-        self.keep(alloc, checked, after, way)
+        None
     }
 
-    // The same behind each of these actions.
-    fn cover_each(
+    // What the calm actions of the process at this place lead to from a kept state, and notes them; None where nothing is
+    // known of it.
+    fn follow_at(
         &mut self,
         alloc: Global,
         checked: &'a Checked,
-        state: &SourceState<'a>,
-        actions: &[Action],
+        packed: &Packed,
+        place: usize,
+        trail: &mut Vec<Action>,
+    ) -> Result<Option<Packed>, AllocError>
+        ensures grown { OnOk result (IsGrown self.old self.new) }
+        ensures ahead { IsWithin self.old packed.now → IfOk result (λ o. IfSome o
+            (λ x. IsAheadOf (program_of checked.now.tree) self.old self.new packed.now x)) }
+    {
+        let Some(spot) = packed.spot(place) else {
+            return Ok(None);
+        };
+        let Some(found) = self.small(alloc, spot)? else {
+            return Ok(None);
+        };
+        let mut small = found;
+        let followed = follow_own(
+            alloc,
+            checked,
+            &mut small,
+            u64::from(spot.process),
+            trail,
+        )?;
+        if is_lost(&followed) {
+            return Ok(None);
+        }
+        self.merge(alloc, checked.program(), packed, &small)
+    }
+
+    /// What calm actions of one process at a time lead to from a kept state, and notes them; None where nothing is known
+    /// of it. Where it is covered, the state itself is.
+    pub fn settle(
+        &mut self,
+        alloc: Global,
+        checked: &'a Checked,
+        packed: Packed,
+        trail: &mut Vec<Action>,
+    ) -> Result<Option<Packed>, AllocError>
+        ensures grown { OnOk result (IsGrown self.old self.new) }
+        ensures ahead { IsWithin self.old packed → IfOk result (λ o. IfSome o
+            (λ x. IsAheadOf (program_of checked.now.tree) self.old self.new packed x)) }
+    {
+        let mut settled = packed;
+        for _ in 0..MOST {
+            let Some(place) = self.calm_in(&settled) else {
+                return Ok(Some(settled));
+            };
+            let Some(next) = self.follow_at(alloc, checked, &settled, place, trail)? else {
+                return Ok(None);
+            };
+            if next.is_same(&settled) {
+                return Ok(Some(settled));
+            }
+            settled = next;
+        }
+        Ok(Some(settled))
+    }
+}
+
+impl<'a> Kept<'a> {
+    ghost use Rattle.std.specs.Prelude.{◌≡◌, ◌<◌, IfOk, IfSome, OnOk, length, suc, true, ℕ};
+    ghost use Rattle.program.specs.Views.{program_of};
+    ghost use Rattle.meaning.specs.Runs.{CanMove};
+    ghost use Rattle.source_reaching.specs.Among.{AreCovered, among};
+    ghost use Rattle.source_reaching.specs.Ends.{ends_in};
+    ghost use Rattle.source_states.specs.States.{state_of};
+    ghost use Rattle.source_search.specs.Covered.{IsCoveredSo, IsFollowedOwn};
+    ghost use Rattle.source_search.specs.Found.{is_any};
+    ghost use Rattle.source_search.specs.Kept.{IsLonger, IsSeen, IsSound, states_of};
+    ghost use Rattle.source_search.specs.Packed.{IsGrown, IsWithin, unpacked};
+
+    /// Keeps a state, or the one that calm actions lead to from it; false where no more can be kept.
+    pub fn cover(
+        &mut self,
+        alloc: Global,
+        checked: &'a Checked,
+        packed: Packed,
         way: Way,
     ) -> Result<bool, AllocError>
         requires sound { IsSound self.old }
+        requires within { IsWithin self.old.parts packed }
         ensures sound { OnOk result (IsSound self.new) }
+        ensures grown { OnOk result (IsGrown self.old.parts self.new.parts) }
         ensures longer { OnOk result (IsLonger (states_of self.old) (states_of self.new)) }
-        ensures kept { IfOk result (λ kept. kept ≡ true
-            → AllCovered (program_of checked.now.tree) (states_of self.new)
-            (state_of state.now) (map action_of actions.now)) }
+        ensures covered { IfOk result (λ kept. kept ≡ true → IsCoveredSo (program_of checked.now.tree)
+            (states_of self.new) (unpacked self.old.parts packed)) }
     {
-        for later in 0..actions.len() {
-            let way = way.with_later(later);
-            if !self.cover_one(alloc, checked, state, &actions[later], way)? {
+        let mut trail = Vec::new(alloc);
+        let Some(settled) = self.parts.settle(alloc, checked, packed, &mut trail)? else {
+            return Ok(false);
+        };
+        let kept = self.keep_packed(settled, way)?;
+        Ok(kept)
+    }
+
+    /// Keeps the state in which every run begins; with nothing from outside the one that calm actions lead to from it.
+    pub fn open(
+        &mut self,
+        alloc: Global,
+        checked: &'a Checked,
+        state: SourceState<'a>,
+        outside: Outside,
+    ) -> Result<bool, AllocError>
+        requires sound { IsSound self.old }
+        ensures sound { OnOk result (IsSound self.new) }
+        ensures seen { IfOk result (λ kept. kept ≡ true → IsSeen (program_of checked.now.tree) (is_any outside)
+            (states_of self.new) (state_of state.entry)) }
+    {
+        if outside.is_any() {
+            return self.keep(alloc, checked, state, OPENING);
+        }
+        let Some(packed) = self.parts.pack(alloc, checked.program(), &state, 0)? else {
+            return Ok(false);
+        };
+        self.cover(alloc, checked, packed, OPENING)
+    }
+
+    // Covers a state that a process reaches from a kept one; false where no more can be kept.
+    fn cover_end(
+        &mut self,
+        alloc: Global,
+        checked: &'a Checked,
+        packed: &Packed,
+        end: &End<'a>,
+        way: Way,
+    ) -> Result<bool, AllocError>
+        requires sound { IsSound self.old }
+        requires within { IsWithin self.old.parts packed.now }
+        ensures sound { OnOk result (IsSound self.new) }
+        ensures grown { OnOk result (IsGrown self.old.parts self.new.parts) }
+        ensures longer { OnOk result (IsLonger (states_of self.old) (states_of self.new)) }
+        ensures covered { IfOk result (λ kept. kept ≡ true → IsCoveredSo (program_of checked.now.tree)
+            (states_of self.new) (among (unpacked self.old.parts packed.now).process (state_of end.now.state))) }
+    {
+        let Some(next) = self.parts.merge(alloc, checked.program(), packed, &end.state)? else {
+            return Ok(false);
+        };
+        let way = way.with(end.choice, end.later);
+        let covered = self.cover(alloc, checked, next, way)?;
+        Ok(covered)
+    }
+
+    // The same of each of these.
+    fn cover_ends(
+        &mut self,
+        alloc: Global,
+        checked: &'a Checked,
+        packed: &Packed,
+        ends: &[End<'a>],
+        way: Way,
+    ) -> Result<bool, AllocError>
+        requires sound { IsSound self.old }
+        requires within { IsWithin self.old.parts packed.now }
+        ensures sound { OnOk result (IsSound self.new) }
+        ensures grown { OnOk result (IsGrown self.old.parts self.new.parts) }
+        ensures longer { OnOk result (IsLonger (states_of self.old) (states_of self.new)) }
+        ensures covered { IfOk result (λ kept. kept ≡ true → (n : ℕ) × AreCovered (program_of checked.now.tree)
+            (states_of self.new) n (unpacked self.old.parts packed.now).process (ends_in ends.now)) }
+    {
+        for k in 0..ends.len() {
+            if !self.cover_end(alloc, checked, packed, &ends[k], way)? {
                 return Ok(false);
             }
         }
         Ok(true)
     }
 
-    /// Keeps a state, unless one like it is kept; with nothing from outside the states in its place to which calm
-    /// actions lead from it, of one process at a time; false, where no more can be kept.
-    pub fn cover(
+    /// Covers what the process at this place of a kept state may do next of its own, and tells whether it can move; None
+    /// where no more can be kept.
+    pub fn follow_own(
         &mut self,
         alloc: Global,
         checked: &'a Checked,
-        state: SourceState<'a>,
-        way: Way,
-        outside: Outside,
-    ) -> Result<bool, AllocError>
+        packed: &Packed,
+        before: usize,
+        place: usize,
+    ) -> Result<Option<bool>, AllocError>
         requires sound { IsSound self.old }
+        requires within { IsWithin self.old.parts packed.now }
         ensures sound { OnOk result (IsSound self.new) }
+        ensures grown { OnOk result (IsGrown self.old.parts self.new.parts) }
         ensures longer { OnOk result (IsLonger (states_of self.old) (states_of self.new)) }
-        ensures kept { IfOk result (λ kept. kept ≡ true
-            → IsSeen (program_of checked.now.tree) (is_any outside) (states_of self.new)
-            (state_of state.entry)) }
+        ensures followed { IfOk result (λ o. IfSome o (λ moves. IsFollowedOwn (program_of checked.now.tree)
+            (states_of self.new) (unpacked self.old.parts packed.now) (suc place))) }
+        ensures moves { IfOk result (λ o. IfSome o (λ moves. moves ≡ true
+            → CanMove (program_of checked.now.tree) (unpacked self.old.parts packed.now) (suc place))) }
     {
-        if outside.is_any() {
-            return self.keep(alloc, checked, state, way);
-        }
-        let mut after = state;
-        let mut trail = Vec::new(alloc);
-        let followed = follow_calm(
-            alloc,
-            checked,
-            &mut after,
-            u64::from(way.process),
-            &mut trail,
-        )?;
-        if is_lost(&followed) {
-            return Ok(false);
-        }
-        let Followed::Choices(actions) = followed else {
-            return self.keep(alloc, checked, after, way);
+        let Some(spot) = packed.spot(place) else {
+            return Ok(None);
         };
-        self.cover_each(alloc, checked, &after, actions.as_slice(), way)
+        let Some(small) = self.parts.small(alloc, spot)? else {
+            return Ok(None);
+        };
+        let process = u64::from(spot.process);
+        let moves = can_move(&small, checked, process);
+        let Some(ends) = ends(alloc, checked, &small, process)? else {
+            return Ok(None);
+        };
+        let listed = ends.as_slice();
+        let way = Way::new(before, process, 0);
+        if !self.cover_ends(alloc, checked, packed, listed, way)? {
+            return Ok(None);
+        }
+        Ok(Some(moves))
     }
 }

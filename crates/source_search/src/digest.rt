@@ -142,18 +142,19 @@ pub(crate) fn digest_process(process: &Process) -> u64 {
     digest.number
 }
 
-/// The digest of the table of a state in which there are these processes.
-pub(crate) fn digest_table(program: &Program, state: &SourceState, numbers: &[u64]) -> u64 {
+/// The digest of the table of a state in which so many processes were made.
+pub(crate) fn digest_table(program: &Program, state: &SourceState, made: u64) -> u64 {
     let mut digest = Mixer::new();
-    for number in numbers {
-        if let Some(condition) = state.waits(*number) {
-            digest.feed(*number);
+    for before in 0..made {
+        let number = before + 1;
+        if let Some(condition) = state.waits(number) {
+            digest.feed(number);
             feed_member(condition, &mut digest);
         }
-        if let Some(end) = state.over(*number) {
+        if let Some(end) = state.over(number) {
             feed_end(end, &mut digest);
         }
-        digest.feed(u64::from(state.claimed(*number)));
+        digest.feed(u64::from(state.claimed(number)));
     }
     feed_holds(program, state, &mut digest);
     digest.number

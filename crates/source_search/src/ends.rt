@@ -1,4 +1,4 @@
-ghost use Rattle.std.specs.Prelude.{◌≡◌, All, IfOk, MatchBool, Some, true, ℕ};
+ghost use Rattle.std.specs.Prelude.{◌≡◌, All, IfOk, MatchBool, Some, false, true, ℕ};
 ghost use Rattle.program.specs.Views.{program_of};
 ghost use Rattle.meaning.specs.Labels.{Aborted, Cause as CauseIn};
 ghost use Rattle.meaning.specs.Processes.{Over};
@@ -6,8 +6,11 @@ ghost use Rattle.source_offers.specs.Stages.{process_of};
 ghost use Rattle.source_states.specs.States.{state_of};
 ghost use Rattle.proof_exploration.specs.Exploring.{IsOver, IsStuck};
 ghost use Rattle.source_search.specs.Found.{FailedAt, GoesOn, HasFailed, IsCounted};
+ghost use Rattle.source_search.specs.Packed.{process_in, unpacked};
 
 use crate::outside::Outside;
+use crate::packed::Packed;
+use crate::parts::Parts;
 use program::Checked;
 use source_offers::{End, Process, Stage};
 use source_states::SourceState;
@@ -128,4 +131,28 @@ pub(crate) fn has_failed(
     let all = state.numbers(alloc)?;
     let failed = some_failed(state, all.as_slice(), outside);
     Ok(failed)
+}
+
+// Whether the process of this number is one that has aborted of a cause that is looked for.
+fn part_failed(parts: &Parts, part: u32, outside: Outside) -> bool
+    ensures { result ≡ false → (cause : CauseIn)
+        → process_in parts.now.processes.items part ≡ Some (Over (Aborted cause)) → IsCounted outside cause → ⊥ }
+{
+    match parts.processes.get(part as usize) {
+        None => false,
+        Some(process) => has_failed_so(process, outside),
+    }
+}
+
+/// Whether a process of a kept state has aborted of a cause that is looked for.
+pub(crate) fn some_part_failed(parts: &Parts, packed: &Packed, outside: Outside) -> bool
+    ensures { result ≡ false → HasFailed outside (unpacked parts.now packed.now) → ⊥ }
+{
+    let processes = packed.processes.as_slice();
+    for place in 0..processes.len() {
+        if part_failed(parts, processes[place], outside) {
+            return true;
+        }
+    }
+    false
 }

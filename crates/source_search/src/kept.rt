@@ -41,9 +41,10 @@ impl Way {
         }
     }
 
-    /// The same, and by a later choice.
-    pub fn with_later(self, later: usize) -> Way {
+    /// The same, by these choices.
+    pub fn with(self, choice: usize, later: usize) -> Way {
         Way {
+            choice: short(choice as u64),
             later: short(later as u64),
             ..self
         }
@@ -85,7 +86,7 @@ fn is_kept(states: &[Packed], places: &HashMap<u64, u32>, first: u64, packed: &P
 
 impl<'a> Kept<'a> {
     ghost use Rattle.source_states.specs.States.{state_of};
-    ghost use Rattle.source_search.specs.Kept.{IsLonger, IsSound, states_of};
+    ghost use Rattle.source_search.specs.Kept.{IsKeptAt, IsLonger, IsSound, states_of};
     ghost use Rattle.source_search.specs.Packed.{IsWithin, unpacked};
 
     /// No states yet, and how many may be kept.
@@ -115,6 +116,18 @@ impl<'a> Kept<'a> {
         Ok(Some(state))
     }
 
+    /// The parts of the state that is kept at a place.
+    pub fn packed_at(&self, alloc: Global, place: usize) -> Result<Option<Packed>, AllocError>
+        ensures { IsSound self.now → IfOk result (λ o. IfSome o
+            (λ x. IsKeptAt self.now place x)) }
+    {
+        let Some(packed) = self.states.get(place) else {
+            return Ok(None);
+        };
+        let copied = packed.copy(alloc)?;
+        Ok(Some(copied))
+    }
+
     // The number of the values of the variables of the state that is kept at a place.
     fn variables_at(&self, place: usize) -> u32 {
         match self.states.get(place) {
@@ -123,11 +136,12 @@ impl<'a> Kept<'a> {
         }
     }
 
-    // Keeps a state of these parts, unless it is kept; false, where no more can be kept.
-    fn keep_packed(&mut self, packed: Packed, way: Way) -> Result<bool, AllocError>
+    /// Keeps a state of these parts, unless it is kept; false, where no more can be kept.
+    pub fn keep_packed(&mut self, packed: Packed, way: Way) -> Result<bool, AllocError>
         requires sound { IsSound self.old }
         requires within { IsWithin self.old.parts packed }
         ensures sound { OnOk result (IsSound self.new) }
+        ensures parts { OnOk result (self.new.parts ≡ self.old.parts) }
         ensures longer { OnOk result (IsLonger (states_of self.old) (states_of self.new)) }
         ensures kept { IfOk result (λ kept. kept ≡ true
             → IsKeptIn (states_of self.new) (unpacked self.old.parts packed)) }

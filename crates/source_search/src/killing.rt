@@ -10,12 +10,12 @@ ghost use Rattle.source_offers.specs.Stages.{process_of};
 ghost use Rattle.source_offers.specs.declared.process.Process.{Process as ProcessOf};
 ghost use Rattle.source_states.specs.Actions.{action_of};
 ghost use Rattle.source_states.specs.States.{state_of};
-ghost use Rattle.source_search.specs.Choices.{AreHeld, AreKills, AreResumable, WouldNotify, by, kills_with};
-ghost use Rattle.source_search.specs.Choices.{lists_in};
+ghost use Rattle.source_reaching.specs.Choices.{by, lists_in};
+ghost use Rattle.source_search.specs.Choices.{AreHeld, AreKills, AreResumable, WouldNotify, kills_with};
 
-use crate::sets::sets;
 use program::{Checked, Member};
 use source_offers::{Offer, Offered, Process, add_monitor, add_monitors};
+use source_reaching::sets;
 use source_states::{Action, ActionKind, SourceState};
 use std::alloc::{AllocError, Global};
 

@@ -1,5 +1,9 @@
-ghost use Rattle.std.specs.Prelude.{◌≡◌, true};
+ghost use Rattle.std.specs.Prelude.{◌≡◌, IfOk, IfSome, true};
 ghost use Rattle.source_search.specs.Packed.{IsSameKey};
+ghost use Rattle.source_search.specs.Spots.{IsSpotOf};
+
+use crate::spot::Spot;
+use std::alloc::{AllocError, Global};
 
 /// A kept state: the numbers of the parts of which it is made. `unpacked` makes it a state of the meaning.
 #[derive(Drop)]
@@ -24,5 +28,33 @@ impl Packed {
             return false;
         }
         self.processes == other.processes
+    }
+
+    /// The same once more.
+    pub fn copy(&self, alloc: Global) -> Result<Packed, AllocError>
+        ensures { IfOk result (IsSameKey self.now) }
+    {
+        Ok(Packed {
+            table: self.table,
+            variables: self.variables,
+            processes: Vec::from_slice(alloc, self.processes.as_slice())?,
+        })
+    }
+
+    /// Where the process at this place stands; None where there is none.
+    pub fn spot(&self, place: usize) -> Option<Spot>
+        ensures { IfSome result (IsSpotOf self.now place) }
+    {
+        let part = self.processes.get(place).copied()?;
+        let Ok(before) = u32::try_from(place) else {
+            return None;
+        };
+        let process = before.checked_add(1)?;
+        Some(Spot {
+            process,
+            part,
+            table: self.table,
+            variables: self.variables,
+        })
     }
 }

@@ -99,8 +99,8 @@ impl<'a> Parts<'a> {
         None
     }
 
-    // The number of a table, which is a part from now on; None where there are too many.
-    fn table_number(&mut self, table: &Table, digest: u64) -> Result<Option<u32>, AllocError>
+    /// The number of a table, which is a part from now on; None where there are too many.
+    pub fn table_number(&mut self, table: &Table, digest: u64) -> Result<Option<u32>, AllocError>
         ensures grown { OnOk result (IsGrown self.old self.new) }
         ensures there { IfOk result (λ o. IfSome o
             (λ n. table_in self.new.tables.items n ≡ Some (table_of table.now))) }
@@ -156,9 +156,9 @@ impl<'a> Parts<'a> {
         None
     }
 
-    // The number of the values of variables, which are a part from now on; None where there are too many. Those of
-    // the state before have this number.
-    fn variables_number(
+    /// The number of the values of variables, which are a part from now on; None where there are too many. Those of
+    /// the state before have this number.
+    pub fn variables_number(
         &mut self,
         variables: &Variables,
         before: u32,
@@ -210,8 +210,8 @@ impl<'a> Parts<'a> {
         None
     }
 
-    // The number of a process, which is a part from now on; None where there are too many.
-    fn process_number(
+    /// The number of a process, which is a part from now on; None where there are too many.
+    pub fn process_number(
         &mut self,
         alloc: Global,
         process: &Process<'a>,
@@ -278,7 +278,7 @@ impl<'a> Parts<'a> {
         let Some(processes) = self.pack_processes(alloc, state, numbers)? else {
             return Ok(None);
         };
-        let digest = digest_table(program, state, numbers);
+        let digest = digest_table(program, state, numbers.len() as u64);
         let Some(table) = self.table_number(state.table(), digest)? else {
             return Ok(None);
         };

@@ -1,8 +1,10 @@
 use crate::choices::choices;
-use crate::follow::{Followed, follow_calm};
-use crate::kept::Way;
+use crate::kept::{Kept, Way};
 use crate::outside::Outside;
+use crate::packed::Packed;
+use crate::parts::Parts;
 use program::Checked;
+use source_reaching::{Followed, follow_own, own_actions};
 use source_states::{Action, SourceState};
 use std::alloc::{AllocError, Global};
 
@@ -14,85 +16,161 @@ pub(crate) const OPENING: Way = Way {
     later: 0,
 };
 
-// The ways that lead to a place, the last one first.
-fn ways_back(alloc: Global, ways: &[Way], place: usize) -> Result<Vec<Way>, AllocError> {
+// The places by which a place is come to from the first state, that one last and the first one left out.
+fn places_back(alloc: Global, ways: &[Way], place: usize) -> Result<Vec<usize>, AllocError> {
     let mut back = Vec::new(alloc);
     let mut at = place;
     for _ in 0..ways.len() {
-        let Some(way) = ways.get(at) else {
-            break;
-        };
         if at == 0 {
             break;
         }
-        back.push(*way)?;
+        let Some(way) = ways.get(at) else {
+            break;
+        };
+        back.push(at)?;
         at = way.before as usize;
     }
     Ok(back)
 }
 
-// The action of a way.
-fn action_at<'a>(
+// Takes the one of these actions at a place, and notes it; false where there is none, or it isn't possible.
+fn take_nth<'a>(
     alloc: Global,
     checked: &'a Checked,
-    state: &SourceState<'a>,
-    way: Way,
-    outside: Outside,
-) -> Result<Option<Action>, AllocError> {
-    match choices(alloc, checked, state, u64::from(way.process), outside)? {
-        None => Ok(None),
-        Some(actions) => Ok(actions.into_iter().nth(way.choice as usize)),
+    state: &mut SourceState<'a>,
+    listed: Vec<Action>,
+    place: u32,
+    actions: &mut Vec<Action>,
+) -> Result<bool, AllocError> {
+    let Some(action) = listed.into_iter().nth(place as usize) else {
+        return Ok(false);
+    };
+    if !state.advance(alloc, checked.program(), &action)? {
+        return Ok(false);
     }
+    actions.push(action)?;
+    Ok(true)
 }
 
-// Follows calm actions, and of several choices that are come to takes the one at this place, and follows again.
-fn follow_on<'a>(
+// Takes the action of a way from a state with one process, and follows calm actions of the process as the search did;
+// false where it can't.
+fn go_way<'a>(
     alloc: Global,
     checked: &'a Checked,
     state: &mut SourceState<'a>,
     way: Way,
     actions: &mut Vec<Action>,
+) -> Result<bool, AllocError> {
+    let process = u64::from(way.process);
+    let Some(own) = own_actions(alloc, checked, state, process)? else {
+        return Ok(false);
+    };
+    if !take_nth(alloc, checked, state, own, way.choice, actions)? {
+        return Ok(false);
+    }
+    let Followed::Choices(later) = follow_own(alloc, checked, state, process, actions)? else {
+        return Ok(true);
+    };
+    if !take_nth(alloc, checked, state, later, way.later, actions)? {
+        return Ok(false);
+    }
+    let _followed = follow_own(alloc, checked, state, process, actions)?;
+    Ok(true)
+}
+
+// The actions of a way from a kept state to another.
+fn go_between<'a>(
+    alloc: Global,
+    checked: &'a Checked,
+    parts: &mut Parts<'a>,
+    before: &Packed,
+    after: &Packed,
+    way: Way,
+    actions: &mut Vec<Action>,
 ) -> Result<(), AllocError> {
-    let followed = follow_calm(alloc, checked, state, u64::from(way.process), actions)?;
-    let Followed::Choices(choices) = followed else {
+    let Some(spot) = before.spot((way.process as usize).saturating_sub(1)) else {
         return Ok(());
     };
-    let Some(action) = choices.into_iter().nth(way.later as usize) else {
+    let Some(found) = parts.small(alloc, spot)? else {
         return Ok(());
     };
-    if !state.advance(alloc, checked.program(), &action)? {
+    let mut small = found;
+    if !go_way(alloc, checked, &mut small, way, actions)? {
         return Ok(());
     }
-    actions.push(action)?;
-    let _followed = follow_calm(alloc, checked, state, u64::from(way.process), actions)?;
+    let Some(next) = parts.merge(alloc, checked.program(), before, &small)? else {
+        return Ok(());
+    };
+    if !next.is_same(after) {
+        let _settled = parts.settle(alloc, checked, next, actions)?;
+    }
     Ok(())
 }
 
-/// The actions that lead to the kept state at a place, by the ways that lead to each.
-pub(crate) fn actions_to(
+// The actions that lead to a place, as the search followed them.
+fn followed_to<'a>(
     alloc: Global,
-    checked: &Checked,
+    checked: &'a Checked,
+    kept: &mut Kept<'a>,
+    place: usize,
+) -> Result<Vec<Action>, AllocError> {
+    let back = places_back(alloc, kept.ways.as_slice(), place)?;
+    let mut actions = Vec::new(alloc);
+    let opening = SourceState::opening(alloc, checked)?;
+    if let Some(packed) = kept.parts.pack(alloc, checked.program(), &opening, 0)? {
+        let _settled = kept.parts.settle(alloc, checked, packed, &mut actions)?;
+    }
+    for at in back.as_slice().iter().rev() {
+        let Some(way) = kept.ways.get(*at).copied() else {
+            return Ok(actions);
+        };
+        let Some(before) = kept.packed_at(alloc, way.before as usize)? else {
+            return Ok(actions);
+        };
+        let Some(after) = kept.packed_at(alloc, *at)? else {
+            return Ok(actions);
+        };
+        go_between(alloc, checked, &mut kept.parts, &before, &after, way, &mut actions)?;
+    }
+    Ok(actions)
+}
+
+// The actions that lead to a place, where all that may come next was interleaved.
+fn interleaved_to<'a>(
+    alloc: Global,
+    checked: &'a Checked,
     ways: &[Way],
     place: usize,
     outside: Outside,
 ) -> Result<Vec<Action>, AllocError> {
-    let back = ways_back(alloc, ways, place)?;
+    let back = places_back(alloc, ways, place)?;
     let mut actions = Vec::new(alloc);
     let mut state = SourceState::opening(alloc, checked)?;
-    if !outside.is_any() {
-        follow_on(alloc, checked, &mut state, OPENING, &mut actions)?;
-    }
-    for way in back.as_slice().iter().rev() {
-        let Some(action) = action_at(alloc, checked, &state, *way, outside)? else {
+    for at in back.as_slice().iter().rev() {
+        let Some(way) = ways.get(*at).copied() else {
             return Ok(actions);
         };
-        if !state.advance(alloc, checked.program(), &action)? {
+        let process = u64::from(way.process);
+        let Some(listed) = choices(alloc, checked, &state, process, outside)? else {
             return Ok(actions);
-        }
-        actions.push(action)?;
-        if !outside.is_any() {
-            follow_on(alloc, checked, &mut state, *way, &mut actions)?;
+        };
+        if !take_nth(alloc, checked, &mut state, listed, way.choice, &mut actions)? {
+            return Ok(actions);
         }
     }
     Ok(actions)
+}
+
+/// The actions that lead to the kept state at a place, by the ways that lead to each.
+pub(crate) fn actions_to<'a>(
+    alloc: Global,
+    checked: &'a Checked,
+    kept: &mut Kept<'a>,
+    place: usize,
+    outside: Outside,
+) -> Result<Vec<Action>, AllocError> {
+    if outside.is_any() {
+        return interleaved_to(alloc, checked, kept.ways.as_slice(), place, outside);
+    }
+    followed_to(alloc, checked, kept, place)
 }

@@ -4,10 +4,10 @@ ghost use Rattle.proof_exploration.specs.Exploring.{IsStuck};
 ghost use Rattle.source_search.specs.Found.{HasFailed, LeadsNowhere, LeadsTo};
 
 use crate::ends::{has_failed, is_stuck};
-use crate::kept::{Kept, Way};
+use crate::kept::Kept;
 use crate::outside::{Outside, are_from};
 use crate::progress::Progress;
-use crate::replay::{OPENING, actions_to};
+use crate::replay::actions_to;
 use crate::search::{Findings, search};
 use program::Checked;
 use source_states::{Action, SourceState, accepts};
@@ -73,10 +73,10 @@ fn is_aborted_run(
 }
 
 // A run to the kept state at this place, in which no process can move.
-fn stuck_run(
+fn stuck_run<'a>(
     alloc: Global,
-    checked: &Checked,
-    ways: &[Way],
+    checked: &'a Checked,
+    kept: &mut Kept<'a>,
     place: Option<usize>,
     outside: Outside,
 ) -> Result<Option<Vec<Action>>, AllocError>
@@ -86,7 +86,7 @@ fn stuck_run(
     let Some(place) = place else {
         return Ok(None);
     };
-    let actions = actions_to(alloc, checked, ways, place, outside)?;
+    let actions = actions_to(alloc, checked, kept, place, outside)?;
     let listed = actions.as_slice();
     if is_stuck_run(alloc, checked, listed, outside)? {
         return Ok(Some(actions));
@@ -95,10 +95,10 @@ fn stuck_run(
 }
 
 // A run to the kept state at this place, in which some process has aborted.
-fn aborted_run(
+fn aborted_run<'a>(
     alloc: Global,
-    checked: &Checked,
-    ways: &[Way],
+    checked: &'a Checked,
+    kept: &mut Kept<'a>,
     place: Option<usize>,
     outside: Outside,
 ) -> Result<Option<Vec<Action>>, AllocError>
@@ -108,7 +108,7 @@ fn aborted_run(
     let Some(place) = place else {
         return Ok(None);
     };
-    let actions = actions_to(alloc, checked, ways, place, outside)?;
+    let actions = actions_to(alloc, checked, kept, place, outside)?;
     let listed = actions.as_slice();
     if is_aborted_run(alloc, checked, listed, outside)? {
         return Ok(Some(actions));
@@ -166,14 +166,14 @@ pub fn explore<P: Progress>(
     let _program = checked.program();
     let mut kept = Kept::new(alloc, most_states);
     let opening = SourceState::opening(alloc, checked)?;
-    let opens = kept.cover(alloc, checked, opening, OPENING, outside)?;
+    let opens = kept.open(alloc, checked, opening, outside)?;
     let findings = search(alloc, checked, &mut kept, most_states, outside, progress)?;
-    let ways = kept.ways.as_slice();
-    let stuck = stuck_run(alloc, checked, ways, findings.stuck, outside)?;
-    let aborted = aborted_run(alloc, checked, ways, findings.aborted, outside)?;
+    let states = kept.states.len();
+    let stuck = stuck_run(alloc, checked, &mut kept, findings.stuck, outside)?;
+    let aborted = aborted_run(alloc, checked, &mut kept, findings.aborted, outside)?;
     let complete = is_complete(opens, &findings, &stuck, &aborted);
     Ok(Exploration {
-        states: kept.states.len(),
+        states,
         complete,
         stuck,
         aborted,

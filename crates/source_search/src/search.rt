@@ -1,20 +1,23 @@
-ghost use Rattle.std.specs.Prelude.{◌≡◌, All, IfOk, None, OnOk, true};
+ghost use Rattle.std.specs.Prelude.{◌≡◌, All, IfOk, IfSome, None, OnOk, false, true, ℕ};
 ghost use Rattle.program.specs.Views.{program_of};
+ghost use Rattle.meaning.specs.Runs.{CanMove};
 ghost use Rattle.proof_exploration.specs.Exploring.{IsStuck};
-ghost use Rattle.source_search.specs.Found.{HasFailed};
+ghost use Rattle.source_search.specs.Found.{HasFailed, is_any};
+ghost use Rattle.source_search.specs.Packed.{unpacked};
 ghost use Rattle.source_states.specs.Actions.{action_of};
 ghost use Rattle.source_states.specs.States.{state_of};
 ghost use Rattle.source_search.specs.Kept.{IsExpanded, IsLonger, IsSound, NoneIs, states_of};
 
 use crate::choices::choices;
-use crate::ends::{has_failed, is_stuck};
+use crate::ends::{has_failed, is_stuck, some_part_failed};
 use crate::kept::{Kept, Way};
-use crate::next::next_state;
 use crate::outside::Outside;
+use crate::packed::Packed;
+use crate::parts::Parts;
 use crate::progress::Progress;
 use program::Checked;
+use source_reaching::next_state;
 use source_states::{Action, SourceState};
-use sourcemeaning::can_move;
 use std::alloc::{AllocError, Global};
 
 /// Where the ends that are looked for were found first, and whether all that may come next was kept.
@@ -68,19 +71,18 @@ impl<'a> Kept<'a> {
         state: &SourceState<'a>,
         action: &Action,
         way: Way,
-        outside: Outside,
     ) -> Result<bool, AllocError>
         requires sound { IsSound self.old }
         ensures sound { OnOk result (IsSound self.new) }
         ensures longer { OnOk result (IsLonger (states_of self.old) (states_of self.new)) }
         ensures kept { IfOk result (λ kept. kept ≡ true
-            → LeadsToKept (program_of checked.now.tree) outside (states_of self.new)
+            → LeadsToKept (program_of checked.now.tree) (states_of self.new)
             (state_of state.now) (action_of action.now)) }
     {
         let found = next_state(alloc, checked, state, action)?;
         match found {
             None => Ok(true),
-            Some(next) => self.cover(alloc, checked, next, way, outside),
+            Some(next) => self.keep(alloc, checked, next, way),
         }
     }
 
@@ -93,18 +95,17 @@ impl<'a> Kept<'a> {
         before: usize,
         process: u64,
         actions: &[Action],
-        outside: Outside,
     ) -> Result<bool, AllocError>
         requires sound { IsSound self.old }
         ensures sound { OnOk result (IsSound self.new) }
         ensures longer { OnOk result (IsLonger (states_of self.old) (states_of self.new)) }
         ensures kept { IfOk result (λ kept. kept ≡ true
-            → All (LeadsToKept (program_of checked.now.tree) outside (states_of self.new)
+            → All (LeadsToKept (program_of checked.now.tree) (states_of self.new)
             (state_of state.now)) (map action_of actions.now)) }
     {
         for choice in 0..actions.len() {
             let way = Way::new(before, process, choice);
-            if !self.take(alloc, checked, state, &actions[choice], way, outside)? {
+            if !self.take(alloc, checked, state, &actions[choice], way)? {
                 return Ok(false);
             }
         }
@@ -128,14 +129,11 @@ impl<'a> Kept<'a> {
             → IsFollowed (program_of checked.now.tree) outside (states_of self.new)
             (state_of state.now) process) }
     {
-        if !outside.is_any() && !can_move(state, checked, process) {
-            return Ok(true);
-        }
         let Some(actions) = choices(alloc, checked, state, process, outside)? else {
             return Ok(false);
         };
         let listed = actions.as_slice();
-        let all = self.take_all(alloc, checked, state, before, process, listed, outside)?;
+        let all = self.take_all(alloc, checked, state, before, process, listed)?;
         Ok(all)
     }
 
@@ -163,6 +161,193 @@ impl<'a> Kept<'a> {
             }
         }
         Ok(true)
+    }
+}
+
+// Whether no process can move in a kept state of which it is known whether one was seen to, and some process isn't over;
+// None where it can't be told.
+fn is_stuck_at<'a>(
+    alloc: Global,
+    checked: &'a Checked,
+    parts: &Parts<'a>,
+    packed: &Packed,
+    moves: bool,
+) -> Result<Option<bool>, AllocError>
+    requires { moves ≡ true → (t : ℕ) × CanMove (program_of checked.now.tree) (unpacked parts.now packed.now) t }
+    ensures { IfOk result (λ o. IfSome o (λ stuck. stuck ≡ false
+        → IsStuck (program_of checked.now.tree) (unpacked parts.now packed.now) → ⊥)) }
+{
+    if moves {
+        return Ok(Some(false));
+    }
+    let Some(state) = parts.unpack(alloc, packed)? else {
+        return Ok(None);
+    };
+    let stuck = is_stuck(alloc, checked, &state)?;
+    Ok(Some(stuck))
+}
+
+// Whether one of these holds.
+fn either(first: bool, second: bool) -> bool
+    ensures { result ≡ true → first ≡ false → second ≡ true }
+{
+    first || second
+}
+
+impl<'a> Kept<'a> {
+    ghost use Rattle.std.specs.Prelude.{IfSome, ◌<◌, length, suc, ℕ};
+    ghost use Rattle.meaning.specs.Runs.{CanMove};
+    ghost use Rattle.source_search.specs.Covered.{IsFollowedOwn};
+    ghost use Rattle.source_search.specs.Packed.{IsGrown, IsWithin, unpacked};
+
+    // Covers what each process of a kept state may do next of its own, and tells whether one can move; None where no more
+    // can be kept.
+    fn expand_own(
+        &mut self,
+        alloc: Global,
+        checked: &'a Checked,
+        packed: &Packed,
+        before: usize,
+    ) -> Result<Option<bool>, AllocError>
+        requires sound { IsSound self.old }
+        requires within { IsWithin self.old.parts packed.now }
+        ensures sound { OnOk result (IsSound self.new) }
+        ensures grown { OnOk result (IsGrown self.old.parts self.new.parts) }
+        ensures longer { OnOk result (IsLonger (states_of self.old) (states_of self.new)) }
+        ensures followed { IfOk result (λ o. IfSome o (λ moves. (place : ℕ)
+            → place < length packed.now.processes.items → IsFollowedOwn (program_of checked.now.tree)
+            (states_of self.new) (unpacked self.old.parts packed.now) (suc place))) }
+        ensures moves { IfOk result (λ o. IfSome o (λ moves. moves ≡ true
+            → (t : ℕ) × CanMove (program_of checked.now.tree) (unpacked self.old.parts packed.now) t)) }
+    {
+        let mut moves = false;
+        for place in 0..packed.processes.len() {
+            let Some(able) = self.follow_own(alloc, checked, packed, before, place)? else {
+                return Ok(None);
+            };
+            moves = either(moves, able);
+        }
+        Ok(Some(moves))
+    }
+}
+
+impl Findings {
+    ghost use Rattle.source_search.specs.Kept.{IsLookedAt};
+
+    // Looks at the state that is kept at a place, and keeps what may come next; false where no more can be kept.
+    fn look_whole<'a>(
+        &mut self,
+        alloc: Global,
+        checked: &'a Checked,
+        kept: &mut Kept<'a>,
+        place: usize,
+        outside: Outside,
+    ) -> Result<bool, AllocError>
+        requires sound { IsSound kept.old }
+        ensures sound { OnOk result (IsSound kept.new) }
+        ensures longer { OnOk result (IsLonger (states_of kept.old) (states_of kept.new)) }
+        ensures complete { OnOk result (self.new.complete ≡ self.old.complete) }
+        ensures looked { IfOk result (λ all. all ≡ true → IsLookedAt (program_of checked.now.tree) outside
+            (states_of kept.old) (states_of kept.new) place self.old self.new) }
+    {
+        let Some(state) = kept.state(alloc, place)? else {
+            return Ok(false);
+        };
+        self.look(alloc, checked, &state, place, outside)?;
+        let all = kept.expand(alloc, checked, &state, place, outside)?;
+        Ok(all)
+    }
+
+    // Notes a kept state in which a process has aborted.
+    fn note_failed(&mut self, parts: &Parts, packed: &Packed, place: usize, outside: Outside)
+        ensures complete { self.new.complete ≡ self.old.complete }
+        ensures stuck { self.new.stuck ≡ self.old.stuck }
+        ensures aborted { self.new.aborted ≡ None → (self.old.aborted ≡ None)
+            × (HasFailed outside (unpacked parts.now packed.now) → ⊥) }
+    {
+        if self.aborted.is_none() && some_part_failed(parts, packed, outside) {
+            self.aborted = Some(place);
+        }
+    }
+
+    // Notes one in which no process can move, and some process isn't over, where it is known whether one was seen to
+    // move; false where it can't be told.
+    fn note_stuck<'a>(
+        &mut self,
+        alloc: Global,
+        checked: &'a Checked,
+        parts: &Parts<'a>,
+        packed: &Packed,
+        place: usize,
+        moves: bool,
+    ) -> Result<bool, AllocError>
+        requires { moves ≡ true → (t : ℕ) × CanMove (program_of checked.now.tree) (unpacked parts.now packed.now) t }
+        ensures complete { OnOk result (self.new.complete ≡ self.old.complete) }
+        ensures aborted { OnOk result (self.new.aborted ≡ self.old.aborted) }
+        ensures stuck { IfOk result (λ told. told ≡ true → self.new.stuck ≡ None → (self.old.stuck ≡ None)
+            × (IsStuck (program_of checked.now.tree) (unpacked parts.now packed.now) → ⊥)) }
+    {
+        if self.stuck.is_some() {
+            return Ok(true);
+        }
+        let Some(stuck) = is_stuck_at(alloc, checked, parts, packed, moves)? else {
+            return Ok(false);
+        };
+        if stuck {
+            self.stuck = Some(place);
+        }
+        Ok(true)
+    }
+
+    // The same with nothing from outside, by the parts of the state.
+    fn look_own<'a>(
+        &mut self,
+        alloc: Global,
+        checked: &'a Checked,
+        kept: &mut Kept<'a>,
+        place: usize,
+        outside: Outside,
+    ) -> Result<bool, AllocError>
+        requires sound { IsSound kept.old }
+        requires own { is_any outside ≡ false }
+        ensures sound { OnOk result (IsSound kept.new) }
+        ensures longer { OnOk result (IsLonger (states_of kept.old) (states_of kept.new)) }
+        ensures complete { OnOk result (self.new.complete ≡ self.old.complete) }
+        ensures looked { IfOk result (λ all. all ≡ true → IsLookedAt (program_of checked.now.tree) outside
+            (states_of kept.old) (states_of kept.new) place self.old self.new) }
+    {
+        let Some(packed) = kept.packed_at(alloc, place)? else {
+            return Ok(false);
+        };
+        self.note_failed(&kept.parts, &packed, place, outside);
+        let Some(moves) = kept.expand_own(alloc, checked, &packed, place)? else {
+            return Ok(false);
+        };
+        let told = self.note_stuck(alloc, checked, &kept.parts, &packed, place, moves)?;
+        Ok(told)
+    }
+
+    // Looks at the state that is kept at a place, and keeps what may come next, or covers it; false where no more can be
+    // kept.
+    fn look_at<'a>(
+        &mut self,
+        alloc: Global,
+        checked: &'a Checked,
+        kept: &mut Kept<'a>,
+        place: usize,
+        outside: Outside,
+    ) -> Result<bool, AllocError>
+        requires sound { IsSound kept.old }
+        ensures sound { OnOk result (IsSound kept.new) }
+        ensures longer { OnOk result (IsLonger (states_of kept.old) (states_of kept.new)) }
+        ensures complete { OnOk result (self.new.complete ≡ self.old.complete) }
+        ensures looked { IfOk result (λ all. all ≡ true → IsLookedAt (program_of checked.now.tree) outside
+            (states_of kept.old) (states_of kept.new) place self.old self.new) }
+    {
+        if outside.is_any() {
+            return self.look_whole(alloc, checked, kept, place, outside);
+        }
+        self.look_own(alloc, checked, kept, place, outside)
     }
 }
 
@@ -196,11 +381,7 @@ pub(crate) fn search<'a, P: Progress>(
             findings.complete = true;
             return Ok(findings);
         }
-        let Some(state) = kept.state(alloc, place)? else {
-            return Ok(findings);
-        };
-        findings.look(alloc, checked, &state, place, outside)?;
-        if !kept.expand(alloc, checked, &state, place, outside)? {
+        if !findings.look_at(alloc, checked, kept, place, outside)? {
             return Ok(findings);
         }
         progress.looked_at(kept.states.len(), place + 1);

@@ -4,7 +4,7 @@ use Rattle.std.proofs.lemmas.Result.{IfOk-weaker}
 use Rattle.program.specs.Views.{program_of}
 use Rattle.source_states.specs.Actions.{action_of}
 use Rattle.source_states.specs.States.{state_of}
-use Rattle.source_search.specs.Choices.{AreOwnChoices}
+use Rattle.source_reaching.specs.Choices.{AreOwnChoices}
 use Rattle.source_search.proofs.Tried.{all_choices}
 use Rattle.source_search.proofs.choices.choices.Goals as goal
 

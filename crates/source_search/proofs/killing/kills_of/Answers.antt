@@ -6,7 +6,8 @@ use Rattle.program.specs.Views.{program_of}
 use Rattle.source_offers.specs.Stages.{process_of}
 use Rattle.source_states.specs.Actions.{action_of}
 use Rattle.source_states.specs.States.{state_of}
-use Rattle.source_search.specs.Choices.{AreResumable, kills_with, lists_in}
+use Rattle.source_reaching.specs.Choices.{lists_in}
+use Rattle.source_search.specs.Choices.{AreResumable, kills_with}
 use Rattle.source_search.proofs.Kills.{kills_tried, none_there}
 use Rattle.source_search.proofs.killing.kills_of.Goals as goal
 

@@ -4,7 +4,8 @@ use Rattle.std.proofs.lemmas.Result.{IfOk-weaker}
 use Rattle.program.specs.Views.{program_of}
 use Rattle.meaning.specs.Table.{Table}
 use Rattle.source_states.specs.States.{state_of}
-use Rattle.source_search.specs.Choices.{HasEachSet, WouldNotify, lists_in}
+use Rattle.source_reaching.specs.Choices.{HasEachSet, lists_in}
+use Rattle.source_search.specs.Choices.{WouldNotify}
 use Rattle.source_search.proofs.Kills.{nobody_tried, sets_tried}
 use Rattle.source_search.proofs.killing.resumable.Goals as goal
 

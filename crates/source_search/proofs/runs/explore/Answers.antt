@@ -8,9 +8,9 @@ use Rattle.source_search.proofs.runs.explore.Goals as goal
 pub returns-clause-never_stuck : goal.returns-clause-never_stuck
 returns-clause-never_stuck g c = λ complete none.
     nowhere_stuck (program_of c.args.checked.now.tree) c.program-program.ensures.well_formed c.args.outside
-    (states_of c.cover.new.self) (states_of c.search.new.kept)
-    (subst (IsSeen (program_of c.args.checked.now.tree) (is_any c.args.outside) (states_of c.cover.new.self)) c.in_ok-opening.ensures
-    (c.in_ok-opens.ensures.kept (c.is_complete-complete.ensures.opens complete)))
+    (states_of c.open.new.self) (states_of c.search.new.kept)
+    (subst (IsSeen (program_of c.args.checked.now.tree) (is_any c.args.outside) (states_of c.open.new.self)) c.in_ok-opening.ensures
+    (c.in_ok-opens.ensures.seen (c.is_complete-complete.ensures.opens complete)))
     c.in_ok-findings.ensures.longer
     (c.in_ok-findings.ensures.expanded (c.is_complete-complete.ensures.complete complete))
     c.in_ok-findings.findings.stuck
@@ -20,9 +20,9 @@ returns-clause-never_stuck g c = λ complete none.
 pub returns-clause-never_aborted : goal.returns-clause-never_aborted
 returns-clause-never_aborted g c = λ complete none.
     nowhere_aborted (program_of c.args.checked.now.tree) c.program-program.ensures.well_formed c.args.outside
-    (states_of c.cover.new.self) (states_of c.search.new.kept)
-    (subst (IsSeen (program_of c.args.checked.now.tree) (is_any c.args.outside) (states_of c.cover.new.self)) c.in_ok-opening.ensures
-    (c.in_ok-opens.ensures.kept (c.is_complete-complete.ensures.opens complete)))
+    (states_of c.open.new.self) (states_of c.search.new.kept)
+    (subst (IsSeen (program_of c.args.checked.now.tree) (is_any c.args.outside) (states_of c.open.new.self)) c.in_ok-opening.ensures
+    (c.in_ok-opens.ensures.seen (c.is_complete-complete.ensures.opens complete)))
     c.in_ok-findings.ensures.longer
     (c.in_ok-findings.ensures.expanded (c.is_complete-complete.ensures.complete complete))
     c.in_ok-findings.findings.aborted

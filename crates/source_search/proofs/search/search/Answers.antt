@@ -1,9 +1,7 @@
-use Rattle.std.proofs.Common.{◌≡◌, ◌∙◌, ◌≤◌, Some, ap, arith, length, refl, slice_get}
+use Rattle.std.proofs.Common.{◌∙◌, ◌≤◌, ap, arith, length, refl}
 use Rattle.std.proofs.lemmas.Bool.Decides.{nat_tests}
 use Rattle.std.proofs.lemmas.List.{length-map}
 use Rattle.program.specs.Views.{program_of}
-use Rattle.proof_exploration.proofs.Alike.{like_self}
-use Rattle.source_states.specs.States.{state_of}
 use Rattle.source_search.specs.Kept.{states_of}
 use Rattle.source_search.specs.Packed.{unpacked}
 use Rattle.source_search.proofs.Searched.{all_expanded, at_first, goes_on, none_aborted, none_stuck}
@@ -17,20 +15,14 @@ loop-place-init g c = record {
 }
 
 pub loop-place-preserved : goal.loop-place-preserved
-loop-place-preserved g c =
-    let kept = states_of c.loop-place.kept in
-    let here : slice_get kept c.loop-place.place ≡ Some (state_of c.in-Some.state) =
-    rw c.in-Some.is at c.in_ok-state.ensures in
-    record {
-      sound = c.in_ok-expand.ensures.sound;
-      so_far = goes_on (program_of c.args.checked.now.tree) c.args.outside (states_of c.args.kept.now)
-          kept (states_of c.expand.new.self) c.loop-place.place c.loop-place.findings.stuck
-          c.look.new.self.stuck c.loop-place.findings.aborted c.look.new.self.aborted c.loop-place.invariant.so_far
-          c.in_ok-expand.ensures.longer (state_of c.in-Some.state) (state_of c.in-Some.state) here
-          (like_self (state_of c.in-Some.state))
-          (c.in_ok-expand.ensures.kept c.if-not-branch.false) c.in_ok-look.ensures.stuck c.in_ok-look.ensures.aborted;
-      goes_on = c.in_ok-look.ensures.complete ∙ c.loop-place.invariant.goes_on;
-    }
+loop-place-preserved g c = record {
+  sound = c.in_ok-look_at.ensures.sound;
+  so_far = goes_on (program_of c.args.checked.now.tree) c.args.outside (states_of c.args.kept.now)
+      (states_of c.loop-place.kept) (states_of c.look_at.new.kept) c.loop-place.place c.loop-place.findings
+      c.look_at.new.self c.loop-place.invariant.so_far c.in_ok-look_at.ensures.longer
+      (c.in_ok-look_at.ensures.looked c.if-not-branch.false);
+  goes_on = c.in_ok-look_at.ensures.complete ∙ c.loop-place.invariant.goes_on;
+}
 
 pub returns-then-place-known-clause-expanded : goal.returns-then-place-known-clause-expanded
 returns-then-place-known-clause-expanded g c = λ e.

@@ -1,36 +1,49 @@
-use Rattle.std.proofs.Common.{List, ℕ, map, subst, sym, ◌∙◌}
-use Rattle.std.proofs.lemmas.Result.{IfOk-weaker}
+use Rattle.std.proofs.Common.{subst, sym}
 use Rattle.program.specs.Views.{program_of}
-use Rattle.source_states.specs.Actions.{action_of}
-use Rattle.source_states.specs.States.{state_of}
-use Rattle.source_states.specs.declared.action.Action.{Action as ActionOf}
-use Rattle.source_search.specs.Covered.{AllCovered, IsAhead, IsFollowable}
-use Rattle.source_search.specs.Found.{is_any}
-use Rattle.source_search.specs.Kept.{states_of}
-use Rattle.source_search.proofs.Ahead.{covered_by_choices, seen_covered}
+use Rattle.source_search.specs.Covered.{IsAheadOf}
+use Rattle.source_search.specs.Kept.{states_in, states_of}
+use Rattle.source_search.specs.Packed.{IsGrown}
+use Rattle.source_search.proofs.Keeping.{longer_still, longer_twice}
+use Rattle.source_search.proofs.Packing.{sound_still}
 use Rattle.source_search.proofs.kept.Kept.cover.Goals as goal
 
-pub returns-in_default-clause-kept : goal.returns-in_default-clause-kept
-returns-in_default-clause-kept c =
-    let p = program_of c.args.checked.now.tree in
-    let s = state_of c.args.state in
-    let ahead : IsAhead p s (state_of c.follow_calm.new.state) =
-    c.is_lost.ensures c.if-is_lost.false p s (state_of c.follow_calm.new.state) c.in_ok-followed.ensures in
-    IfOk-weaker c.keep-in_default.result _ _ (λ b h e.
-    seen_covered p (is_any c.args.outside) (states_of c.keep-in_default.new.self) s (sym c.is_any.ensures ∙ c.if-is_any.false)
-    (ahead (states_of c.keep-in_default.new.self) 0 (h e)))
-    c.keep-in_default.ensures.kept
+pub returns-in_default-clause-sound : goal.returns-in_default-clause-sound
+returns-in_default-clause-sound c =
+    sound_still c.args.self.now.parts c.settle.new.self c.in_ok-settled.ensures.grown c.args.self.now.states.items
+    c.requires.sound
 
-pub returns-clause-kept : goal.returns-clause-kept
-returns-clause-kept c =
-    let p = program_of c.args.checked.now.tree in
-    let s = state_of c.args.state in
-    let after = state_of c.follow_calm.new.state in
-    let kept = states_of c.cover_each.new.self in
-    let is : IsAhead p s after × ((t : ℕ) × IsFollowable p after t (map action_of c.in-Choices.actions.items)) =
-    rw c.in-Choices.is at c.in_ok-followed.ensures in
-    IfOk-weaker c.cover_each.result _ _ (λ b h e.
-    let covered = covered_by_choices p kept after is.1.0 (map action_of c.in-Choices.actions.items) is.1.1
-    (subst (λ (xs : List ActionOf). AllCovered p kept after (map action_of xs)) c.as_slice.ensures.value (h e)) in
-    seen_covered p (is_any c.args.outside) kept s (sym c.is_any.ensures ∙ c.if-is_any.false) (is.0 kept covered.0 covered.1))
-    c.cover_each.ensures.kept
+pub returns-in_default-clause-longer : goal.returns-in_default-clause-longer
+returns-in_default-clause-longer c =
+    longer_still c.args.self.now.parts c.settle.new.self c.in_ok-settled.ensures.grown c.args.self.now.states.items
+    c.requires.sound
+
+pub keep_packed-requires-clause-sound : goal.keep_packed-requires-clause-sound
+keep_packed-requires-clause-sound c =
+    sound_still c.args.self.now.parts c.settle.new.self c.in_ok-settled.ensures.grown c.args.self.now.states.items
+    c.requires.sound
+
+pub keep_packed-requires-clause-within : goal.keep_packed-requires-clause-within
+keep_packed-requires-clause-within c =
+    let is : IsAheadOf (program_of c.args.checked.now.tree) c.args.self.now.parts c.settle.new.self c.args.packed
+    c.in-Some.settled =
+    rw c.in-Some.is at (c.in_ok-settled.ensures.ahead c.requires.within) in
+    is.within
+
+pub returns-clause-grown : goal.returns-clause-grown
+returns-clause-grown c =
+    subst (IsGrown c.args.self.now.parts) (sym c.in_ok-kept.ensures.parts) c.in_ok-settled.ensures.grown
+
+pub returns-clause-longer : goal.returns-clause-longer
+returns-clause-longer c =
+    longer_twice (states_of c.args.self.now) (states_in c.settle.new.self c.args.self.now.states.items)
+    (states_of c.keep_packed.new.self)
+    (longer_still c.args.self.now.parts c.settle.new.self c.in_ok-settled.ensures.grown c.args.self.now.states.items
+    c.requires.sound)
+    c.in_ok-kept.ensures.longer
+
+pub returns-clause-covered : goal.returns-clause-covered
+returns-clause-covered c = λ e.
+    let is : IsAheadOf (program_of c.args.checked.now.tree) c.args.self.now.parts c.settle.new.self c.args.packed
+    c.in-Some.settled =
+    rw c.in-Some.is at (c.in_ok-settled.ensures.ahead c.requires.within) in
+    is.ahead (states_of c.keep_packed.new.self) 0 (c.in_ok-kept.ensures.kept e)

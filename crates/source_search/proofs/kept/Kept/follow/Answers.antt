@@ -15,5 +15,5 @@ returns-clause-kept c = λ e.
     let are : AreChoices p c.args.outside s c.args.process (map action_of c.in-Some.actions.items) =
     rw c.in-Some.is at c.in_ok-actions.ensures in
     all_followed p c.args.outside kept s c.args.process (map action_of c.in-Some.actions.items) are
-    (subst (λ xs. All (LeadsToKept p c.args.outside kept s) (map action_of xs)) c.as_slice-listed.ensures.value
+    (subst (λ xs. All (LeadsToKept p kept s) (map action_of xs)) c.as_slice-listed.ensures.value
     (c.in_ok-all.ensures.kept e))

@@ -16,14 +16,14 @@ loop-choice-preserved c =
       longer = longer_twice (states_of c.args.self.now) kept kept' c.loop-choice.invariant.longer
           c.in_ok-take.ensures.longer;
       all = leads_more kept kept' c.in_ok-take.ensures.longer (program_of c.args.checked.now.tree)
-          c.args.outside (state_of c.args.state.now) c.args.actions.now c.loop-choice.choice c.index-actions-choice.result
+          (state_of c.args.state.now) c.args.actions.now c.loop-choice.choice c.index-actions-choice.result
           c.loop-choice-test.true c.index-actions-choice.is c.loop-choice.invariant.all
           (c.in_ok-take.ensures.kept c.if-not-branch.false);
     }
 
 pub returns-clause-kept : goal.returns-clause-kept
 returns-clause-kept c = λ e.
-    subst (All (LeadsToKept (program_of c.args.checked.now.tree) c.args.outside (states_of c.loop-choice.self)
+    subst (All (LeadsToKept (program_of c.args.checked.now.tree) (states_of c.loop-choice.self)
     (state_of c.args.state.now)))
     (ap (map action_of) (take_all c.loop-choice.choice c.args.actions.now c.loop-choice-test.false))
     c.loop-choice.invariant.all

@@ -9,6 +9,6 @@ abbrev pub invariant-loop-choice : goal.invariant-loop-choice
 invariant-loop-choice l = record {
   sound : IsSound l.self;
   longer : IsLonger (states_of l.fn.self) (states_of l.self);
-  all : All (LeadsToKept (program_of l.checked.tree) l.outside (states_of l.self) (state_of l.state))
+  all : All (LeadsToKept (program_of l.checked.tree) (states_of l.self) (state_of l.state))
       (map action_of (take l.choice l.actions));
 }

@@ -1,0 +1,205 @@
+-- Kept states with the processes of a state in place of their own.
+use Rattle.std.proofs.Common.{◌≡◌, ◌<◌, ◌+◌, ◌↔◌, ◌++◌, ℕ, zero, suc, List, [], ◌∷◌, Option, Some, None, All, Contains}
+use Rattle.std.proofs.Common.{length, slice_get, slice_set, take, get_or, refl, sym, ap, ◌∙◌, subst, arith, false, true}
+use Rattle.std.specs.Prelude.{IsSome, is_some, option_map}
+use Rattle.std.proofs.lemmas.List.{take_more}
+use Rattle.std.proofs.lemmas.List.Elements.{All-push, All-set, All-weaker}
+use Rattle.words.specs.Updates.{put}
+use Rattle.words.proofs.Updates.{at_put, at_put2, put_other, put_same}
+use Rattle.meaning.specs.Processes.{Process}
+use Rattle.meaning.specs.States.{SourceState}
+use Rattle.meaning.specs.Table.{Table}
+use Rattle.meaning.specs.Values.{Variables}
+use Rattle.source_offers.specs.Stages.{process_of}
+use Rattle.source_offers.specs.Stores.{variables_of}
+use Rattle.source_offers.specs.declared.process.Process.{Process as ProcessOf}
+use Rattle.source_table.specs.Tables.{table_of}
+use Rattle.source_states.specs.States.{unpeopled}
+use Rattle.source_reaching.specs.Among.{among, or_else}
+use Rattle.source_search.specs.Packed.{IsGrown, IsPrefix, IsWithin, process_in, processes_at, some_process, some_table}
+use Rattle.source_search.specs.Packed.{some_variables, table_in, unpacked, variables_in}
+use Rattle.source_search.specs.Spots.{IsAlone, IsMergedOf, IsMergedTo, IsPutAt, IsSpotOf, alone, over}
+use Rattle.source_search.specs.declared.packed.Packed.{Packed as PackedOf}
+use Rattle.source_search.specs.declared.parts.Parts.{Parts as PartsOf}
+use Rattle.source_search.specs.declared.spot.Spot.{Spot as SpotOf}
+use Rattle.source_search.proofs.Packing.{at_still, prefix_get, prefix_none, prefix_twice, prefix_within, slice_get_last}
+use Rattle.source_search.proofs.Packing.{some_within}
+
+-- the other elements of a list that has one more, or another one at a place
+get_beside : {X : Type 0} (xs : List X) (x : X) (j : ℕ) → (j ≡ length xs → ⊥)
+    → slice_get (xs ++ x ∷ []) j ≡ slice_get xs j
+get_beside [] x zero ne = absurd (ne refl)
+get_beside [] x (suc j) ne = refl
+get_beside (y ∷ ys) x zero ne = refl
+get_beside (y ∷ ys) x (suc j) ne = get_beside ys x j (λ e. ne (ap suc e))
+
+get_set : {X : Type 0} (xs : List X) (i : ℕ) (x : X) → i < length xs → slice_get (slice_set xs i x) i ≡ Some x
+get_set [] i x l = absurd (omega (arith, l))
+get_set (y ∷ ys) zero x l = refl
+get_set (y ∷ ys) (suc i) x l = get_set ys i x (omega (arith, l))
+
+get_set_other : {X : Type 0} (xs : List X) (i j : ℕ) (x : X) → (j ≡ i → ⊥)
+    → slice_get (slice_set xs i x) j ≡ slice_get xs j
+get_set_other [] i j x ne = refl
+get_set_other (y ∷ ys) zero zero x ne = absurd (ne refl)
+get_set_other (y ∷ ys) zero (suc j) x ne = refl
+get_set_other (y ∷ ys) (suc i) zero x ne = refl
+get_set_other (y ∷ ys) (suc i) (suc j) x ne = get_set_other ys i j x (λ e. ne (ap suc e))
+
+-- a process that is put at its place
+module _ (ids ids' : List ℕ) (place part : ℕ) (here : slice_get ids' place ≡ Some part)
+    (there : (j : ℕ) → (j ≡ place → ⊥) → slice_get ids' j ≡ slice_get ids j) where
+  put_there : (parts : List ProcessOf) (q : ℕ)
+      → processes_at parts ids' q ≡ put (processes_at parts ids) (suc place) (process_in parts part) q
+  put_there parts q = at_put (processes_at parts ids) (suc place) (process_in parts part) q
+      (λ o. processes_at parts ids' q ≡ o) (λ e. ap (processes_at parts ids') e ∙ ap (some_process parts) here)
+      (λ ne. beside q ne)
+    where
+      beside : (r : ℕ) → (r ≡ suc place → ⊥) → processes_at parts ids' r ≡ processes_at parts ids r
+      beside zero ne = refl
+      beside (suc j) ne = ap (some_process parts) (there j (λ e. ne (ap suc e)))
+
+pub put_last : (ids ids' : List ℕ) (n part : ℕ) → n ≡ suc (length ids) → ids' ≡ ids ++ part ∷ []
+    → IsPutAt ids n part ids'
+put_last ids ids' n part is e = subst (λ m. IsPutAt ids m part ids') (sym is) (record {
+  at = put_there ids ids' (length ids) part (ap (λ l. slice_get l (length ids)) e ∙ slice_get_last ids part)
+      (λ j ne. ap (λ l. slice_get l j) e ∙ get_beside ids part j ne);
+  within = λ m l all. subst (All (λ k. k < m)) (sym e) (All-push (λ k. k < m) ids part all l);
+})
+
+pub put_within : (ids ids' : List ℕ) (n place part : ℕ) → n ≡ suc place → place < length ids
+    → ids' ≡ slice_set ids place part → IsPutAt ids n part ids'
+put_within ids ids' n place part is less e = subst (λ m. IsPutAt ids m part ids') (sym is) (record {
+  at = put_there ids ids' place part (ap (λ l. slice_get l place) e ∙ get_set ids place part less)
+      (λ j ne. ap (λ l. slice_get l j) e ∙ get_set_other ids place j part ne);
+  within = λ m l all. subst (All (λ k. k < m)) (sym e) (All-set (λ k. k < m) ids place part l all);
+})
+
+-- another's values at some numbers
+over_push : (ns : List ℕ) (n : ℕ) (f g : ℕ → Option Process) (q : ℕ)
+    → over (ns ++ n ∷ []) f g q ≡ put (over ns f g) n (f n) q
+over_push [] n f g q = refl
+over_push (m ∷ ns) n f g q = over_push ns n f (put g m (f m)) q
+
+over_out : (ns : List ℕ) (f g : ℕ → Option Process) (q : ℕ) → (Contains ns q → ⊥) → over ns f g q ≡ g q
+over_out [] f g q not = refl
+over_out (n ∷ ns) f g q not =
+    over_out ns f (put g n (f n)) q (λ c. let l : c.0 < length ns = c.1 in not (suc c.0, omega (arith, l), c.2))
+    ∙ put_other g n (f n) q (λ e. not (zero, omega arith, sym e))
+
+over_same : (ns : List ℕ) (f g : ℕ → Option Process) (q : ℕ) → g q ≡ f q → over ns f g q ≡ f q
+over_same [] f g q e = e
+over_same (n ∷ ns) f g q e =
+    over_same ns f (put g n (f n)) q (at_put g n (f n) q (λ o. o ≡ f q) (λ h. ap f (sym h)) (λ ne. e))
+
+over_in : (ns : List ℕ) (f g : ℕ → Option Process) (q : ℕ) → Contains ns q → over ns f g q ≡ f q
+over_in [] f g q (k, l, e) = absurd (omega (arith, l))
+over_in (n ∷ ns) f g q (zero, l, e) = over_same ns f (put g n (f n)) q
+    (at_put g n (f n) q (λ o. o ≡ f q) (λ h. ap f (sym h)) (λ ne. absurd (ne (sym e))))
+over_in (n ∷ ns) f g q (suc k, l, e) = over_in ns f (put g n (f n)) q (k, omega (arith, l), e)
+
+-- at all that there are
+module _ (ns : List ℕ) (f g : ℕ → Option Process) (all : (q : ℕ) → Contains ns q ↔ IsSome (f q)) (q : ℕ) where
+  over_if : (o : Option Process) → f q ≡ o → over ns f g q ≡ or_else o (g q)
+  over_if None e = over_out ns f g q
+      (λ c. let no : false ≡ true = subst IsSome e ((all q).0 c) in cc)
+  over_if (Some y) e = over_in ns f g q ((all q).1 (ap is_some e)) ∙ e
+
+  pub over_all : over ns f g q ≡ or_else (f q) (g q)
+  over_all = over_if (f q) refl
+
+-- the processes of no number, and of one more
+pub merged_none : (xs : List ProcessOf) (ids ids' : List ℕ) (f : ℕ → Option Process) (numbers : List ℕ)
+    → All (λ n. n < length xs) ids → ids' ≡ ids → IsMergedTo xs xs ids f (take 0 numbers) ids'
+merged_none xs ids ids' f numbers all e = subst (IsMergedTo xs xs ids f (take 0 numbers)) (sym e)
+    (record { within = all; at = λ q. refl })
+
+module _ (xs ys zs : List ProcessOf) (more : IsPrefix ys zs) (ids v v' : List ℕ) (f : ℕ → Option Process)
+    (numbers : List ℕ) (i n part : ℕ) (q : Process) (so_far : IsMergedTo xs ys ids f (take i numbers) v)
+    (puts : IsPutAt v n part v') (there : process_in zs part ≡ Some q) (stands : f n ≡ Some q) (less : i < length numbers)
+    (is : n ≡ get_or numbers i 0) where
+  over_next : (r : ℕ) → put (processes_at zs v) n (process_in zs part) r
+      ≡ over (take (i + 1) numbers) f (processes_at xs ids) r
+  over_next r =
+      at_put2 (processes_at zs v) (over (take i numbers) f (processes_at xs ids)) n (process_in zs part) (f n) r
+      (λ a b. a ≡ b) (λ e. there ∙ sym stands) (λ ne. at_still ys zs more v so_far.within r ∙ so_far.at r)
+      ∙ sym (over_push (take i numbers) n f (processes_at xs ids) r)
+      ∙ ap (λ l. over l f (processes_at xs ids) r)
+      (ap (λ m. take i numbers ++ m ∷ []) is ∙ sym (take_more numbers i 0 less))
+
+  pub merged_more : IsMergedTo xs zs ids f (take (i + 1) numbers) v'
+  merged_more = record {
+    within = puts.within (length zs) (some_within process_of zs part q there)
+        (All-weaker (λ m. m < length ys) (λ m. m < length zs) (λ m. prefix_within ys zs m more) v so_far.within);
+    at = λ r. puts.at zs r ∙ over_next r;
+  }
+
+-- all of them, with the table and the variables
+module _ (o a b d : PartsOf) (g : IsGrown a b) (h : IsGrown b d) (x y : PackedOf) (s : SourceState)
+    (numbers : List ℕ)
+    (are : IsMergedTo o.processes.items a.processes.items x.processes.items s.process numbers y.processes.items)
+    (all : (q : ℕ) → Contains numbers q ↔ IsSome (s.process q))
+    (t : table_in b.tables.items y.table ≡ Some s.table)
+    (v : variables_in d.variables.items y.variables ≡ Some s.variable) where
+  more : IsPrefix a.processes.items d.processes.items
+  more = prefix_twice a.processes.items b.processes.items d.processes.items g.processes h.processes
+
+  within_table : y.table < length b.tables.items
+  within_table = some_within table_of b.tables.items y.table s.table t
+
+  pub merged_all : IsMergedOf o d x s y
+  merged_all = record {
+    within = record {
+      table = prefix_within b.tables.items d.tables.items y.table h.tables within_table;
+      variables = some_within variables_of d.variables.items y.variables s.variable v;
+      processes = All-weaker (λ n. n < length a.processes.items) (λ n. n < length d.processes.items)
+          (λ n. prefix_within a.processes.items d.processes.items n more) y.processes.items are.within;
+    };
+    like = record {
+      table = ap some_table (ap (option_map table_of)
+          (prefix_get b.tables.items d.tables.items y.table h.tables within_table) ∙ t);
+      variable = ap some_variables v;
+      process = λ i q. (at_still a.processes.items d.processes.items more y.processes.items are.within q
+          ∙ are.at q ∙ over_all numbers s.process (processes_at o.processes.items x.processes.items) all q) i;
+    };
+  }
+
+-- a state that was made of a spot
+pub alone_of : (parts : PartsOf) (spot : SpotOf) (s : SourceState) (t : Table) (v : Variables) (q : Process)
+    → table_in parts.tables.items spot.table ≡ Some t → variables_in parts.variables.items spot.variables ≡ Some v
+    → process_in parts.processes.items spot.part ≡ Some q
+    → s ≡ record (unpeopled t v) { process = put (λ r. None) spot.process (Some q) } → IsAlone parts spot s
+alone_of parts spot s t v q is_table are_variables is_process made = record {
+  same = made ∙ (λ i. record {
+    table = sym (ap some_table is_table) i;
+    variable = sym (ap some_variables are_variables) i;
+    process = put (λ r. None) spot.process (sym is_process i);
+    printed = [];
+  });
+  stands = ap is_some (ap (λ (r : SourceState). r.process spot.process) made ∙ put_same (λ r. None) spot.process (Some q));
+}
+
+-- the process of a spot, with the others of the kept state beside it
+module _ (parts : PartsOf) (x : PackedOf) (place : ℕ) (spot : SpotOf) (is : IsSpotOf x place spot) where
+  twice : (o : Option Process) → or_else o o ≡ o
+  twice None = refl
+  twice (Some q) = refl
+
+  standing : process_in parts.processes.items spot.part ≡ (unpacked parts x).process spot.process
+  standing = sym (ap (processes_at parts.processes.items x.processes.items) is.process
+      ∙ ap (some_process parts.processes.items) is.part)
+
+  at : (q : ℕ) → or_else ((alone parts spot).process q) ((unpacked parts x).process q) ≡ (unpacked parts x).process q
+  at q = at_put (λ r. None) spot.process (process_in parts.processes.items spot.part) q
+      (λ o. or_else o ((unpacked parts x).process q) ≡ (unpacked parts x).process q)
+      (λ e. ap (λ o. or_else o ((unpacked parts x).process q)) (standing ∙ ap (unpacked parts x).process (sym e))
+      ∙ twice ((unpacked parts x).process q))
+      (λ ne. refl)
+
+  pub among_spot : among (unpacked parts x).process (alone parts spot) ≡ unpacked parts x
+  among_spot = λ i. record {
+    table = some_table (table_in parts.tables.items (is.table i));
+    variable = some_variables (variables_in parts.variables.items (is.variables i));
+    process = λ q. at q i;
+    printed = [];
+  }

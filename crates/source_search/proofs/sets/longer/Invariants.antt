@@ -1,7 +1,0 @@
-use Rattle.std.proofs.Common.{◌≡◌, ◌++◌, ◌∷◌, [], map, take}
-use Rattle.source_search.specs.Choices.{lists_in}
-use Rattle.source_search.proofs.sets.longer.Given as goal
-
-abbrev pub invariant-loop-list : goal.invariant-loop-list
-invariant-loop-list l =
-    lists_in l.longer.items ≡ map (λ list. list ++ l.number ∷ []) (lists_in (take l.list-index l.lists))

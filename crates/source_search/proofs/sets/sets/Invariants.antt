@@ -1,6 +1,0 @@
-use Rattle.std.proofs.Common.{take}
-use Rattle.source_search.specs.Choices.{HasEachSet, lists_in}
-use Rattle.source_search.proofs.sets.sets.Given as goal
-
-abbrev pub invariant-loop-number : goal.invariant-loop-number
-invariant-loop-number l = HasEachSet (take l.number-index l.numbers) (lists_in l.lists.items)

@@ -1,0 +1,116 @@
+ghost use Rattle.std.specs.Prelude.{◌≡◌, ◌<◌, All, IfOk, IfSome, OnOk, length, true};
+ghost use Rattle.source_states.specs.States.{state_of};
+ghost use Rattle.source_search.specs.Spots.{IsPutAt};
+
+use crate::digest::digest_table;
+use crate::packed::Packed;
+use crate::parts::Parts;
+use crate::spot::Spot;
+use program::Program;
+use source_states::SourceState;
+use std::alloc::{AllocError, Global};
+
+// Puts a part at the place of a process, or behind the last one; false where the process has a number further on.
+fn put_part(processes: &mut Vec<u32>, process: u64, part: u32) -> Result<bool, AllocError>
+    ensures { IfOk result (λ b. b ≡ true → IsPutAt processes.old.items process part processes.new.items) }
+{
+    if process == 0 {
+        return Ok(false);
+    }
+    let place = (process - 1) as usize;
+    if place > processes.len() {
+        return Ok(false);
+    }
+    if place == processes.len() {
+        processes.push(part)?;
+        return Ok(true);
+    }
+    processes[place] = part;
+    Ok(true)
+}
+
+impl<'a> Parts<'a> {
+    ghost use Rattle.source_search.specs.Packed.{IsGrown, IsWithin};
+    ghost use Rattle.source_search.specs.Spots.{IsAlone, IsMergedOf, IsMergedTo};
+
+    /// The state in which a process stands at this spot, and there is no other; None where a part isn't there.
+    pub fn small(&self, alloc: Global, spot: Spot) -> Result<Option<SourceState<'a>>, AllocError>
+        ensures { IfOk result (λ o. IfSome o (λ s. IsAlone self.now spot (state_of s))) }
+    {
+        let Some(part) = self.processes.get(spot.part as usize) else {
+            return Ok(None);
+        };
+        let Some(table) = self.tables.get(spot.table as usize) else {
+            return Ok(None);
+        };
+        let Some(variables) = self.variables.get(spot.variables as usize) else {
+            return Ok(None);
+        };
+        let process = part.copy(alloc)?;
+        let mut state = SourceState::unpeopled(alloc, table.copy()?, variables.copy()?);
+        state.place(u64::from(spot.process), process)?;
+        Ok(Some(state))
+    }
+
+    // The numbers of the processes of a kept state, with those of a state, of which these are all, in place of its own;
+    // None where there are too many, or one has a number past the next one.
+    fn merge_processes(
+        &mut self,
+        alloc: Global,
+        processes: &[u32],
+        state: &SourceState<'a>,
+        numbers: &[u64],
+    ) -> Result<Option<Vec<u32>>, AllocError>
+        ensures grown { OnOk result (IsGrown self.old self.new) }
+        ensures merged { All (λ n. n < length self.old.processes.items) processes.now
+            → IfOk result (λ o. IfSome o (λ v. IsMergedTo self.old.processes.items self.new.processes.items
+            processes.now (state_of state.now).process numbers.now v.items)) }
+    {
+        let mut parts = Vec::from_slice(alloc, processes)?;
+        for number in numbers {
+            let Some(process) = state.process(*number) else {
+                return Ok(None);
+            };
+            let Some(part) = self.process_number(alloc, process)? else {
+                return Ok(None);
+            };
+            if !put_part(&mut parts, *number, part)? {
+                return Ok(None);
+            }
+        }
+        Ok(Some(parts))
+    }
+
+    /// A kept state, with a state's table, variables and processes in place of its own; None where there are too many
+    /// parts, or one of the processes has a number past the next one.
+    pub fn merge(
+        &mut self,
+        alloc: Global,
+        program: &Program,
+        packed: &Packed,
+        state: &SourceState<'a>,
+    ) -> Result<Option<Packed>, AllocError>
+        ensures grown { OnOk result (IsGrown self.old self.new) }
+        ensures merged { IsWithin self.old packed.now → IfOk result (λ o. IfSome o
+            (λ x. IsMergedOf self.old self.new packed.now (state_of state.now) x)) }
+    {
+        let all = state.numbers(alloc)?;
+        let numbers = all.as_slice();
+        let own = packed.processes.as_slice();
+        let Some(processes) = self.merge_processes(alloc, own, state, numbers)? else {
+            return Ok(None);
+        };
+        let digest = digest_table(program, state, processes.len() as u64);
+        let Some(table) = self.table_number(state.table(), digest)? else {
+            return Ok(None);
+        };
+        let Some(variables) = self.variables_number(state.variables(), packed.variables)? else {
+            return Ok(None);
+        };
+        Ok(Some(Packed {
+            table,
+            variables,
+            processes,
+        }))
+    }
+}
