@@ -51,13 +51,7 @@ impl<'a> Parts<'a> {
             return Ok(None);
         };
         let mut small = found;
-        let followed = follow_own(
-            alloc,
-            checked,
-            &mut small,
-            u64::from(spot.process),
-            trail,
-        )?;
+        let followed = follow_own(alloc, checked, &mut small, u64::from(spot.process), trail)?;
         if is_lost(&followed) {
             return Ok(None);
         }
@@ -169,7 +163,10 @@ impl<'a> Kept<'a> {
         ensures covered { IfOk result (λ kept. kept ≡ true → IsCoveredSo (program_of checked.now.tree)
             (states_of self.new) (among (unpacked self.old.parts packed.now).process (state_of end.now.state))) }
     {
-        let Some(next) = self.parts.merge(alloc, checked.program(), packed, &end.state)? else {
+        let Some(next) = self
+            .parts
+            .merge(alloc, checked.program(), packed, &end.state)?
+        else {
             return Ok(false);
         };
         let way = way.with(end.choice, end.later);

@@ -130,7 +130,15 @@ fn followed_to<'a>(
         let Some(after) = kept.packed_at(alloc, *at)? else {
             return Ok(actions);
         };
-        go_between(alloc, checked, &mut kept.parts, &before, &after, way, &mut actions)?;
+        go_between(
+            alloc,
+            checked,
+            &mut kept.parts,
+            &before,
+            &after,
+            way,
+            &mut actions,
+        )?;
     }
     Ok(actions)
 }

@@ -39,8 +39,9 @@ returns-clause-looked c = λ e.
       here = at.here;
       expanded = expanded_own p c.args.outside c.requires.own (states_of c.expand_own.new.self) a x
           (rw c.in-Some-2.is at c.in_ok-moves.ensures.followed);
-      stuck = λ none. let told = c.in_ok-told.ensures.stuck e none in
-          (sym c.note_failed.ensures.stuck ∙ told.0,
-          subst (λ s. IsStuck p s → ⊥) (unpacked_still a b c.in_ok-moves.ensures.grown x at.within) told.1);
+      stuck = λ none. let told = c.in_ok-told.ensures.stuck e none in (
+        sym c.note_failed.ensures.stuck ∙ told.0,
+        subst (λ s. IsStuck p s → ⊥) (unpacked_still a b c.in_ok-moves.ensures.grown x at.within) told.1,
+      );
       aborted = λ none. c.note_failed.ensures.aborted (sym c.in_ok-told.ensures.aborted ∙ none);
     }
