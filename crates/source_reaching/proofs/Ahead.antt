@@ -1,5 +1,5 @@
 -- What calm actions of one process lead to, and how far what is kept covers.
-use Rattle.std.proofs.Common.{◌≡◌, ◌<◌, ◌+◌, ℕ, zero, suc, Bool, true, false, List, [], ◌∷◌, None, Option, Some, refl}
+use Rattle.std.proofs.Common.{◌≡◌, ◌+◌, ℕ, zero, suc, Bool, true, false, List, [], ◌∷◌, None, Option, Some, refl}
 use Rattle.std.proofs.Common.{All, Contains, sym, ap, ◌∙◌, subst, arith, inl, inr}
 use Rattle.std.specs.Prelude.{if◌then◌else◌, nat_le, option_map}
 use Rattle.std.proofs.lemmas.List.Elements.{All-contains}

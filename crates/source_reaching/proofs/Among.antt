@@ -1,13 +1,13 @@
 -- What a process does, whatever the other processes are.
 use Rattle.std.proofs.Common.{◌≡◌, ℕ, Option, Some, None, refl, sym, ap, ◌∙◌, subst, inl, inr, true, false}
-use Rattle.std.specs.Prelude.{IsSome, is_some}
+use Rattle.std.specs.Prelude.{IsSome}
 use Rattle.words.specs.Updates.{put}
 use Rattle.words.proofs.Updates.{at_put, at_put2}
 use Rattle.program.specs.Trees.{Program}
-use Rattle.meaning.specs.Labels.{Action, Kill, Killed, Kind, Stray}
-use Rattle.meaning.specs.Offers.{Effect, Makes, Nothing, Puts, Writes, offer}
+use Rattle.meaning.specs.Labels.{Action, Killed}
+use Rattle.meaning.specs.Offers.{Effect, Makes, Nothing, Puts, Writes}
 use Rattle.meaning.specs.Processes.{Dying, Process}
-use Rattle.meaning.specs.Runs.{CanMove, IsAction, IsKill, IsStep, IsStray}
+use Rattle.meaning.specs.Runs.{CanMove, IsAction, IsKill, IsStep}
 use Rattle.meaning.specs.States.{SourceState, processes_after}
 use Rattle.proof_exploration.specs.Exploring.{IsLike}
 use Rattle.source_reaching.specs.Among.{among, or_else}
