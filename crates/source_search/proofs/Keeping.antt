@@ -1,6 +1,6 @@
 -- States that are kept, and stay so while more is.
 use Rattle.std.proofs.Common.{◌≡◌, ◌<◌, ◌≤◌, ◌+◌, refl, arith, ◌↔◌, ℕ, Bool, List, [], ◌∷◌, ◌++◌, length, get_or, map, take, All}
-use Rattle.std.proofs.Common.{Contains, Some, true, false, zero, inl, inr}
+use Rattle.std.proofs.Common.{Contains, Some, true, false, zero}
 use Rattle.std.proofs.Common.{slice_get, sym, ap, ◌∙◌, subst, append_assoc}
 use Rattle.std.specs.Prelude.{IsSome, ◌||◌, nat_lt}
 use Rattle.std.proofs.lemmas.Bool.Decides.{nat_tests}

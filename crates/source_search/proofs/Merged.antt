@@ -16,13 +16,13 @@ use Rattle.source_offers.specs.declared.process.Process.{Process as ProcessOf}
 use Rattle.source_table.specs.Tables.{table_of}
 use Rattle.source_states.specs.States.{unpeopled}
 use Rattle.source_reaching.specs.Among.{among, or_else}
-use Rattle.source_search.specs.Packed.{IsGrown, IsPrefix, IsWithin, process_in, processes_at, some_process, some_table}
+use Rattle.source_search.specs.Packed.{IsGrown, IsPrefix, process_in, processes_at, some_process, some_table}
 use Rattle.source_search.specs.Packed.{some_variables, table_in, unpacked, variables_in}
 use Rattle.source_search.specs.Spots.{IsAlone, IsMergedOf, IsMergedTo, IsPutAt, IsSpotOf, alone, over}
 use Rattle.source_search.specs.declared.packed.Packed.{Packed as PackedOf}
 use Rattle.source_search.specs.declared.parts.Parts.{Parts as PartsOf}
 use Rattle.source_search.specs.declared.spot.Spot.{Spot as SpotOf}
-use Rattle.source_search.proofs.Packing.{at_still, prefix_get, prefix_none, prefix_twice, prefix_within, slice_get_last}
+use Rattle.source_search.proofs.Packing.{at_still, prefix_get, prefix_twice, prefix_within, slice_get_last}
 use Rattle.source_search.proofs.Packing.{some_within}
 
 -- the other elements of a list that has one more, or another one at a place

@@ -1,6 +1,6 @@
 -- How far a search has come, and what it knows at its end.
 use Rattle.std.proofs.Common.{◌≡◌, ◌<◌, ◌≤◌, ◌+◌, ℕ, zero, suc, Bool, List, [], ◌∷◌, ◌++◌, length, get_or, take, All}
-use Rattle.std.proofs.Common.{Option, Some, None, slice_get, sym, refl, ap, ◌∙◌, subst, arith, true, false, inl, inr}
+use Rattle.std.proofs.Common.{Option, Some, None, sym, refl, ap, ◌∙◌, subst, arith, true, false, inl, inr}
 use Rattle.std.specs.Prelude.{IsSome, is_some}
 use Rattle.std.proofs.lemmas.List.{get_or_append_left, length-append, length-take, take-append-le, take_all}
 use Rattle.std.proofs.lemmas.List.Elements.{All-contains, All-more, All-weaker}

@@ -1,4 +1,4 @@
-use Rattle.std.proofs.Common.{◌<◌, ◌∙◌, ℕ, suc, ap, arith, below_more, length, get_or, subst, sym}
+use Rattle.std.proofs.Common.{◌<◌, ◌∙◌, suc, ap, arith, below_more, length, get_or, sym}
 use Rattle.source_search.specs.Found.{FailedAt}
 use Rattle.source_search.specs.Packed.{process_in, unpacked}
 use Rattle.source_search.proofs.Endings.{none_failed, part_stands}

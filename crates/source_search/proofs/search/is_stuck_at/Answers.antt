@@ -1,5 +1,4 @@
-use Rattle.std.proofs.Common.{◌≡◌, ap, subst, sym}
-use Rattle.std.specs.Prelude.{MatchBool}
+use Rattle.std.proofs.Common.{◌≡◌, subst}
 use Rattle.program.specs.Views.{program_of}
 use Rattle.proof_exploration.specs.Exploring.{IsStuck}
 use Rattle.source_states.specs.States.{state_of}

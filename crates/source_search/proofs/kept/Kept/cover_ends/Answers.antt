@@ -1,4 +1,4 @@
-use Rattle.std.proofs.Common.{ℕ, ap, subst, sym}
+use Rattle.std.proofs.Common.{ℕ, subst}
 use Rattle.std.proofs.lemmas.List.{take_all}
 use Rattle.program.specs.Views.{program_of}
 use Rattle.source_reaching.specs.Among.{AreCovered, among}

@@ -18,7 +18,7 @@ returns-clause-ahead c = λ within.
     let single : IsAlone parts spot s = rw c.in-Some-2.is at c.in_ok-found.ensures in
     let number : c.from.result ≡ spot.process = c.from.ensures in
     let alone : IsAheadAmong p c.from.result s s' =
-    c.is_lost.ensures c.if-is_lost.false p c.from.result s s' c.in_ok-followed.ensures in
+    c.is_lost.ensures.ahead c.if-is_lost.false p c.from.result s s' c.in_ok-followed.ensures in
     let ahead : IsAheadAmong p spot.process s s' = subst (λ t. IsAheadAmong p t s s') number alone in
     IfOk-weaker c.merge.result _ _ (λ o h. IfSome_then o h (λ y merged.
     ahead_merged p parts c.merge.new.self c.args.packed.now y c.args.place spot s s' c.in-Some.ensures single ahead merged))

@@ -1,5 +1,5 @@
 use Rattle.std.proofs.Common.{◌≡◌, ◌∙◌, Some, ap, length, refl, slice_get, subst, sym}
-use Rattle.std.specs.Prelude.{option_map, None}
+use Rattle.std.specs.Prelude.{option_map}
 use Rattle.std.proofs.lemmas.Option.{slice_get_read}
 use Rattle.words.specs.Updates.{put}
 use Rattle.meaning.specs.States.{SourceState}

@@ -1,8 +1,7 @@
-use Rattle.std.proofs.Common.{◌≡◌, ◌∙◌, ℕ, None, subst, sym, true}
+use Rattle.std.proofs.Common.{◌≡◌, ◌∙◌, ℕ, subst, sym, true}
 use Rattle.program.specs.Views.{program_of}
 use Rattle.meaning.specs.Runs.{CanMove}
 use Rattle.proof_exploration.specs.Exploring.{IsStuck}
-use Rattle.source_search.specs.Covered.{IsFollowedOwn}
 use Rattle.source_search.specs.Kept.{IsKeptAt, states_of}
 use Rattle.source_search.specs.Packed.{unpacked}
 use Rattle.source_search.proofs.Coverage.{expanded_own}

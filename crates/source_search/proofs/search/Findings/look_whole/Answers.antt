@@ -1,5 +1,4 @@
 use Rattle.std.proofs.Common.{◌≡◌, Some, slice_get}
-use Rattle.program.specs.Views.{program_of}
 use Rattle.source_states.specs.States.{state_of}
 use Rattle.source_search.specs.Kept.{states_of}
 use Rattle.source_search.proofs.search.Findings.look_whole.Goals as goal
