@@ -26,7 +26,7 @@ use Rattle.source_search.specs.declared.packed.Packed.{Packed as PackedOf}
 use Rattle.source_search.specs.declared.parts.Parts.{Parts as PartsOf}
 use Rattle.source_search.specs.Kept.{IsExpanded, IsFollowed, IsLonger, IsSeen, LeadsToKept, states_in}
 use Rattle.source_search.proofs.Packing.{same_key, states_still}
-use Rattle.source_search.proofs.Subsets.{contains_map}
+use Rattle.source_reaching.proofs.Subsets.{contains_map}
 
 pub longer_none : (kept : List SourceState) → IsLonger kept kept
 longer_none kept = ([], sym (append-nil kept))

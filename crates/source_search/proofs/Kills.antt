@@ -24,7 +24,7 @@ use Rattle.source_offers.specs.declared.process.Stage.{Stage as StageOf}
 use Rattle.source_offers.specs.declared.process.Stage.TheVariants as stage
 use Rattle.source_reaching.specs.Choices.{HasEachSet, by}
 use Rattle.source_search.specs.Choices.{AreHeld, AreKills, AreResumable, WouldNotify, kills_with}
-use Rattle.source_search.proofs.Subsets.{among, contains_map, is_one_of, one_of, passes, stays}
+use Rattle.source_reaching.proofs.Subsets.{among, contains_map, is_one_of, one_of, passes, stays}
 
 -- what a function makes of an element of a list is among what it makes of all
 contains_flat : {X A : Type 0} (f : X → List A) (xs : List X) (x : X) (a : A) → Contains xs x → Contains (f x) a

@@ -1,4 +1,3 @@
-pub mod Subsets
 pub mod Tried
 pub mod Killed
 pub mod Kills

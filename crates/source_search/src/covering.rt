@@ -89,7 +89,7 @@ impl<'a> Parts<'a> {
 }
 
 impl<'a> Kept<'a> {
-    ghost use Rattle.std.specs.Prelude.{◌≡◌, ◌<◌, IfOk, IfSome, OnOk, length, suc, true, ℕ};
+    ghost use Rattle.std.specs.Prelude.{◌≡◌, ◌<◌, IfOk, IfSome, OnOk, suc, true, ℕ};
     ghost use Rattle.program.specs.Views.{program_of};
     ghost use Rattle.meaning.specs.Runs.{CanMove};
     ghost use Rattle.source_reaching.specs.Among.{AreCovered, among};
