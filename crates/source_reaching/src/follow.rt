@@ -1,16 +1,58 @@
-ghost use Rattle.std.specs.Prelude.{◌≡◌, IfOk, false, ℕ};
+ghost use Rattle.std.specs.Prelude.{◌≡◌, All, IfOk, IfSome, false, map, true, ℕ};
 ghost use Rattle.program.specs.Trees.{Program as ProgramOf};
 ghost use Rattle.program.specs.Views.{program_of};
+ghost use Rattle.meaning.specs.Labels.{Action as ActionOf};
 ghost use Rattle.meaning.specs.States.{SourceState as SourceStateOf};
+ghost use Rattle.proof_exploration.specs.Exploring.{IsCalmKind, IsFromOutside};
+ghost use Rattle.source_states.specs.Actions.{action_of, kind_of};
 ghost use Rattle.source_states.specs.States.{state_of};
-ghost use Rattle.source_reaching.specs.Among.{IsAheadAmong};
-ghost use Rattle.source_reaching.specs.Followed.{IsFollowedAmong};
+ghost use Rattle.source_reaching.specs.Among.{IsAheadAmong, Reaches};
+ghost use Rattle.source_reaching.specs.Covered.{IsFollowable};
+ghost use Rattle.source_reaching.specs.Followed.{IsFollowedAmong, IsReached};
 
+use crate::own::own_actions;
 use program::{Checked, Role, Statement, Target};
 use source_offers::{Frame, Process, Stage, upcoming};
-use source_states::{Action, SourceState};
+use source_states::{Action, ActionKind, SourceState};
 use source_table::Table;
+use sourcemeaning::can_move;
 use std::alloc::{AllocError, Global};
+use words::Fault;
+
+// How many calm actions are done at most before a state is kept.
+const MOST: usize = 1000;
+
+// Whether an action of this name is a process's own and calm: none for which processes race.
+fn is_calm(kind: &ActionKind) -> bool
+    ensures calm { result ≡ true → IsCalmKind (kind_of kind.now) }
+    ensures own { result ≡ true → IsFromOutside (kind_of kind.now) → ⊥ }
+{
+    match kind {
+        ActionKind::Enter(_) => false,
+        ActionKind::Resume(_) => false,
+        ActionKind::Fork(_) => false,
+        ActionKind::Claim(_) => false,
+        ActionKind::Fails(fault) => match fault {
+            Fault::ProcessTableFull | Fault::HandleNotJoinable => false,
+            _ => true,
+        },
+        ActionKind::Stray(_) => false,
+        ActionKind::Kill(_, _) => false,
+        _ => true,
+    }
+}
+
+// Whether all of these are calm.
+fn are_calm(actions: &[Action]) -> bool
+    ensures { result ≡ true → All (λ a. IsCalmKind a.kind) (map action_of actions.now) }
+{
+    for action in actions {
+        if !is_calm(&action.kind) {
+            return false;
+        }
+    }
+    true
+}
 
 // How the next action of a process looks.
 #[derive(Clone, Copy, PartialEq, Eq, Debug)]
@@ -53,10 +95,40 @@ fn looks_by(process: &Process, table: &Table) -> Looks {
     }
 }
 
+// The same, of a process of a state; as one for which processes race, where there is none.
+fn looks_next(state: &SourceState, number: u64) -> Looks {
+    match state.process(number) {
+        None => Looks::Racing,
+        Some(process) => looks_by(process, state.table()),
+    }
+}
+
 /// Whether the next action of a process looks calm, by where the process stands and by the table. Nothing is promised of
 /// it: it spares asking what the process may do.
 pub fn looks_calm(process: &Process, table: &Table) -> bool {
     looks_by(process, table) != Looks::Racing
+}
+
+// What a process may do next, where it can move and all of that is calm.
+fn calm_actions<'a>(
+    alloc: Global,
+    checked: &'a Checked,
+    state: &SourceState<'a>,
+    process: u64,
+) -> Result<Option<Vec<Action>>, AllocError>
+    ensures { IfOk result (λ o. IfSome o (λ v. IsFollowable (program_of checked.now.tree)
+        (state_of state.now) process (map action_of v.items))) }
+{
+    if !can_move(state, checked, process) {
+        return Ok(None);
+    }
+    let Some(actions) = own_actions(alloc, checked, state, process)? else {
+        return Ok(None);
+    };
+    if !are_calm(actions.as_slice()) {
+        return Ok(None);
+    }
+    Ok(Some(actions))
 }
 
 /// What came of following calm actions.
@@ -74,8 +146,10 @@ pub enum Followed {
 
 /// Whether nothing is known of the state.
 pub fn is_lost(followed: &Followed) -> bool
-    ensures { result ≡ false → (p : ProgramOf) (t : ℕ) (s s' : SourceStateOf)
+    ensures ahead { result ≡ false → (p : ProgramOf) (t : ℕ) (s s' : SourceStateOf)
         → IsFollowedAmong p t s s' followed.now → IsAheadAmong p t s s' }
+    ensures reaches { result ≡ false → (p : ProgramOf) (t : ℕ) (s : SourceStateOf) (a : ActionOf) (s' : SourceStateOf)
+        → IsReached p t s a s' followed.now → Reaches p t s a s' }
 {
     match followed {
         Followed::Lost => true,
@@ -85,11 +159,9 @@ pub fn is_lost(followed: &Followed) -> bool
     }
 }
 
-/// Follows the actions of a process, as long as the next one is calm and there is no choice, and notes them; some
-/// thousand at most. Answers the choices, where there are several. Whatever the other processes are, where the state that
-/// is come to is covered, so is the one before.
-pub fn follow_own<'a>(
-    _alloc: Global,
+// Lets a process do what it may, where all of that is calm, and it is one action; and notes the action.
+fn go_calmly<'a>(
+    alloc: Global,
     checked: &'a Checked,
     state: &mut SourceState<'a>,
     process: u64,
@@ -98,5 +170,77 @@ pub fn follow_own<'a>(
     ensures { IfOk result (λ f. IsFollowedAmong (program_of checked.now.tree) process (state_of state.old)
         (state_of state.new) f) }
 {
-    Err(AllocError)
+    let Some(mut actions) = calm_actions(alloc, checked, state, process)? else {
+        return Ok(Followed::Stopped);
+    };
+    let listed = actions.as_slice();
+    if listed.len() != 1 {
+        return Ok(Followed::Choices(actions));
+    }
+    if !state.advance(alloc, checked.program(), &listed[0])? {
+        return Ok(Followed::Lost);
+    }
+    trail.append(&mut actions)?;
+    Ok(Followed::Went)
+}
+
+// Lets a process take its internal action, and notes it.
+fn go_alone<'a>(
+    alloc: Global,
+    checked: &'a Checked,
+    state: &mut SourceState<'a>,
+    process: u64,
+    trail: &mut Vec<Action>,
+) -> Result<Followed, AllocError>
+    ensures { IfOk result (λ f. IsFollowedAmong (program_of checked.now.tree) process (state_of state.old)
+        (state_of state.new) f) }
+{
+    let Some(kind) = state.take_internal(alloc, checked.program(), process)? else {
+        return Ok(Followed::Lost);
+    };
+    if !is_calm(&kind) {
+        return Ok(Followed::Lost);
+    }
+    trail.push(Action { process, kind })?;
+    Ok(Followed::Went)
+}
+
+// Follows the next action of a process, where it is calm, and notes it.
+fn follow_one<'a>(
+    alloc: Global,
+    checked: &'a Checked,
+    state: &mut SourceState<'a>,
+    process: u64,
+    trail: &mut Vec<Action>,
+) -> Result<Followed, AllocError>
+    ensures { IfOk result (λ f. IsFollowedAmong (program_of checked.now.tree) process (state_of state.old)
+        (state_of state.new) f) }
+{
+    match looks_next(state, process) {
+        Looks::Racing => Ok(Followed::Stopped),
+        Looks::Internal => go_alone(alloc, checked, state, process, trail),
+        Looks::Calm => go_calmly(alloc, checked, state, process, trail),
+    }
+}
+
+/// Follows the actions of a process, as long as the next one is calm and there is no choice, and notes them; some
+/// thousand at most. Answers the choices, where there are several. Whatever the other processes are, where the state that
+/// is come to is covered, so is the one before.
+pub fn follow_own<'a>(
+    alloc: Global,
+    checked: &'a Checked,
+    state: &mut SourceState<'a>,
+    process: u64,
+    trail: &mut Vec<Action>,
+) -> Result<Followed, AllocError>
+    ensures { IfOk result (λ f. IsFollowedAmong (program_of checked.now.tree) process (state_of state.old)
+        (state_of state.new) f) }
+{
+    for _ in 0..MOST {
+        match follow_one(alloc, checked, state, process, trail)? {
+            Followed::Went => {}
+            followed => return Ok(followed),
+        }
+    }
+    Ok(Followed::Stopped)
 }

@@ -13,7 +13,7 @@ use std::alloc::{AllocError, Global};
 /// The state to which an action leads, but for what was printed before; None where the action isn't possible. A process
 /// that was there is there still.
 pub fn next_state<'a>(
-    _alloc: Global,
+    alloc: Global,
     checked: &'a Checked,
     state: &SourceState<'a>,
     action: &Action,
@@ -27,5 +27,9 @@ pub fn next_state<'a>(
     ensures stays { IfOk result (λ o. IfSome o (λ next. (t : ℕ) → IsSome ((state_of state.now).process t)
         → IsSome ((state_of next).process t))) }
 {
-    Err(AllocError)
+    let mut next = state.copy(alloc)?;
+    if !next.advance(alloc, checked.program(), action)? {
+        return Ok(None);
+    }
+    Ok(Some(next))
 }

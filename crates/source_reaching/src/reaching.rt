@@ -1,11 +1,19 @@
-ghost use Rattle.std.specs.Prelude.{IfOk, IfSome};
+ghost use Rattle.std.specs.Prelude.{◌≡◌, All, IfOk, IfSome, MatchOption, OnOk, map, true};
 ghost use Rattle.program.specs.Views.{program_of};
+ghost use Rattle.meaning.specs.Labels.{Action as ActionOf};
+ghost use Rattle.meaning.specs.Runs.{IsStep};
+ghost use Rattle.meaning.specs.States.{SourceState as SourceStateOf};
+ghost use Rattle.source_states.specs.Actions.{action_of};
 ghost use Rattle.source_states.specs.States.{state_of};
-ghost use Rattle.source_reaching.specs.Among.{AreEnds};
-ghost use Rattle.source_reaching.specs.Ends.{ends_in};
+ghost use Rattle.source_reaching.specs.Among.{AreEnds, LeadsToEnds};
+ghost use Rattle.source_reaching.specs.Ends.{IsLonger, IsReachedBy, ends_in};
 
+use crate::follow::{Followed, follow_own, is_lost};
+use crate::next::next_state;
+use crate::own::own_actions;
 use program::Checked;
-use source_states::SourceState;
+use source_states::{Action, SourceState};
+use sourcemeaning::can_move;
 use std::alloc::{AllocError, Global};
 
 /// A state that a process reaches by an action of its own, and by calm ones behind it.
@@ -19,11 +27,178 @@ pub struct End<'a> {
     pub later: usize,
 }
 
+// What came of an action.
+#[derive(Drop)]
+struct Reached<'a> {
+    // The state behind it, and behind calm actions that were followed.
+    state: SourceState<'a>,
+    // What came of following them.
+    followed: Followed,
+}
+
+// What a process reaches by an action of its own, and by calm ones behind it; None where the action isn't possible.
+fn reach<'a>(
+    alloc: Global,
+    checked: &'a Checked,
+    state: &SourceState<'a>,
+    process: u64,
+    action: &Action,
+) -> Result<Option<Reached<'a>>, AllocError>
+    requires { action.now.process ≡ process }
+    ensures { IfOk result (λ o. MatchOption o
+        ((u : SourceStateOf) → IsStep (program_of checked.now.tree) (state_of state.now) (action_of action.now) u → ⊥)
+        (λ r. IsReachedBy (program_of checked.now.tree) process (state_of state.now) (action_of action.now) r)) }
+{
+    let Some(next) = next_state(alloc, checked, state, action)? else {
+        return Ok(None);
+    };
+    let mut after = next;
+    let mut trail = Vec::new(alloc);
+    let followed = follow_own(alloc, checked, &mut after, process, &mut trail)?;
+    Ok(Some(Reached {
+        state: after,
+        followed,
+    }))
+}
+
+// Adds what a later action of a process reaches; false where it can't be told.
+fn add_later<'a>(
+    alloc: Global,
+    checked: &'a Checked,
+    state: &SourceState<'a>,
+    process: u64,
+    action: &Action,
+    choice: usize,
+    later: usize,
+    ends: &mut Vec<End<'a>>,
+) -> Result<bool, AllocError>
+    ensures longer { OnOk result (IsLonger (ends_in ends.old.items) (ends_in ends.new.items)) }
+    ensures leads { IfOk result (λ b. b ≡ true → LeadsToEnds (program_of checked.now.tree) process
+        (state_of state.now) (ends_in ends.new.items) (action_of action.now)) }
+{
+    if action.process != process {
+        return Ok(false);
+    }
+    let Some(reached) = reach(alloc, checked, state, process, action)? else {
+        return Ok(true);
+    };
+    let Reached { state, followed } = reached;
+    if is_lost(&followed) {
+        return Ok(false);
+    }
+    ends.push(End {
+        state,
+        choice,
+        later,
+    })?;
+    Ok(true)
+}
+
+// Adds what each of several later actions reaches; false where it can't be told.
+fn add_choices<'a>(
+    alloc: Global,
+    checked: &'a Checked,
+    state: &SourceState<'a>,
+    process: u64,
+    actions: &[Action],
+    choice: usize,
+    ends: &mut Vec<End<'a>>,
+) -> Result<bool, AllocError>
+    ensures longer { OnOk result (IsLonger (ends_in ends.old.items) (ends_in ends.new.items)) }
+    ensures leads { IfOk result (λ b. b ≡ true → All (LeadsToEnds (program_of checked.now.tree) process
+        (state_of state.now) (ends_in ends.new.items)) (map action_of actions.now)) }
+{
+    for later in 0..actions.len() {
+        let action = &actions[later];
+        if !add_later(alloc, checked, state, process, action, choice, later, ends)? {
+            return Ok(false);
+        }
+    }
+    Ok(true)
+}
+
+// Adds what an action of a process reached, or what each of several calm ones reaches behind it; false where it can't be
+// told.
+fn add_reached<'a>(
+    alloc: Global,
+    checked: &'a Checked,
+    process: u64,
+    reached: Reached<'a>,
+    choice: usize,
+    ends: &mut Vec<End<'a>>,
+) -> Result<bool, AllocError>
+    ensures longer { OnOk result (IsLonger (ends_in ends.old.items) (ends_in ends.new.items)) }
+    ensures leads { let p = program_of checked.now.tree in IfOk result (λ b. b ≡ true
+        → (s : SourceStateOf) (a : ActionOf)
+        → IsReachedBy p process s a reached.entry
+        → LeadsToEnds p process s (ends_in ends.new.items) a) }
+{
+    let Reached { state, followed } = reached;
+    if is_lost(&followed) {
+        return Ok(false);
+    }
+    let Followed::Choices(actions) = followed else {
+        let later = 0;
+        ends.push(End {
+            state,
+            choice,
+            later,
+        })?;
+        return Ok(true);
+    };
+    let listed = actions.as_slice();
+    add_choices(alloc, checked, &state, process, listed, choice, ends)
+}
+
+// Adds what an action of a process reaches; false where it can't be told.
+fn add_end<'a>(
+    alloc: Global,
+    checked: &'a Checked,
+    state: &SourceState<'a>,
+    process: u64,
+    action: &Action,
+    choice: usize,
+    ends: &mut Vec<End<'a>>,
+) -> Result<bool, AllocError>
+    ensures longer { OnOk result (IsLonger (ends_in ends.old.items) (ends_in ends.new.items)) }
+    ensures leads { IfOk result (λ b. b ≡ true → LeadsToEnds (program_of checked.now.tree) process
+        (state_of state.now) (ends_in ends.new.items) (action_of action.now)) }
+{
+    if action.process != process {
+        return Ok(false);
+    }
+    let Some(reached) = reach(alloc, checked, state, process, action)? else {
+        return Ok(true);
+    };
+    add_reached(alloc, checked, process, reached, choice, ends)
+}
+
+// Adds what each of these actions reaches; false where it can't be told.
+fn add_ends<'a>(
+    alloc: Global,
+    checked: &'a Checked,
+    state: &SourceState<'a>,
+    process: u64,
+    actions: &[Action],
+    ends: &mut Vec<End<'a>>,
+) -> Result<bool, AllocError>
+    ensures leads { IfOk result (λ b. b ≡ true → All (LeadsToEnds (program_of checked.now.tree) process
+        (state_of state.now) (ends_in ends.new.items)) (map action_of actions.now)) }
+{
+    for choice in 0..actions.len() {
+        let action = &actions[choice];
+        if !add_end(alloc, checked, state, process, action, choice, ends)? {
+            return Ok(false);
+        }
+    }
+    Ok(true)
+}
+
 /// The states that a process reaches by an action of its own that is possible, and by calm ones behind it: whatever the
 /// other processes are, where all of these are covered, so is what each action of the process's own leads to. The state
 /// can have the others, or the process alone. None where it can't be told.
 pub fn ends<'a>(
-    _alloc: Global,
+    alloc: Global,
     checked: &'a Checked,
     state: &SourceState<'a>,
     process: u64,
@@ -31,5 +206,16 @@ pub fn ends<'a>(
     ensures { IfOk result (λ o. IfSome o (λ v. AreEnds (program_of checked.now.tree) process (state_of state.now)
         (ends_in v.items))) }
 {
-    Err(AllocError)
+    let mut ends = Vec::new(alloc);
+    if !can_move(state, checked, process) {
+        return Ok(Some(ends));
+    }
+    let Some(actions) = own_actions(alloc, checked, state, process)? else {
+        return Ok(None);
+    };
+    let listed = actions.as_slice();
+    if !add_ends(alloc, checked, state, process, listed, &mut ends)? {
+        return Ok(None);
+    }
+    Ok(Some(ends))
 }

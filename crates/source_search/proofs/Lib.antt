@@ -7,5 +7,6 @@ pub mod Endings
 pub mod Packing
 pub mod Merged
 pub mod Keeping
+pub mod Remembered
 pub mod Coverage
 pub mod Searched

@@ -1,0 +1,14 @@
+use Rattle.std.proofs.Common.{◌≡◌, arith}
+use Rattle.std.proofs.lemmas.Bool.Decides.{nat_tests}
+use Rattle.program.specs.Views.{program_of}
+use Rattle.source_states.specs.Actions.{action_of}
+use Rattle.source_states.specs.States.{state_of}
+use Rattle.source_reaching.specs.Ends.{IsReachedBy, ends_in}
+use Rattle.source_reaching.proofs.Arriving.{ends_nowhere}
+use Rattle.source_reaching.proofs.reaching.add_end.Goals as goal
+
+pub returns-in_default-clause-leads : goal.returns-in_default-clause-leads
+returns-in_default-clause-leads c = λ e.
+    let own : c.args.action.now.process ≡ c.args.process = grind (arith, nat_tests, c.if-action-process.false) in
+    ends_nowhere (program_of c.args.checked.now.tree) c.args.process (state_of c.args.state.now)
+    (ends_in c.args.ends.now.items) (action_of c.args.action.now) own (rw c.in_default.is at c.in_ok-reached.ensures)

@@ -1,0 +1,12 @@
+use Rattle.std.proofs.Common.{All, map, take}
+use Rattle.program.specs.Views.{program_of}
+use Rattle.source_states.specs.Actions.{action_of}
+use Rattle.source_states.specs.States.{state_of}
+use Rattle.source_reaching.specs.Among.{LeadsToEnds}
+use Rattle.source_reaching.specs.Ends.{ends_in}
+use Rattle.source_reaching.proofs.reaching.add_ends.Given as goal
+
+abbrev pub invariant-loop-choice : goal.invariant-loop-choice
+invariant-loop-choice l =
+    All (LeadsToEnds (program_of l.checked.tree) l.process (state_of l.state) (ends_in l.ends.items))
+    (map action_of (take l.choice l.actions))
