@@ -1,8 +1,9 @@
-ghost use Rattle.std.specs.Prelude.{[], ◌≡◌, ◌<◌, ◌≤◌, ◌^◌, false, true, IfOk, MatchBool, Ok, OnOk, Some, is_some, length};
+ghost use Rattle.std.specs.Prelude.{[], ◌≡◌, ◌<◌, ◌≤◌, ◌^◌, false, true, IfOk, MatchBool, Ok, OnOk, None, Some, length};
 ghost use Rattle.lowering.specs.Pieces.{code_of};
-ghost use Rattle.locals.specs.Steps.{local_step};
+ghost use Rattle.locals.specs.Looks.{look};
+ghost use Rattle.locals.specs.Requests.{next_step_of};
 ghost use Rattle.locals.specs.Threads.{Thread};
-ghost use Rattle.machine.specs.States.{thread_of};
+ghost use Rattle.machine.specs.States.{state_of, thread_of};
 ghost use Rattle.machine.specs.ConcretePieces.{is_piece};
 ghost use Rattle.machine.specs.ConcreteSteps.{can_move};
 ghost use Rattle.machine.specs.Views.{concrete};
@@ -15,27 +16,21 @@ ghost use Rattle.log_simulation.specs.Recording.{IsAlong, IsAlongStep, KeepsUp, 
 
 use crate::recorder::Recorder;
 use isa::Image;
-use locals::Local;
-use machine::{Entry, Event, EventName, Machine};
+use locals::{Local, NextStep};
+use machine::{Entry, Event, EventName};
 use packed_log::LogReader;
 use piece_machine::PieceMachine;
 use robustexit::ExitPhase;
 use std::alloc::{AllocError, Global};
 use words::BUCKETS;
 
-// Whether thread `t` stands before a local step.
-fn is_before_local(machine: &Machine, t: u32) -> bool
-    requires { (0 < t) × (t ≤ length machine.now.threads) }
-    ensures { (here : Thread) → thread_of (concrete machine.now) t ≡ Some here
-        → result ≡ is_some (local_step machine.now.program t here) }
-{
-    machine.is_before_local(t, machine.local(t))
-}
-
-// Takes the shared step of thread `t`; false where it isn't this event.
-fn take_shared(machine: &mut PieceMachine, t: u32, event: Event) -> bool
+// Takes the next step of thread `t`, which is awake, where that is a shared one; false where it isn't this event.
+fn take_shared(machine: &mut PieceMachine, t: u32, next: NextStep, event: Event) -> bool
     requires thread { (0 < t) × (t ≤ length machine.old.view.threads) }
     requires room { 1 ≤ machine.old.view.room }
+    requires awake { (state_of (concrete machine.old.view)).asleep t ≡ None }
+    requires next { (here : Thread) → thread_of (concrete machine.old.view) t ≡ Some here
+        → next ≡ next_step_of (look machine.old.view.program t here) }
     ensures ends { (here : Thread) → thread_of (parts machine.old).concrete t ≡ Some here
         → MatchBool result
         (Ends machine.old.view.program (parts machine.old) t here (Some event) (parts machine.new))
@@ -43,10 +38,10 @@ fn take_shared(machine: &mut PieceMachine, t: u32, event: Event) -> bool
         → ⊥) }
     ensures program { machine.new.view.program ≡ machine.old.view.program }
 {
-    if is_before_local(machine.machine(), t) {
+    if next == NextStep::Local {
         return false;
     }
-    match machine.step(t) {
+    match machine.step_as(t, next) {
         Ok(taken) => taken == event,
         Err(_) => false,
     }
@@ -102,7 +97,7 @@ fn go_own(
     };
     let step = here.next_step(image, t);
     let visible = recorder.is_visible(image, machine.machine(), t, step, event.value);
-    if !take_shared(machine, t, event) {
+    if !take_shared(machine, t, step, event) {
         return Ok(false);
     }
     if is_piece(event.name) {

@@ -10,12 +10,14 @@ use Rattle.piece_machine.specs.PieceViews.{parts, pieces}
 use Rattle.proof_explaining.specs.Events.{whole_of}
 use Rattle.proof_pieces.specs.Whole.{whole}
 use Rattle.proof_simulation.specs.Explaining.{IsDue}
+use Rattle.locals.specs.Threads.{Thread}
 use Rattle.locals.specs.Looks.{look}
 use Rattle.locals.specs.Requests.{next_step_of}
 use Rattle.std.specs.Prelude.{if◌then◌else◌}
 use Rattle.log_simulation.specs.Entries.{is_visible, progress_locally, progress_shared}
 use Rattle.log_simulation.specs.Recording.{RecordsUnlessLong}
 use Rattle.log_simulation.specs.Shown.{shown}
+use Rattle.runner.proofs.Handing.{up}
 use Rattle.runner.proofs.Once.{still_made}
 use Rattle.log_simulation.proofs.Entering.{enters_locally, enters_shared, never_shared, put_there}
 use Rattle.log_simulation.proofs.Keeping.{due_at, few_words, keeps_locally, keeps_shared, some_thread, within_most}
@@ -46,6 +48,28 @@ take_shared-requires-clause-thread c =
     c.copy_mover.new.here c.take_steps.new.here
     (ap (λ (x : PieceConcrete). thread_of x.concrete c.args.entry.now.thread) c.in_ok-make_room.ensures.parts
     ∙ c.if-not-copy_mover.ensures.1) (ap (λ m. m.view.threads) c.copy_local.ensures)
+
+pub take_shared-requires-clause-awake : goal.take_shared-requires-clause-awake
+take_shared-requires-clause-awake c =
+    let t = c.args.entry.now.thread in
+    let there = ap parts c.copy_local.ensures ∙ ap (λ x. with_local x t c.take_steps.new.here)
+    c.in_ok-make_room.ensures.parts in
+    ap (λ (x : PieceConcrete). x.concrete.common.asleep t) there
+    ∙ (up (parts c.args.machine.now).concrete t c.if-not-copy_mover.ensures.0).awake
+
+pub take_shared-requires-clause-next : goal.take_shared-requires-clause-next
+take_shared-requires-clause-next c = λ x stands.
+    let t = c.args.entry.now.thread in
+    let here = c.take_steps.new.here in
+    let mid = c.copy_local.new.self in
+    let there = ap parts c.copy_local.ensures ∙ ap (λ x. with_local x t here) c.in_ok-make_room.ensures.parts in
+    let one : Some here ≡ Some x = sym (put_there (parts c.args.machine.now) (parts mid) t c.copy_mover.new.here here
+    c.if-not-copy_mover.ensures.1 there) ∙ stands in
+    let is : here ≡ x = cc in
+    let own = ap (λ m. m.view.program) c.copy_local.ensures ∙ c.in_ok-make_room.ensures.same.0 ∙ c.requires.program in
+    c.next_step-step.ensures
+    ∙ ap (λ (i : Image). next_step_of (look i t here)) (sym own)
+    ∙ ap (λ (y : Thread). next_step_of (look mid.view.program t y)) is
 
 pub copy_local-requires-clause-goes : goal.copy_local-requires-clause-goes
 copy_local-requires-clause-goes c = record {
