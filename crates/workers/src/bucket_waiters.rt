@@ -2,7 +2,8 @@ ghost use Rattle.std.specs.Prelude.{◌≡◌, ◌≢◌, MatchBool};
 ghost use Rattle.machine.specs.ThreadSets.{IsThread};
 ghost use Rattle.workers.specs.BucketWaiters.{nobody, waits, with_waiter, joined, WaitersSo};
 
-/// The threads whose workers wait until a bucket is given up, by a bit for each number from 1 to 64.
+/// The threads whose workers wait until a bucket is given up, by a bit for each number from 1 to 64. Who was called, and
+/// who was started, is noted by such a set too.
 #[derive(Clone, Copy)]
 pub struct BucketWaiters {
     bits: u64,

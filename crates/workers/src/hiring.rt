@@ -48,7 +48,7 @@ impl Hiring {
         Some((t, share))
     }
 
-    /// Notes that this is the worker of thread `t`.
+    /// Notes that this is the worker of thread `t`, which was started.
     pub fn start(&mut self, t: u32, _worker: JoinHandle<()>)
         requires { IsThread t }
         ensures { self.new ≡ with_started self.old t }
