@@ -1,5 +1,5 @@
 -- Lists of actions and of states, as loops go over them.
-use Rattle.std.proofs.Common.{◌≡◌, ◌<◌, ◌+◌, ◌∙◌, ℕ, List, [], ◌∷◌, ◌++◌, All, ap, append_assoc, arith, get_or, length, map}
+use Rattle.std.proofs.Common.{◌≡◌, ◌<◌, ◌≤◌, ◌+◌, ◌∙◌, ℕ, List, [], ◌∷◌, ◌++◌, All, ap, append_assoc, arith, get_or, length, map}
 use Rattle.std.proofs.Common.{subst, sym, take}
 use Rattle.std.proofs.lemmas.List.{append-nil, map_more}
 use Rattle.std.proofs.lemmas.List.Elements.{All-push}
@@ -25,6 +25,13 @@ pub one_listed : (actions : List ActionOf) (a : ActionOf) → length actions ≡
 one_listed [] a one is = absurd (omega (arith, one))
 one_listed (b ∷ []) a one is = ap (λ (x : ActionOf). action_of x ∷ []) (sym is)
 one_listed (b ∷ c ∷ rest) a one is = absurd (omega (arith, one))
+
+-- what holds of the only action
+pub all_of_one : (P : Action → Type 0) (actions : List ActionOf) (a : ActionOf) → 1 ≤ length actions → length actions < 2
+    → a ≡ get_or actions 0 a → P (action_of a) → All P (map action_of actions)
+all_of_one P actions a some few is holds =
+    subst (All P) (sym (one_listed actions a (omega (arith, some, few)) is))
+    (All-push P [] (action_of a) (λ k d less. absurd (omega (arith, less))) holds)
 
 pub longer_none : (ends : List SourceState) → IsLonger ends ends
 longer_none ends = ([], sym (append-nil ends))

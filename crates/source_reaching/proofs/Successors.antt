@@ -1,5 +1,5 @@
 -- Where actions lead to from states that are alike.
-use Rattle.std.proofs.Common.{◌≡◌, ℕ, List, [], Option, Some, refl, sym, ap, ◌∙◌, inl, inr, subst}
+use Rattle.std.proofs.Common.{◌≡◌, ℕ, List, [], Option, Some, None, refl, sym, ap, ◌∙◌, inl, inr, subst}
 use Rattle.words.specs.Updates.{put}
 use Rattle.program.specs.Trees.{Program}
 use Rattle.meaning.specs.Labels.{Action, Killed}
@@ -10,7 +10,11 @@ use Rattle.meaning.specs.States.{SourceState}
 use Rattle.meaning.specs.Table.{AllowsKill, AllowsStray}
 use Rattle.meaning.proofs.Unique.{step_once}
 use Rattle.proof_exploration.specs.Exploring.{IsLike}
-use Rattle.proof_exploration.proofs.Alike.{like_action, like_after, like_back, like_same, printing}
+use Rattle.std.specs.Prelude.{IfSome, IsSome, MatchOption}
+use Rattle.proof_exploration.proofs.Alike.{like_action, like_after, like_back, like_same, like_self, printing}
+use Rattle.source_states.specs.States.{state_of}
+use Rattle.source_states.specs.declared.state.SourceState.{SourceState as StateOf}
+use Rattle.source_reaching.specs.Ends.{LeadsTo}
 
 -- a state without what was printed
 pub without_like : (s c : SourceState) → c ≡ record s { printed = [] } → IsLike s c
@@ -75,3 +79,17 @@ module _ (p : Program) (s c : SourceState) (a : Action) (is : c ≡ record s { p
   is_next n step s' x =
       let led : LeadsAlike p c a s' = step_alike p s c (without_like s c is) a s' x in
       like_back s' n (like_same s' led.0 n led.2 (step_once p a c led.0 n led.1 step))
+
+-- what an action leads to is one state
+pub one_next : (p : Program) (s : SourceState) (a : Action) (n : SourceState) → IsStep p s a n → (s' : SourceState)
+    → IsStep p s a s' → IsLike n s'
+one_next p s a n step s' x = like_same n n s' (like_self n) (step_once p a s n s' step x)
+
+-- where an action leads, from what is said of each kind of answer
+pub leads_to : (p : Program) (s : SourceState) (a : Action) (o : Option StateOf)
+    → MatchOption o ((u : SourceState) → IsStep p s a u → ⊥)
+    (λ next. (u : SourceState) → IsStep p s a u → IsLike (state_of next) u)
+    → IfSome o (λ next. (t : ℕ) → IsSome (s.process t) → IsSome ((state_of next).process t))
+    → LeadsTo p s a o
+leads_to p s a None never stays = never
+leads_to p s a (Some next) leads stays = (leads, stays)

@@ -33,3 +33,26 @@ pub fn next_state<'a>(
     }
     Ok(Some(next))
 }
+
+/// The same of a state that isn't needed any more, so that nothing is copied.
+pub fn next_of<'a>(
+    alloc: Global,
+    checked: &'a Checked,
+    state: SourceState<'a>,
+    action: &Action,
+) -> Result<Option<SourceState<'a>>, AllocError>
+    ensures next { IfOk result (λ o. MatchOption o
+        ((s : SourceStateOf)
+        → IsStep (program_of checked.now.tree) (state_of state.entry) (action_of action.now) s → ⊥)
+        (λ next. (s : SourceStateOf)
+        → IsStep (program_of checked.now.tree) (state_of state.entry) (action_of action.now) s
+        → IsLike (state_of next) s)) }
+    ensures stays { IfOk result (λ o. IfSome o (λ next. (t : ℕ) → IsSome ((state_of state.entry).process t)
+        → IsSome ((state_of next).process t))) }
+{
+    let mut next = state;
+    if !next.advance(alloc, checked.program(), action)? {
+        return Ok(None);
+    }
+    Ok(Some(next))
+}

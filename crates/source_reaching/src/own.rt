@@ -2,10 +2,12 @@ ghost use Rattle.std.specs.Prelude.{◌≡◌, ◌∷◌, [], IfOk, IfSome, map,
 ghost use Rattle.program.specs.Trees.{Program as ProgramOf};
 ghost use Rattle.program.specs.Views.{program_of};
 ghost use Rattle.meaning.specs.Labels.{Notify};
-ghost use Rattle.meaning.specs.Offers.{ClaimsOne, MakesOne, NotifiesAll, NotifiesSome};
+ghost use Rattle.meaning.specs.Offers.{ClaimsOne, MakesOne, NotifiesAll, NotifiesSome, offer as offer_by};
+ghost use Rattle.meaning.specs.Values.{Variables};
 ghost use Rattle.meaning.specs.Processes.{Process as ProcessIn};
 ghost use Rattle.source_offers.specs.NextAction.{offer_of};
 ghost use Rattle.source_offers.specs.Offered.{offer_with};
+ghost use Rattle.source_offers.specs.Stages.{process_of};
 ghost use Rattle.source_offers.specs.declared.process.Process.{Process as ProcessOf};
 ghost use Rattle.source_states.specs.Actions.{action_of, kind_of};
 ghost use Rattle.source_states.specs.States.{state_of};
@@ -13,7 +15,7 @@ ghost use Rattle.source_reaching.specs.Choices.{AllTakeUp, AreOwnChoices, by, li
 
 use crate::each_set::sets;
 use program::{Checked, Member};
-use source_offers::{Offer, Offered};
+use source_offers::{Offer, Offered, Process, Stage};
 use source_states::{Action, ActionKind, SourceState, named};
 use std::alloc::{AllocError, Global};
 use words::Fault;
@@ -173,6 +175,27 @@ fn choices_of<'a>(
     }
 }
 
+// What a process offers that enters a monitor, takes one again or joins. So it is told without a copy of the process.
+fn standing_offer<'a>(process: &Process<'a>) -> Option<Offer<'a>>
+    ensures { IfSome result (λ o. (p : ProgramOf) (values : Variables)
+        → offer_of p o process.now ≡ offer_by p values (process_of process.now)) }
+{
+    match &process.stage {
+        Stage::Entering(monitor) => Some(Offer::Enters(*monitor)),
+        Stage::Suspended(condition) => Some(Offer::Resumes(condition.monitor)),
+        Stage::Joining {
+            child,
+            into,
+            aborted,
+        } => Some(Offer::Joins {
+            child: *child,
+            into: *into,
+            aborted: *aborted,
+        }),
+        _ => None,
+    }
+}
+
 /// What a process may do next of its own: whatever it does, one of these leads to the same state. Of a notify there is
 /// one for each set of processes that it may resume. Not all of them are possible. None where there are too many.
 pub fn own_actions<'a>(
@@ -184,6 +207,12 @@ pub fn own_actions<'a>(
     ensures { IfOk result (λ o. IfSome o (λ v. AreOwnChoices (program_of checked.now.tree)
         (state_of state.now) process (map action_of v.items))) }
 {
+    let Some(found) = state.process(process) else {
+        return Ok(Some(Vec::new(alloc)));
+    };
+    if let Some(offer) = standing_offer(found) {
+        return choices_of(alloc, state, process, offer);
+    }
     let Some((offer, _)) = state.offered(alloc, checked, process)? else {
         return Ok(Some(Vec::new(alloc)));
     };

@@ -6,10 +6,10 @@ ghost use Rattle.meaning.specs.States.{SourceState as SourceStateOf};
 ghost use Rattle.source_states.specs.Actions.{action_of};
 ghost use Rattle.source_states.specs.States.{state_of};
 ghost use Rattle.source_reaching.specs.Among.{AreEnds, LeadsToEnds};
-ghost use Rattle.source_reaching.specs.Ends.{IsLonger, IsReachedBy, ends_in};
+ghost use Rattle.source_reaching.specs.Ends.{IsLonger, IsReachedBy, LeadsTo, ends_in};
 
 use crate::follow::{Followed, follow_own, is_lost};
-use crate::next::next_state;
+use crate::next::{next_of, next_state};
 use crate::own::own_actions;
 use program::Checked;
 use source_states::{Action, SourceState};
@@ -36,6 +36,28 @@ struct Reached<'a> {
     followed: Followed,
 }
 
+// What comes of following calm actions behind an action of a process that leads to this state, if it is possible.
+fn behind<'a>(
+    alloc: Global,
+    checked: &'a Checked,
+    next: Option<SourceState<'a>>,
+    process: u64,
+) -> Result<Option<Reached<'a>>, AllocError>
+    ensures { let p = program_of checked.now.tree in IfOk result (λ o. (s : SourceStateOf) (a : ActionOf)
+        → a.process ≡ process → LeadsTo p s a next.entry
+        → MatchOption o ((u : SourceStateOf) → IsStep p s a u → ⊥) (IsReachedBy p process s a)) }
+{
+    let Some(mut after) = next else {
+        return Ok(None);
+    };
+    let mut trail = Vec::new(alloc);
+    let followed = follow_own(alloc, checked, &mut after, process, &mut trail)?;
+    Ok(Some(Reached {
+        state: after,
+        followed,
+    }))
+}
+
 // What a process reaches by an action of its own, and by calm ones behind it; None where the action isn't possible.
 fn reach<'a>(
     alloc: Global,
@@ -49,16 +71,25 @@ fn reach<'a>(
         ((u : SourceStateOf) → IsStep (program_of checked.now.tree) (state_of state.now) (action_of action.now) u → ⊥)
         (λ r. IsReachedBy (program_of checked.now.tree) process (state_of state.now) (action_of action.now) r)) }
 {
-    let Some(next) = next_state(alloc, checked, state, action)? else {
-        return Ok(None);
-    };
-    let mut after = next;
-    let mut trail = Vec::new(alloc);
-    let followed = follow_own(alloc, checked, &mut after, process, &mut trail)?;
-    Ok(Some(Reached {
-        state: after,
-        followed,
-    }))
+    let next = next_state(alloc, checked, state, action)?;
+    behind(alloc, checked, next, process)
+}
+
+// The same from a state that isn't needed any more.
+fn reach_from<'a>(
+    alloc: Global,
+    checked: &'a Checked,
+    state: SourceState<'a>,
+    process: u64,
+    action: &Action,
+) -> Result<Option<Reached<'a>>, AllocError>
+    requires { action.now.process ≡ process }
+    ensures { IfOk result (λ o. MatchOption o
+        ((u : SourceStateOf) → IsStep (program_of checked.now.tree) (state_of state.entry) (action_of action.now) u → ⊥)
+        (λ r. IsReachedBy (program_of checked.now.tree) process (state_of state.entry) (action_of action.now) r)) }
+{
+    let next = next_of(alloc, checked, state, action)?;
+    behind(alloc, checked, next, process)
 }
 
 // Adds what a later action of a process reaches; false where it can't be told.
@@ -194,27 +225,67 @@ fn add_ends<'a>(
     Ok(true)
 }
 
+// Adds what the only action of a process reaches, from a state that isn't needed any more; false where it can't be told.
+fn add_only_end<'a>(
+    alloc: Global,
+    checked: &'a Checked,
+    state: SourceState<'a>,
+    process: u64,
+    action: &Action,
+    ends: &mut Vec<End<'a>>,
+) -> Result<bool, AllocError>
+    ensures { IfOk result (λ b. b ≡ true → LeadsToEnds (program_of checked.now.tree) process
+        (state_of state.entry) (ends_in ends.new.items) (action_of action.now)) }
+{
+    if action.process != process {
+        return Ok(false);
+    }
+    let Some(reached) = reach_from(alloc, checked, state, process, action)? else {
+        return Ok(true);
+    };
+    add_reached(alloc, checked, process, reached, 0, ends)
+}
+
+// Adds what each of these actions reaches from a state that isn't needed any more; false where it can't be told. Mostly
+// there is one action, and then nothing is copied.
+fn add_all_ends<'a>(
+    alloc: Global,
+    checked: &'a Checked,
+    state: SourceState<'a>,
+    process: u64,
+    actions: &[Action],
+    ends: &mut Vec<End<'a>>,
+) -> Result<bool, AllocError>
+    ensures { IfOk result (λ b. b ≡ true → All (LeadsToEnds (program_of checked.now.tree) process
+        (state_of state.entry) (ends_in ends.new.items)) (map action_of actions.now)) }
+{
+    match actions {
+        [action] => add_only_end(alloc, checked, state, process, action, ends),
+        _ => add_ends(alloc, checked, &state, process, actions, ends),
+    }
+}
+
 /// The states that a process reaches by an action of its own that is possible, and by calm ones behind it: whatever the
 /// other processes are, where all of these are covered, so is what each action of the process's own leads to. The state
 /// can have the others, or the process alone. None where it can't be told.
 pub fn ends<'a>(
     alloc: Global,
     checked: &'a Checked,
-    state: &SourceState<'a>,
+    state: SourceState<'a>,
     process: u64,
 ) -> Result<Option<Vec<End<'a>>>, AllocError>
-    ensures { IfOk result (λ o. IfSome o (λ v. AreEnds (program_of checked.now.tree) process (state_of state.now)
+    ensures { IfOk result (λ o. IfSome o (λ v. AreEnds (program_of checked.now.tree) process (state_of state.entry)
         (ends_in v.items))) }
 {
     let mut ends = Vec::new(alloc);
-    if !can_move(state, checked, process) {
+    if !can_move(&state, checked, process) {
         return Ok(Some(ends));
     }
-    let Some(actions) = own_actions(alloc, checked, state, process)? else {
+    let Some(actions) = own_actions(alloc, checked, &state, process)? else {
         return Ok(None);
     };
     let listed = actions.as_slice();
-    if !add_ends(alloc, checked, state, process, listed, &mut ends)? {
+    if !add_all_ends(alloc, checked, state, process, listed, &mut ends)? {
         return Ok(None);
     }
     Ok(Some(ends))

@@ -227,7 +227,7 @@ impl<'a> Kept<'a> {
         };
         let process = u64::from(spot.process);
         let moves = can_move(&small, checked, process);
-        let Some(ends) = ends(alloc, checked, &small, process)? else {
+        let Some(ends) = ends(alloc, checked, small, process)? else {
             return Ok(None);
         };
         let listed = ends.as_slice();

@@ -11,17 +11,17 @@ use Rattle.source_reaching.proofs.reaching.ends.Goals as goal
 
 pub returns-then-not-can_move : goal.returns-then-not-can_move
 returns-then-not-can_move c =
-    ends_none (program_of c.args.checked.now.tree) c.args.process (state_of c.args.state.now)
+    ends_none (program_of c.args.checked.now.tree) c.args.process (state_of c.args.state)
     (ends_in c.new-ends.result.items) (rw c.if-not-can_move.true at c.can_move.ensures)
 
 pub returns : goal.returns
 returns c =
     let p = program_of c.args.checked.now.tree in
-    let s = state_of c.args.state.now in
+    let s = state_of c.args.state in
     let t = c.args.process in
-    let ends = ends_in c.add_ends.new.ends.items in
+    let ends = ends_in c.add_all_ends.new.ends.items in
     let are : AreOwnChoices p s t (map action_of c.in-Some.actions.items) =
     rw c.in-Some.is at c.in_ok-actions.ensures in
     own_ends p t s (map action_of c.in-Some.actions.items) ends
     (subst (λ (l : List ActionOf). All (LeadsToEnds p t s ends) (map action_of l)) c.as_slice-listed.ensures.value
-    (c.in_ok-add_ends.ensures c.if-not-branch.false)) are
+    (c.in_ok-add_all_ends.ensures c.if-not-branch.false)) are
