@@ -3,3 +3,5 @@ pub mod Handed
 pub mod WakeReasons
 pub mod BucketWaiters
 pub mod Taken
+pub mod Calls
+pub mod Hirings

@@ -3,6 +3,7 @@
 #![tactic(auto)]
 
 mod bucket_waiters;
+mod hiring;
 mod image_ref;
 mod lookout;
 mod parker;

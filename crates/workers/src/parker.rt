@@ -1,3 +1,8 @@
+ghost use Rattle.std.specs.Prelude.{◌≡◌};
+ghost use Rattle.machine.specs.ThreadSets.{IsThread};
+ghost use Rattle.workers.specs.Calls.{nobody_called, with_called};
+
+use crate::bucket_waiters::BucketWaiters;
 use crate::lookout::Lookout;
 use std::hint::spin_loop;
 use std::sync::Wait;
@@ -6,6 +11,23 @@ use std::thread;
 
 // For how many moments a worker looks for a call before it sleeps, at most: a few times as long as being woken takes.
 const MOST_LOOKS: u64 = 4000;
+
+/// Which workers were called, by the numbers of their threads. Nothing adds to it but a call.
+#[derive(Drop)]
+pub struct Called {
+    workers: BucketWaiters,
+}
+
+impl Called {
+    /// Nobody yet.
+    pub fn new() -> Called
+        ensures { result ≡ nobody_called }
+    {
+        Called {
+            workers: BucketWaiters::new(),
+        }
+    }
+}
 
 /// Where the worker of a thread parks, and whether its last entry was refused with `Limit`.
 #[derive(Drop)]
@@ -33,10 +55,14 @@ impl Parker {
         self.called.park(rt);
     }
 
-    /// Calls the worker.
-    pub fn call(&self) {
+    /// Calls the worker, which is that of thread `t`, and notes it.
+    pub fn call(&self, t: u32, called: &mut Called)
+        requires { IsThread t }
+        ensures { called.new ≡ with_called called.old t }
+    {
         self.calls.fetch_add(1, Ordering::SeqCst);
         self.called.unpark();
+        called.workers.add(t);
     }
 
     /// How often the worker was called.

@@ -1,13 +1,17 @@
-ghost use Rattle.std.specs.Prelude.{ℕ, ◌≡◌, ◌≤◌, true, false, is_some, None, IfSome};
+ghost use Rattle.std.specs.Prelude.{ℕ, ◌≡◌, ◌<◌, true, false, is_some, vec_len, None, IfSome, IfNone};
 ghost use Rattle.words.specs.Limits.{most_threads};
 ghost use Rattle.machine.specs.ConcreteSteps.{can_move};
+ghost use Rattle.machine.specs.ThreadSets.{IsThread};
+ghost use Rattle.workers.specs.Calls.{AreTold, AreAllCalled, with_called};
+ghost use Rattle.workers.specs.Hirings.{IsDone, asking_for, asked_all, with_failed};
 ghost use Rattle.workers.specs.SharedRuns.{state_of};
 ghost use Rattle.workers.specs.Handed.{IsAfresh};
 
 use crate::bucket_waiters::BucketWaiters;
+use crate::hiring::Hiring;
 use crate::image_ref::ImageRef;
 use crate::lookout::Lookout;
-use crate::parker::Parker;
+use crate::parker::{Called, Parker};
 use crate::precedence::Precedence;
 use crate::shared_run::{SharedRun, WakeReason};
 use crate::turns::Turns;
@@ -18,7 +22,7 @@ use std::fmt::Write;
 use std::hint::spin_loop;
 use std::sync::{Condvar, Mutex, MutexGuard, Wait};
 use std::thread;
-use std::thread::{Builder, Threads};
+use std::thread::{Builder, JoinHandle, Scope, Threads};
 use words::{Gate, MOST_THREADS};
 
 // How often a worker tries for the lock before it sleeps, and how long it lingers in between.
@@ -39,6 +43,7 @@ pub struct Pool<J: RunName> {
     made: Condvar,
     lookout: Lookout,
     precedence: Precedence,
+    ghost parked: { most_threads < vec_len parkers },
 }
 
 impl<J: RunName> Pool<J> {
@@ -79,38 +84,76 @@ impl<J: RunName> Pool<J> {
         J: Send + Sync,
     {
         thread::scope(thread::scope_env(), rt, |scope| {
-            for _ in rt.forever() {
-                let Some((t, share)) = self.next_worker(rt) else {
-                    break;
-                };
-                let Ok(turns) = Turns::new(alloc, t) else {
-                    self.fail(rt);
-                    continue;
-                };
-                let Ok(builder) = builder_of(alloc, t) else {
-                    self.fail(rt);
-                    continue;
-                };
-                let worker = builder.spawn_scoped(scope, move || {
-                    let share = self.work(rt, image_ref, gate, t, turns, share);
-                    self.lock(rt).give_back(share);
-                });
-                if worker.is_err() {
-                    self.fail(rt);
-                }
-            }
+            let _hiring = self.start_all(rt, alloc, image_ref, gate, scope);
         });
     }
 
+    // Starts a worker in this scope for each thread that is made, until nobody is left to make one. Where one can't be
+    // started the run ends.
+    #[tactic(auto, using(crate::proofs::Calling::started_too, crate::proofs::Calling::failed_too))]
+    fn start_all<'s, E, R: Threads + Wait + Sync, G: Gate>(
+        &'s self,
+        rt: &'s R,
+        alloc: Global,
+        image_ref: &'s ImageRef<'s, J>,
+        gate: &'s G,
+        scope: &Scope<'s, E>,
+    ) -> Hiring
+    where
+        J: Send + Sync,
+        ensures { IsDone result }
+    {
+        let mut hiring = Hiring::new();
+        for _ in rt.forever() {
+            let Some((t, share)) = self.next_worker(rt, &mut hiring) else {
+                break;
+            };
+            match self.start_worker(rt, alloc, image_ref, gate, scope, t, share) {
+                Some(worker) => hiring.start(t, worker),
+                None => self.fail(rt, t, &mut hiring),
+            }
+        }
+        hiring
+    }
+
     // The next thread without a worker, once it was made. None where nobody is left to make one.
-    fn next_worker<R: Wait>(&self, rt: &R) -> Option<(u32, Share<J>)>
-        ensures { IfSome result (λ worker. (1 ≤ worker.0) × (worker.0 ≤ most_threads)
-            × (worker.1 ≡ record { parts = 1; count = 0 })) }
+    fn next_worker<R: Wait>(&self, rt: &R, hiring: &mut Hiring) -> Option<(u32, Share<J>)>
+        ensures some { IfSome result (λ worker. IsThread worker.0
+            × (worker.1 ≡ record { parts = 1; count = 0 })
+            × (hiring.new ≡ asking_for hiring.old worker.0)) }
+        ensures none { IfNone result (hiring.new ≡ asked_all hiring.old) }
     {
         let mut shared_run = self.made.wait_while(rt, self.lock(rt), |shared_run| {
             !shared_run.lacks_worker() && !self.is_over(shared_run)
         });
-        shared_run.next_worker()
+        hiring.ask(&mut shared_run)
+    }
+
+    // Starts the worker of thread `t` in this scope.
+    fn start_worker<'s, E, R: Wait + Sync, G: Gate>(
+        &'s self,
+        rt: &'s R,
+        alloc: Global,
+        image_ref: &'s ImageRef<'s, J>,
+        gate: &'s G,
+        scope: &Scope<'s, E>,
+        t: u32,
+        share: Share<J>,
+    ) -> Option<JoinHandle<()>>
+    where
+        J: Send + Sync,
+    {
+        let Ok(turns) = Turns::new(alloc, t) else {
+            return None;
+        };
+        let Ok(builder) = builder_of(alloc, t) else {
+            return None;
+        };
+        let worker = builder.spawn_scoped(scope, move || {
+            let share = self.work(rt, image_ref, gate, t, turns, share);
+            self.lock(rt).give_back(share);
+        });
+        worker.ok()
     }
 
     // The work of the worker of thread `t`.
@@ -209,9 +252,9 @@ impl<J: RunName> Pool<J> {
         let is_over = after != After::Goes && self.is_over(&shared_run);
         drop(shared_run);
         self.precedence.pass_on(t, few && after == After::Goes);
-        self.tell(wake_reason, freed);
+        let _called = self.tell(wake_reason, freed);
         if is_over {
-            self.call_all();
+            let _called = self.call_all();
         }
         if after == After::Sleeps && parker.look(&self.lookout, calls) {
             self.precedence.take(&self.lookout, t);
@@ -247,10 +290,13 @@ impl<J: RunName> Pool<J> {
         found
     }
 
-    // Ends the run for want of memory.
-    fn fail<R: Wait>(&self, rt: &R) {
-        self.lock(rt).fail();
-        self.call_all();
+    // Ends the run for want of memory, where the worker of thread `t` couldn't be started.
+    fn fail<R: Wait>(&self, rt: &R, t: u32, hiring: &mut Hiring)
+        requires { IsThread t }
+        ensures { hiring.new ≡ with_failed hiring.old t }
+    {
+        hiring.fail(t, &mut self.lock(rt));
+        let _called = self.call_all();
     }
 
     // Whether no worker is left to make an entry.
@@ -271,18 +317,23 @@ impl<J: RunName> Pool<J> {
 
     // Calls the workers of the threads that an entry woke and those who waited for a bucket, and the calling thread where
     // one was made.
-    fn tell(&self, wake_reason: WakeReason, freed: BucketWaiters) {
+    #[tactic(auto, using(crate::proofs::Calling::called_too))]
+    fn tell(&self, wake_reason: WakeReason, freed: BucketWaiters) -> Called
+        ensures { AreTold wake_reason.woken freed result }
+    {
+        let mut called = Called::new();
         if wake_reason.forked {
             self.made.notify_all();
         }
         if wake_reason.woken.is_empty() && freed.is_empty() {
-            return;
+            return called;
         }
         for t in 1..=MOST_THREADS {
             if wake_reason.woken.contains(t) || freed.contains(t) {
-                self.call(t);
+                self.call(t, &mut called);
             }
         }
+        called
     }
 
     // Whether the worker of thread `t` was refused.
@@ -294,18 +345,24 @@ impl<J: RunName> Pool<J> {
     }
 
     // Calls the worker of thread `t`.
-    fn call(&self, t: u32) {
-        if let Some(parker) = self.parkers.get(t as usize) {
-            parker.call();
-        }
+    fn call(&self, t: u32, called: &mut Called)
+        requires { IsThread t }
+        ensures { called.new ≡ with_called called.old t }
+    {
+        self.parkers[t as usize].call(t, called);
     }
 
     // Calls everybody who is parked.
-    fn call_all(&self) {
+    #[tactic(auto, using(crate::proofs::Calling::called_too))]
+    fn call_all(&self) -> Called
+        ensures { AreAllCalled result }
+    {
         self.made.notify_all();
-        for parker in self.parkers.iter() {
-            parker.call();
+        let mut called = Called::new();
+        for t in 1..=MOST_THREADS {
+            self.call(t, &mut called);
         }
+        called
     }
 }
 

@@ -1,6 +1,6 @@
 use Rattle.std.proofs.Common.{subst, inl, inr, refl, Some}
 use Rattle.runner.specs.declared.fault.RunFault.{RunFault}
-use Rattle.runner.specs.declared.fault.RunFault.TheVariants.{Broken, Limit}
+use Rattle.runner.specs.declared.fault.RunFault.TheVariants.{Broken}
 use Rattle.runner.specs.declared.next.After.TheVariants.{Ends}
 use Rattle.runner.specs.Entries.{RefusesEntry}
 use Rattle.runner.specs.Views.{log_state}
