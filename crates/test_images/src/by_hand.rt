@@ -26,12 +26,23 @@ fn hand_in_as<J: RunName, R: Print>(
     requires blank { (blank.name ≡ J.name) × (blank.parts ≡ J.parts) × (J.parts ≡ 1024) }
 {
     let mut shared = Shared::<J>::new(alloc, image, limit, blank)?;
+    Ok(show_shares(rt, &mut shared, image)?)
+}
+
+// The same, of a run that has begun.
+fn show_shares<J: RunName, R: Print>(
+    rt: &R,
+    shared: &mut Shared<J>,
+    image: &Image,
+) -> io::Result<()>
+    requires { image.now ≡ J.program }
+{
     let (Some(mut one), Some(mut two)) = (shared.share(), shared.share()) else {
         return Ok(());
     };
-    show_pieces(rt, &mut shared, image, &mut one, &mut two)?;
+    show_pieces(rt, shared, image, &mut one, &mut two)?;
     one.merge(two);
-    Ok(audit(rt, &mut shared, &mut one)?)
+    audit(rt, shared, &mut one)
 }
 
 // Hands in pieces, the last one after its thread has gone on, and prints the answers and what both shares say.

@@ -1,9 +1,9 @@
 ghost use Rattle.std.specs.Prelude.{◌≡◌, ◌^◌};
 
 use crate::failure::Failure;
-use crate::show::{show_end, show_log};
+use crate::show::{show_log, show_run};
 use isa::Image;
-use runner::{PARTS, Piece, RunName, Share, Shared, report_of};
+use runner::{PARTS, Piece, RunName, Share, Shared};
 use std::alloc::Global;
 use std::io;
 use std::marker::Brand;
@@ -63,6 +63,21 @@ fn run_as<J: RunName, R: Print>(
     requires kills { J.outside.kills ≡ 2 ^ 32 }
 {
     let mut shared = Shared::<J>::new(alloc, image, limit, blank)?;
+    go_by(rt, &mut shared, image, words)?;
+    let (log, machine) = shared.into_parts();
+    show_run(rt, alloc, log, machine)
+}
+
+// Does what the words say, and prints what its share has counted.
+fn go_by<J: RunName, R: Print>(
+    rt: &R,
+    shared: &mut Shared<J>,
+    image: &Image,
+    words: SplitWhitespace,
+) -> Result<(), Failure>
+    requires image { image.now ≡ J.program }
+    requires kills { J.outside.kills ≡ 2 ^ 32 }
+{
     let Some(share) = shared.share() else {
         return Ok(());
     };
@@ -72,16 +87,28 @@ fn run_as<J: RunName, R: Print>(
         printed: None,
     };
     for word in words {
-        let deed = deed_of(word)?;
-        perform(rt, &mut shared, image, &mut hand, deed)?;
-        show_new(rt, &shared, &mut hand)?;
+        do_next(rt, shared, image, &mut hand, word)?;
     }
     let is_whole = shared.audit(&mut hand.share);
     let count = hand.share.count();
     println!(rt; "  {count} entries, whole {is_whole}")?;
-    let (log, machine) = shared.into_parts();
-    show_end(rt, &report_of(alloc, log, machine)?)?;
     Ok(())
+}
+
+// Does what a word says, and prints what is new.
+fn do_next<J: RunName, R: Print>(
+    rt: &R,
+    shared: &mut Shared<J>,
+    image: &Image,
+    hand: &mut Hand<J>,
+    word: &str,
+) -> Result<(), Failure>
+    requires image { image.now ≡ J.program }
+    requires kills { J.outside.kills ≡ 2 ^ 32 }
+{
+    let deed = deed_of(word)?;
+    perform(rt, shared, image, hand, deed)?;
+    Ok(show_new(rt, shared, hand)?)
 }
 
 // What a word says.

@@ -1,6 +1,9 @@
+use crate::failure::Failure;
 use machine::{EventName, MOST_THREADS, Machine, ThreadSet};
 use packed_log::{LogReader, PackedLog};
-use runner::Report;
+use piece_machine::PieceMachine;
+use runner::{Report, report_of};
+use std::alloc::Global;
 use std::io;
 use words::{Cause, Outcome};
 
@@ -29,6 +32,17 @@ pub fn show_end<R: Print>(rt: &R, report: &Report) -> io::Result<()> {
     let threads = report.last.machine().threads();
     println!(rt; "  {verdict:?}, {threads} threads")?;
     show_output(rt, report)
+}
+
+/// The same of what a run by hand leaves.
+pub fn show_run<R: Print>(
+    rt: &R,
+    alloc: Global,
+    log: PackedLog,
+    machine: PieceMachine,
+) -> Result<(), Failure> {
+    let report = report_of(alloc, log, machine)?;
+    Ok(show_end(rt, &report)?)
 }
 
 // The numbers that were printed, and the threads that sleep or have aborted.

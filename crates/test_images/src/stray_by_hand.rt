@@ -1,9 +1,9 @@
 ghost use Rattle.std.specs.Prelude.{◌≡◌, true};
 
 use crate::failure::Failure;
-use crate::show::show_end;
+use crate::show::show_run;
 use isa::Image;
-use runner::{PARTS, RunFault, RunName, Share, Shared, report_of};
+use runner::{PARTS, RunFault, RunName, Share, Shared};
 use std::alloc::Global;
 use std::io;
 use std::marker::Brand;
@@ -36,19 +36,32 @@ fn run_as<J: RunName, R: Print>(
     requires strays { J.outside.strays ≡ true }
 {
     let mut shared = Shared::<J>::new(alloc, image, limit, blank)?;
+    go_around_wakes(rt, &mut shared, image, limit)?;
+    let (log, machine) = shared.into_parts();
+    show_run(rt, alloc, log, machine)
+}
+
+// Goes on until no thread can move, wakes the sleeper, and goes on again. Prints the answers, and what its share has
+// counted.
+fn go_around_wakes<J: RunName, R: Print>(
+    rt: &R,
+    shared: &mut Shared<J>,
+    image: &Image,
+    limit: u32,
+) -> io::Result<()>
+    requires image { image.now ≡ J.program }
+    requires strays { J.outside.strays ≡ true }
+{
     let Some(mut share) = shared.share() else {
         return Ok(());
     };
-    wake(rt, &mut shared, &mut share)?;
-    go_round(&mut shared, image, limit, &mut share);
-    wake(rt, &mut shared, &mut share)?;
-    go_round(&mut shared, image, limit, &mut share);
+    wake(rt, shared, &mut share)?;
+    go_round(shared, image, limit, &mut share);
+    wake(rt, shared, &mut share)?;
+    go_round(shared, image, limit, &mut share);
     let is_whole = shared.audit(&mut share);
     let count = share.count();
-    println!(rt; "  {count} entries, whole {is_whole}")?;
-    let (log, machine) = shared.into_parts();
-    show_end(rt, &report_of(alloc, log, machine)?)?;
-    Ok(())
+    println!(rt; "  {count} entries, whole {is_whole}")
 }
 
 // Wakes the sleeper from outside, and prints the answer.
