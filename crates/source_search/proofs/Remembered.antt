@@ -367,5 +367,5 @@ pub rests_kept : (p : Program) (parts : PartsOf) (spot : SpotOf) (s : SourceStat
     → AreKnown p parts memo'
 rests_kept p parts spot s k memo memo' all within single never same none from =
     let at : IsKnownAt p parts spot k = rests_known p parts spot k same none within
-        (λ can. never (subst (λ r. CanMove p r spot.process) (sym single.same) can)) in
+    (λ can. never (subst (λ r. CanMove p r spot.process) (sym single.same) can)) in
     kept_known p parts memo all memo' k from at.known

@@ -1,5 +1,5 @@
 -- What is remembered of processes: what each comes to by its own actions.
-use Rattle.std.specs.Prelude.{ℕ, suc, ◌<◌, ◌≡◌, All, List, length, map, ⊤, ⊥, [], ◌∷◌}
+use Rattle.std.specs.Prelude.{ℕ, suc, ◌<◌, ◌≡◌, All, List, length, map, ⊤, [], ◌∷◌}
 use Rattle.program.specs.Trees.{Program}
 use Rattle.meaning.specs.Runs.{CanMove}
 use Rattle.meaning.specs.States.{SourceState}

@@ -1,4 +1,4 @@
-ghost use Rattle.std.specs.Prelude.{◌≡◌, ◌⊎◌, ◌×◌, [], All, Contains, IfOk, IfSome, OnOk};
+ghost use Rattle.std.specs.Prelude.{◌≡◌, ◌⊎◌, [], All, Contains, IfOk, IfSome, OnOk};
 ghost use Rattle.source_search.specs.declared.memo.Known.{Known as KnownOf};
 
 use crate::spot::Spot;
@@ -106,7 +106,7 @@ impl Memo {
 
     /// Remembers it, in place of what was remembered there.
     pub fn keep(&mut self, known: Known)
-        ensures { (k : KnownOf) → Contains self.new.known.items k → Contains self.old.known.items k ⊎ (k ≡ known.entry) }
+        ensures { (k : KnownOf) → Contains self.new.known.items k → Contains self.old.known.items k ⊎ (k ≡ known) }
     {
         let place = self.place(known.spot);
         if place < self.known.len() {

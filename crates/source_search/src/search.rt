@@ -350,8 +350,8 @@ impl Findings {
     ) -> Result<bool, AllocError>
         requires sound { IsSound kept.old }
         requires known { is_any outside ≡ false → AreKnown (program_of checked.now.tree) kept.old.parts memo.old }
-        ensures known { is_any outside ≡ false
-            → OnOk result (AreKnown (program_of checked.now.tree) kept.new.parts memo.new) }
+        ensures known { OnOk result (is_any outside ≡ false
+            → AreKnown (program_of checked.now.tree) kept.new.parts memo.new) }
         ensures sound { OnOk result (IsSound kept.new) }
         ensures longer { OnOk result (IsLonger (states_of kept.old) (states_of kept.new)) }
         ensures complete { OnOk result (self.new.complete ≡ self.old.complete) }
