@@ -92,13 +92,13 @@ module _ (a b : PartsOf) (g : IsGrown a b) where
 -- states that are alike are covered together
 covered_alike : (p : Program) (kept : List SourceState) (n : ℕ) (others : ℕ → Option Process) (ss rs : List SourceState)
     → AreAlike ss rs → AreCovered p kept n others ss → AreCovered p kept n others rs
-covered_alike p kept n others [] [] like all = all
+covered_alike p kept n others [] [] like all k d l = all k d l
 covered_alike p kept n others (s ∷ ss) (r ∷ rs) like all zero d l =
     like_covered p kept n (among others s) (among others r) (like_among others s r like.0) (all 0 d (omega arith))
 covered_alike p kept n others (s ∷ ss) (r ∷ rs) like all (suc k) d l =
     covered_alike p kept n others ss rs like.1 (λ j d l. all (suc j) d (omega (arith, l))) k d (omega (arith, l))
-covered_alike p kept n others [] (r ∷ rs) like all = absurd like
-covered_alike p kept n others (s ∷ ss) [] like all = absurd like
+covered_alike p kept n others [] (r ∷ rs) like all k d l = absurd like
+covered_alike p kept n others (s ∷ ss) [] like all k d l = absurd like
 
 pub ends_alike : (p : Program) (t : ℕ) (s : SourceState) (ends ends' : List SourceState) → AreAlike ends' ends
     → AreEnds p t s ends → AreEnds p t s ends'
@@ -123,8 +123,8 @@ module _ (parts : PartsOf) (x y : PackedOf) (place : ℕ) (o : OutcomeOf) (is : 
   }
 
   some_over : (q : Option Process) → IsSome q → (r : Option Process) → or_else q r ≡ q
-  some_over None no r = absurd (let differ : false ≡ true = no in cc)
-  some_over (Some q) yes r = refl
+  some_over None is r = absurd (let differ : false ≡ true = is in cc)
+  some_over (Some q) is r = refl
 
   stands : IsSome (process_in parts.processes.items o.part)
   stands = some_below process_of parts.processes.items o.part there.part
@@ -197,14 +197,13 @@ module _ (a b d : PartsOf) (g : IsGrown a b) (h : IsGrown b d) (spot : SpotOf) (
   }
 
 -- the spot of an outcome
-pub outcome_numbered : (parts : PartsOf) (t : ℕ) (s : SourceState) (spot : SpotOf) (o : OutcomeOf)
-    → IsNumbered parts t s spot → o.part ≡ spot.part → o.table ≡ spot.table → o.variables ≡ spot.variables
-    → IsNumbered parts t s (spot_at t o)
-outcome_numbered parts t s spot o is part table variables = subst (IsNumbered parts t s) (λ i. record {
+pub outcome_numbered : (parts : PartsOf) (t : ℕ) (s : SourceState) (spot : SpotOf) → IsNumbered parts t s spot
+    → IsNumbered parts t s (record { process = t; part = spot.part; table = spot.table; variables = spot.variables })
+outcome_numbered parts t s spot is = subst (IsNumbered parts t s) (λ i. record {
   process = is.process i;
-  part = sym part i;
-  table = sym table i;
-  variables = sym variables i;
+  part = spot.part;
+  table = spot.table;
+  variables = spot.variables;
 }) is
 
 pub none_numbered : (parts : PartsOf) (t : ℕ) (ends : List End) → AreNumbered parts t (ends_in (take 0 ends)) []

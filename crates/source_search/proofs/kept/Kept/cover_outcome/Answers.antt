@@ -9,8 +9,8 @@ use Rattle.source_search.proofs.Packing.{grown_none}
 use Rattle.source_search.proofs.Remembered.{moved_same, moved_within}
 use Rattle.source_search.proofs.kept.Kept.cover_outcome.Goals as goal
 
-pub cover-then-not-quiet-requires-clause-within : goal.cover-then-not-quiet-requires-clause-within
-cover-then-not-quiet-requires-clause-within c =
+pub cover-requires-clause-within : goal.cover-requires-clause-within
+cover-requires-clause-within c =
     let moved : IsMovedTo c.args.packed.now c.args.place c.args.outcome c.in-Some.next =
     rw c.in-Some.is at c.in_ok-next.ensures in
     moved_within c.args.self.now.parts c.args.packed.now c.in-Some.next c.args.place c.args.outcome moved
@@ -20,11 +20,11 @@ pub returns-then-not-quiet-clause-covered : goal.returns-then-not-quiet-clause-c
 returns-then-not-quiet-clause-covered c =
     let moved : IsMovedTo c.args.packed.now c.args.place c.args.outcome c.in-Some.next =
     rw c.in-Some.is at c.in_ok-next.ensures in
-    IfOk-weaker c.cover-then-not-quiet.result _ _ (λ b h e.
-    subst (IsCoveredSo (program_of c.args.checked.now.tree) (states_of c.cover-then-not-quiet.new.self))
+    IfOk-weaker c.cover.result _ _ (λ b h e.
+    subst (IsCoveredSo (program_of c.args.checked.now.tree) (states_of c.cover.new.self))
     (moved_same c.args.self.now.parts c.args.packed.now c.in-Some.next c.args.place c.args.outcome moved c.requires.there)
     (h e))
-    c.cover-then-not-quiet.ensures.covered
+    c.cover.ensures.covered
 
 pub keep_packed-requires-clause-within : goal.keep_packed-requires-clause-within
 keep_packed-requires-clause-within c =

@@ -1,4 +1,4 @@
-use Rattle.std.proofs.Common.{◌≡◌, ⊥, subst}
+use Rattle.std.proofs.Common.{◌≡◌, subst, sym}
 use Rattle.program.specs.Views.{program_of}
 use Rattle.meaning.specs.Runs.{CanMove}
 use Rattle.source_reaching.specs.Among.{AreEnds}
@@ -46,7 +46,7 @@ follow_ends-requires-clause-ends c =
     rw c.in-Some-2.is at c.in_ok-ends.ensures in
     subst (λ r. AreEnds p spot.process r (ends_in c.as_slice-listed.result.now)) single.same
     (subst (λ t. AreEnds p t s (ends_in c.as_slice-listed.result.now)) number
-    (rw (← c.as_slice-listed.ensures.value) own))
+    (subst (λ ends. AreEnds p c.from-process.result s (ends_in ends)) (sym c.as_slice-listed.ensures.value) own))
 
 pub follow_ends-requires-clause-moves : goal.follow_ends-requires-clause-moves
 follow_ends-requires-clause-moves c =
@@ -68,3 +68,6 @@ returns-clause-moves c = λ e.
     let can : CanMove p s c.from-process.result = rw c.if-not-can_move.false at c.can_move.ensures in
     moves_too p c.args.self.now.parts c.args.packed.now c.args.place spot s c.requires.spot single
     (subst (CanMove p s) number can)
+
+pub returns-clause-followed : goal.returns-clause-followed
+returns-clause-followed c = c.in_ok-follow_ends.ensures.followed c.if-not-branch.false

@@ -1,10 +1,9 @@
-use Rattle.std.proofs.Common.{◌≡◌, ◌∙◌, Some, ap, subst, sym}
+use Rattle.std.proofs.Common.{◌≡◌, ◌∙◌, Some, ap, arith, subst, sym}
 use Rattle.source_offers.specs.Stages.{process_of}
 use Rattle.source_offers.specs.Stores.{variables_of}
 use Rattle.source_states.specs.States.{state_of}
 use Rattle.source_table.specs.Tables.{table_of}
 use Rattle.source_search.specs.Packed.{process_in, table_in, variables_in}
-use Rattle.source_search.specs.declared.spot.Spot.{Spot}
 use Rattle.source_search.proofs.Remembered.{numbered}
 use Rattle.source_search.proofs.parts.Parts.number.Goals as goal
 
@@ -26,5 +25,7 @@ returns-clause-numbered c =
       part = c.in-Some-2.part;
       table = c.in-Some-3.table;
       variables = c.in-Some-4.variables;
-    }) s c.in_ok-all.all.items (process_of c.in-Some.process.now) ? c.in_ok-all.ensures.all ? q
+    }) s c.in_ok-all.all.items (process_of c.in-Some.process.now)
+    (omega (arith, c.len.ensures, c.if-len-ne1.false)) c.in_ok-all.ensures.all
+    (subst (λ n. s.process n ≡ Some (process_of c.in-Some.process.now)) c.from.ensures (sym c.in-Some.ensures)) q
     (t ∙ ap Some c.table.ensures) (v ∙ ap Some c.variables.ensures)

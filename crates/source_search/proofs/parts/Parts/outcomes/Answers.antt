@@ -23,7 +23,7 @@ loop-k-preserved c =
       grown = grown_twice c.args.self.now c.loop-k.self c.outcome.new.self c.loop-k.invariant.grown
           c.in_ok-outcome.ensures.grown;
       numbered = one_numbered c.loop-k.self c.outcome.new.self c.in_ok-outcome.ensures.grown c.args.spot.process
-          c.args.ends.now c.loop-k.k c.index-ends-k.result c.loop-k.outcomes.items c.push.new.outcomes.items
+          c.args.ends.now c.loop-k.k c.index-ends-k.result c.loop-k.outcomes.items c.push.new.self.items
           c.in-Some.outcome c.loop-k-test.true c.index-ends-k.is c.loop-k.invariant.numbered one c.in_ok-push.ensures.items;
     }
 
