@@ -5,8 +5,7 @@ use Rattle.source_reaching.specs.Ends.{ends_in}
 use Rattle.source_search.specs.Covered.{IsFollowedOwn}
 use Rattle.source_search.specs.Kept.{states_in, states_of}
 use Rattle.source_search.specs.Known.{IsKnownAt}
-use Rattle.source_search.specs.Packed.{unpacked}
-use Rattle.source_search.specs.Spots.{IsSpotWithin, alone}
+use Rattle.source_search.specs.Spots.{alone}
 use Rattle.source_search.proofs.Coverage.{followed_own}
 use Rattle.source_search.proofs.Keeping.{longer_still, longer_twice}
 use Rattle.source_search.proofs.Packing.{grown_twice, sound_still, unpacked_still, within_still}

@@ -5,7 +5,7 @@ use Rattle.source_reaching.specs.Among.{AreEnds}
 use Rattle.source_reaching.specs.Ends.{ends_in}
 use Rattle.source_states.specs.States.{state_of}
 use Rattle.source_search.specs.Kept.{states_of}
-use Rattle.source_search.specs.Spots.{IsAlone, alone}
+use Rattle.source_search.specs.Spots.{IsAlone}
 use Rattle.source_search.proofs.Coverage.{moves_too}
 use Rattle.source_search.proofs.Remembered.{rests_followed, rests_kept, spot_within}
 use Rattle.source_search.proofs.kept.Kept.follow_new.Goals as goal
