@@ -7,4 +7,5 @@ pub mod Packing
 pub mod Merged
 pub mod Keeping
 pub mod Coverage
+pub mod Remembered
 pub mod Searched

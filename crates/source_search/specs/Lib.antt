@@ -4,3 +4,4 @@ pub mod Kept
 pub mod Packed
 pub mod Spots
 pub mod Covered
+pub mod Known

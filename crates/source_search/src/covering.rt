@@ -4,9 +4,8 @@ use crate::packed::Packed;
 use crate::parts::Parts;
 use crate::replay::OPENING;
 use program::Checked;
-use source_reaching::{End, ends, follow_own, is_lost, looks_calm};
+use source_reaching::{End, follow_own, is_lost, looks_calm};
 use source_states::{Action, SourceState};
-use sourcemeaning::can_move;
 use std::alloc::{AllocError, Global};
 
 // How many times a process is followed at most before a state is kept.
@@ -89,13 +88,12 @@ impl<'a> Parts<'a> {
 }
 
 impl<'a> Kept<'a> {
-    ghost use Rattle.std.specs.Prelude.{◌≡◌, ◌<◌, IfOk, IfSome, OnOk, suc, true, ℕ};
+    ghost use Rattle.std.specs.Prelude.{◌≡◌, IfOk, OnOk, true, ℕ};
     ghost use Rattle.program.specs.Views.{program_of};
-    ghost use Rattle.meaning.specs.Runs.{CanMove};
     ghost use Rattle.source_reaching.specs.Among.{AreCovered, among};
     ghost use Rattle.source_reaching.specs.Ends.{ends_in};
     ghost use Rattle.source_states.specs.States.{state_of};
-    ghost use Rattle.source_search.specs.Covered.{IsCoveredSo, IsFollowedOwn};
+    ghost use Rattle.source_search.specs.Covered.{IsCoveredSo};
     ghost use Rattle.source_search.specs.Found.{is_any};
     ghost use Rattle.source_search.specs.Kept.{IsLonger, IsSeen, IsSound, states_of};
     ghost use Rattle.source_search.specs.Packed.{IsGrown, IsWithin, unpacked};
@@ -174,8 +172,8 @@ impl<'a> Kept<'a> {
         Ok(covered)
     }
 
-    // The same of each of these.
-    fn cover_ends(
+    /// Covers each of these, which a process reaches from a kept state; false where no more can be kept.
+    pub fn cover_ends(
         &mut self,
         alloc: Global,
         checked: &'a Checked,
@@ -197,44 +195,5 @@ impl<'a> Kept<'a> {
             }
         }
         Ok(true)
-    }
-
-    /// Covers what the process at this place of a kept state may do next of its own, and tells whether it can move; None
-    /// where no more can be kept.
-    pub fn follow_own(
-        &mut self,
-        alloc: Global,
-        checked: &'a Checked,
-        packed: &Packed,
-        before: usize,
-        place: usize,
-    ) -> Result<Option<bool>, AllocError>
-        requires sound { IsSound self.old }
-        requires within { IsWithin self.old.parts packed.now }
-        ensures sound { OnOk result (IsSound self.new) }
-        ensures grown { OnOk result (IsGrown self.old.parts self.new.parts) }
-        ensures longer { OnOk result (IsLonger (states_of self.old) (states_of self.new)) }
-        ensures followed { IfOk result (λ o. IfSome o (λ moves. IsFollowedOwn (program_of checked.now.tree)
-            (states_of self.new) (unpacked self.old.parts packed.now) (suc place))) }
-        ensures moves { IfOk result (λ o. IfSome o (λ moves. moves ≡ true
-            → CanMove (program_of checked.now.tree) (unpacked self.old.parts packed.now) (suc place))) }
-    {
-        let Some(spot) = packed.spot(place) else {
-            return Ok(None);
-        };
-        let Some(small) = self.parts.small(alloc, spot)? else {
-            return Ok(None);
-        };
-        let process = u64::from(spot.process);
-        let moves = can_move(&small, checked, process);
-        let Some(ends) = ends(alloc, checked, small, process)? else {
-            return Ok(None);
-        };
-        let listed = ends.as_slice();
-        let way = Way::new(before, process, 0);
-        if !self.cover_ends(alloc, checked, packed, listed, way)? {
-            return Ok(None);
-        }
-        Ok(Some(moves))
     }
 }

@@ -30,6 +30,7 @@ fn put_part(processes: &mut Vec<u32>, process: u64, part: u32) -> Result<bool, A
 }
 
 impl<'a> Parts<'a> {
+    ghost use Rattle.source_search.specs.Known.{IsNumbered};
     ghost use Rattle.source_search.specs.Packed.{IsGrown, IsWithin};
     ghost use Rattle.source_search.specs.Spots.{IsAlone, IsMergedOf, IsMergedTo};
 
@@ -111,6 +112,45 @@ impl<'a> Parts<'a> {
             table,
             variables,
             processes,
+        }))
+    }
+
+    /// A state in which the process of this spot is alone, in numbers, where so many processes were made; None where
+    /// there are others, or too many parts.
+    pub fn number(
+        &mut self,
+        alloc: Global,
+        program: &Program,
+        spot: Spot,
+        made: usize,
+        state: &SourceState<'a>,
+    ) -> Result<Option<Spot>, AllocError>
+        ensures grown { OnOk result (IsGrown self.old self.new) }
+        ensures numbered { IfOk result (λ o. IfSome o
+            (IsNumbered self.new spot.process (state_of state.now))) }
+    {
+        let all = state.numbers(alloc)?;
+        if all.len() != 1 {
+            return Ok(None);
+        }
+        let Some(process) = state.process(u64::from(spot.process)) else {
+            return Ok(None);
+        };
+        let Some(part) = self.process_number(alloc, process)? else {
+            return Ok(None);
+        };
+        let digest = digest_table(program, state, made as u64);
+        let Some(table) = self.table_number(state.table(), digest)? else {
+            return Ok(None);
+        };
+        let Some(variables) = self.variables_number(state.variables(), spot.variables)? else {
+            return Ok(None);
+        };
+        Ok(Some(Spot {
+            process: spot.process,
+            part,
+            table,
+            variables,
         }))
     }
 }

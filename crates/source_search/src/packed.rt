@@ -1,7 +1,9 @@
 ghost use Rattle.std.specs.Prelude.{◌≡◌, IfOk, IfSome, true};
+ghost use Rattle.source_search.specs.Known.{IsMovedTo};
 ghost use Rattle.source_search.specs.Packed.{IsSameKey};
 ghost use Rattle.source_search.specs.Spots.{IsSpotOf};
 
+use crate::memo::Outcome;
 use crate::spot::Spot;
 use std::alloc::{AllocError, Global};
 
@@ -56,5 +58,27 @@ impl Packed {
             table: self.table,
             variables: self.variables,
         })
+    }
+
+    /// The same with the process at this place, the table and the variables as an outcome has them; None where there is
+    /// no such process.
+    pub fn moved(
+        &self,
+        alloc: Global,
+        place: usize,
+        outcome: Outcome,
+    ) -> Result<Option<Packed>, AllocError>
+        ensures { IfOk result (λ o. IfSome o (IsMovedTo self.now place outcome)) }
+    {
+        let mut processes = Vec::from_slice(alloc, self.processes.as_slice())?;
+        if place >= processes.len() {
+            return Ok(None);
+        }
+        processes[place] = outcome.part;
+        Ok(Some(Packed {
+            table: outcome.table,
+            variables: outcome.variables,
+            processes,
+        }))
     }
 }

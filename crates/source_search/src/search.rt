@@ -7,10 +7,12 @@ ghost use Rattle.source_search.specs.Packed.{unpacked};
 ghost use Rattle.source_states.specs.Actions.{action_of};
 ghost use Rattle.source_states.specs.States.{state_of};
 ghost use Rattle.source_search.specs.Kept.{IsExpanded, IsLonger, IsSound, NoneIs, states_of};
+ghost use Rattle.source_search.specs.Known.{AreKnown};
 
 use crate::choices::choices;
 use crate::ends::{has_failed, is_stuck, some_part_failed};
 use crate::kept::{Kept, Way};
+use crate::memo::Memo;
 use crate::outside::Outside;
 use crate::packed::Packed;
 use crate::parts::Parts;
@@ -198,6 +200,7 @@ impl<'a> Kept<'a> {
     ghost use Rattle.std.specs.Prelude.{IfSome, ◌<◌, length, suc, ℕ};
     ghost use Rattle.meaning.specs.Runs.{CanMove};
     ghost use Rattle.source_search.specs.Covered.{IsFollowedOwn};
+    ghost use Rattle.source_search.specs.Known.{AreKnown};
     ghost use Rattle.source_search.specs.Packed.{IsGrown, IsWithin, unpacked};
 
     // Covers what each process of a kept state may do next of its own, and tells whether one can move; None where no more
@@ -206,14 +209,17 @@ impl<'a> Kept<'a> {
         &mut self,
         alloc: Global,
         checked: &'a Checked,
+        memo: &mut Memo,
         packed: &Packed,
         before: usize,
     ) -> Result<Option<bool>, AllocError>
         requires sound { IsSound self.old }
         requires within { IsWithin self.old.parts packed.now }
+        requires known { AreKnown (program_of checked.now.tree) self.old.parts memo.old }
         ensures sound { OnOk result (IsSound self.new) }
         ensures grown { OnOk result (IsGrown self.old.parts self.new.parts) }
         ensures longer { OnOk result (IsLonger (states_of self.old) (states_of self.new)) }
+        ensures known { OnOk result (AreKnown (program_of checked.now.tree) self.new.parts memo.new) }
         ensures followed { IfOk result (λ o. IfSome o (λ moves. (place : ℕ)
             → place < length packed.now.processes.items → IsFollowedOwn (program_of checked.now.tree)
             (states_of self.new) (unpacked self.old.parts packed.now) (suc place))) }
@@ -222,7 +228,7 @@ impl<'a> Kept<'a> {
     {
         let mut moves = false;
         for place in 0..packed.processes.len() {
-            let Some(able) = self.follow_own(alloc, checked, packed, before, place)? else {
+            let Some(able) = self.follow_spot(alloc, checked, memo, packed, before, place)? else {
                 return Ok(None);
             };
             moves = either(moves, able);
@@ -233,6 +239,7 @@ impl<'a> Kept<'a> {
 
 impl Findings {
     ghost use Rattle.source_search.specs.Kept.{IsLookedAt};
+    ghost use Rattle.source_search.specs.Known.{AreKnown};
 
     // Looks at the state that is kept at a place, and keeps what may come next; false where no more can be kept.
     fn look_whole<'a>(
@@ -305,11 +312,14 @@ impl Findings {
         alloc: Global,
         checked: &'a Checked,
         kept: &mut Kept<'a>,
+        memo: &mut Memo,
         place: usize,
         outside: Outside,
     ) -> Result<bool, AllocError>
         requires sound { IsSound kept.old }
+        requires known { AreKnown (program_of checked.now.tree) kept.old.parts memo.old }
         requires own { is_any outside ≡ false }
+        ensures known { OnOk result (AreKnown (program_of checked.now.tree) kept.new.parts memo.new) }
         ensures sound { OnOk result (IsSound kept.new) }
         ensures longer { OnOk result (IsLonger (states_of kept.old) (states_of kept.new)) }
         ensures complete { OnOk result (self.new.complete ≡ self.old.complete) }
@@ -320,7 +330,7 @@ impl Findings {
             return Ok(false);
         };
         self.note_failed(&kept.parts, &packed, place, outside);
-        let Some(moves) = kept.expand_own(alloc, checked, &packed, place)? else {
+        let Some(moves) = kept.expand_own(alloc, checked, memo, &packed, place)? else {
             return Ok(false);
         };
         let told = self.note_stuck(alloc, checked, &kept.parts, &packed, place, moves)?;
@@ -334,10 +344,14 @@ impl Findings {
         alloc: Global,
         checked: &'a Checked,
         kept: &mut Kept<'a>,
+        memo: &mut Memo,
         place: usize,
         outside: Outside,
     ) -> Result<bool, AllocError>
         requires sound { IsSound kept.old }
+        requires known { is_any outside ≡ false → AreKnown (program_of checked.now.tree) kept.old.parts memo.old }
+        ensures known { OnOk result (is_any outside ≡ false
+            → AreKnown (program_of checked.now.tree) kept.new.parts memo.new) }
         ensures sound { OnOk result (IsSound kept.new) }
         ensures longer { OnOk result (IsLonger (states_of kept.old) (states_of kept.new)) }
         ensures complete { OnOk result (self.new.complete ≡ self.old.complete) }
@@ -347,7 +361,8 @@ impl Findings {
         if outside.is_any() {
             return self.look_whole(alloc, checked, kept, place, outside);
         }
-        self.look_own(alloc, checked, kept, place, outside)
+        memo.fit(alloc, kept.states.len())?;
+        self.look_own(alloc, checked, kept, memo, place, outside)
     }
 }
 
@@ -375,13 +390,14 @@ pub(crate) fn search<'a, P: Progress>(
         stuck: None,
         aborted: None,
     };
+    let mut memo = Memo::new(alloc);
     for place in 0..most {
         let known = kept.states.as_slice();
         if place >= known.len() {
             findings.complete = true;
             return Ok(findings);
         }
-        if !findings.look_at(alloc, checked, kept, place, outside)? {
+        if !findings.look_at(alloc, checked, kept, &mut memo, place, outside)? {
             return Ok(findings);
         }
         progress.looked_at(kept.states.len(), place + 1);

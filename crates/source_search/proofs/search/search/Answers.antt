@@ -4,6 +4,7 @@ use Rattle.std.proofs.lemmas.List.{length-map}
 use Rattle.program.specs.Views.{program_of}
 use Rattle.source_search.specs.Kept.{states_of}
 use Rattle.source_search.specs.Packed.{unpacked}
+use Rattle.source_search.proofs.Remembered.{nothing_known}
 use Rattle.source_search.proofs.Searched.{all_expanded, at_first, goes_on, none_aborted, none_stuck}
 use Rattle.source_search.proofs.search.search.Goals as goal
 
@@ -12,6 +13,8 @@ loop-place-init g c = record {
   sound = c.requires.sound;
   so_far = at_first (program_of c.args.checked.now.tree) c.args.outside (states_of c.args.kept.now);
   goes_on = refl;
+  known = λ none. nothing_known (program_of c.args.checked.now.tree) c.args.kept.now.parts c.new-memo.result
+      c.new-memo.ensures;
 }
 
 pub loop-place-preserved : goal.loop-place-preserved
@@ -22,6 +25,7 @@ loop-place-preserved g c = record {
       c.look_at.new.self c.loop-place.invariant.so_far c.in_ok-look_at.ensures.longer
       (c.in_ok-look_at.ensures.looked c.if-not-branch.false);
   goes_on = c.in_ok-look_at.ensures.complete ∙ c.loop-place.invariant.goes_on;
+  known = c.in_ok-look_at.ensures.known;
 }
 
 pub returns-then-place-known-clause-expanded : goal.returns-then-place-known-clause-expanded

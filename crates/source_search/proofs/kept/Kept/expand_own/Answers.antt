@@ -16,10 +16,11 @@ loop-place-init c = record {
   longer = longer_none (states_of c.args.self.now);
   followed = λ k l. absurd (omega (arith, l));
   moves = λ e. absurd (let no : false ≡ true = e in cc);
+  known = c.requires.known;
 }
 
-pub follow_own-requires-clause-within : goal.follow_own-requires-clause-within
-follow_own-requires-clause-within c = within_still c.args.self.now.parts c.loop-place.self.parts
+pub follow_spot-requires-clause-within : goal.follow_spot-requires-clause-within
+follow_spot-requires-clause-within c = within_still c.args.self.now.parts c.loop-place.self.parts
     c.loop-place.invariant.grown c.args.packed.now c.requires.within
 
 pub loop-place-preserved : goal.loop-place-preserved
@@ -28,7 +29,7 @@ loop-place-preserved c =
     let x = c.args.packed.now in
     let s = unpacked c.args.self.now.parts x in
     let kept = states_of c.loop-place.self in
-    let kept' = states_of c.follow_own.new.self in
+    let kept' = states_of c.follow_spot.new.self in
     let k = c.loop-place.place in
     let still : unpacked c.loop-place.self.parts x ≡ s =
     unpacked_still c.args.self.now.parts c.loop-place.self.parts c.loop-place.invariant.grown x c.requires.within in
@@ -38,7 +39,7 @@ loop-place-preserved c =
     rw c.in-Some.is at c.in_ok-able.ensures.moves in
     record {
       sound = c.in_ok-able.ensures.sound;
-      grown = grown_twice c.args.self.now.parts c.loop-place.self.parts c.follow_own.new.self.parts
+      grown = grown_twice c.args.self.now.parts c.loop-place.self.parts c.follow_spot.new.self.parts
           c.loop-place.invariant.grown c.in_ok-able.ensures.grown;
       longer = longer_twice (states_of c.args.self.now) kept kept' c.loop-place.invariant.longer
           c.in_ok-able.ensures.longer;
@@ -48,6 +49,7 @@ loop-place-preserved c =
       moves = λ e. either_moves c.loop-place.moves c.in-Some.able c.either-moves.result c.either-moves.ensures
           ((t : ℕ) × CanMove p s t) c.loop-place.invariant.moves
           (λ b. (suc k, subst (λ r. CanMove p r (suc k)) still (can b))) e;
+      known = c.in_ok-able.ensures.known;
     }
 
 pub returns-clause-followed : goal.returns-clause-followed

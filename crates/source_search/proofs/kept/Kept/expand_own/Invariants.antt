@@ -3,6 +3,7 @@ use Rattle.program.specs.Views.{program_of}
 use Rattle.meaning.specs.Runs.{CanMove}
 use Rattle.source_search.specs.Covered.{IsFollowedOwn}
 use Rattle.source_search.specs.Kept.{IsLonger, IsSound, states_of}
+use Rattle.source_search.specs.Known.{AreKnown}
 use Rattle.source_search.specs.Packed.{IsGrown, unpacked}
 use Rattle.source_search.proofs.kept.Kept.expand_own.Given as goal
 
@@ -14,4 +15,5 @@ invariant-loop-place l = record {
   followed : (k : ℕ) → k < l.place → IsFollowedOwn (program_of l.checked.tree) (states_of l.self)
       (unpacked l.fn.self.parts l.packed) (suc k);
   moves : l.moves ≡ true → (t : ℕ) × CanMove (program_of l.checked.tree) (unpacked l.fn.self.parts l.packed) t;
+  known : AreKnown (program_of l.checked.tree) l.self.parts l.memo;
 }

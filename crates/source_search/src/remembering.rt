@@ -1,0 +1,229 @@
+use crate::kept::{Kept, Way};
+use crate::memo::{Known, Memo, Outcome, resting};
+use crate::packed::Packed;
+use crate::spot::Spot;
+use program::Checked;
+use source_reaching::{End, ends};
+use sourcemeaning::can_move;
+use std::alloc::{AllocError, Global};
+
+impl<'a> Kept<'a> {
+    ghost use Rattle.std.specs.Prelude.{◌≡◌, IfOk, IfSome, OnOk, suc, true, ℕ};
+    ghost use Rattle.program.specs.Views.{program_of};
+    ghost use Rattle.meaning.specs.Runs.{CanMove};
+    ghost use Rattle.source_reaching.specs.Among.{AreCovered, AreEnds, among};
+    ghost use Rattle.source_reaching.specs.Ends.{ends_in};
+    ghost use Rattle.source_search.specs.Covered.{IsCoveredSo, IsFollowedOwn};
+    ghost use Rattle.source_search.specs.Kept.{IsLonger, IsSound, states_of};
+    ghost use Rattle.source_search.specs.Known.{AreKnown, AreWithin, IsKnownAt, alone_at, spot_at};
+    ghost use Rattle.source_search.specs.Packed.{IsGrown, IsWithin, unpacked};
+    ghost use Rattle.source_search.specs.Spots.{IsSpotOf, IsSpotWithin, alone};
+
+    // Covers the state in which the process at this place of a kept one stands behind an outcome; false where no more can
+    // be kept.
+    fn cover_outcome(
+        &mut self,
+        alloc: Global,
+        checked: &'a Checked,
+        packed: &Packed,
+        place: usize,
+        outcome: Outcome,
+        quiet: bool,
+        way: Way,
+    ) -> Result<bool, AllocError>
+        requires sound { IsSound self.old }
+        requires within { IsWithin self.old.parts packed.now }
+        requires there { IsSpotWithin self.old.parts (spot_at (suc place) outcome) }
+        ensures sound { OnOk result (IsSound self.new) }
+        ensures grown { OnOk result (IsGrown self.old.parts self.new.parts) }
+        ensures longer { OnOk result (IsLonger (states_of self.old) (states_of self.new)) }
+        ensures covered { IfOk result (λ kept. kept ≡ true
+            → IsCoveredSo (program_of checked.now.tree) (states_of self.new)
+            (among (unpacked self.old.parts packed.now).process (alone self.old.parts (spot_at (suc place) outcome)))) }
+    {
+        let Some(next) = packed.moved(alloc, place, outcome)? else {
+            return Ok(false);
+        };
+        let way = way.with(usize::from(outcome.choice), usize::from(outcome.later));
+        if !quiet {
+            return self.cover(alloc, checked, next, way);
+        }
+        let kept = self.keep_packed(next, way)?;
+        Ok(kept)
+    }
+
+    // The same of each outcome.
+    fn cover_known(
+        &mut self,
+        alloc: Global,
+        checked: &'a Checked,
+        packed: &Packed,
+        place: usize,
+        known: &Known,
+        way: Way,
+    ) -> Result<bool, AllocError>
+        requires sound { IsSound self.old }
+        requires within { IsWithin self.old.parts packed.now }
+        requires there { AreWithin self.old.parts (suc place) known.now.outcomes.items }
+        ensures sound { OnOk result (IsSound self.new) }
+        ensures grown { OnOk result (IsGrown self.old.parts self.new.parts) }
+        ensures longer { OnOk result (IsLonger (states_of self.old) (states_of self.new)) }
+        ensures covered { IfOk result (λ kept. kept ≡ true → (n : ℕ) × AreCovered (program_of checked.now.tree)
+            (states_of self.new) n (unpacked self.old.parts packed.now).process
+            (alone_at self.old.parts (suc place) known.now.outcomes.items)) }
+    {
+        for k in 0..known.outcomes.len() {
+            let outcome = known.outcomes[k];
+            if !self.cover_outcome(alloc, checked, packed, place, outcome, known.quiet, way)? {
+                return Ok(false);
+            }
+        }
+        Ok(true)
+    }
+
+    // Covers what the process at this place of a kept state, of which this is known, may do next of its own, and tells
+    // whether it can move; None where no more can be kept.
+    fn follow_known(
+        &mut self,
+        alloc: Global,
+        checked: &'a Checked,
+        packed: &Packed,
+        before: usize,
+        place: usize,
+        spot: Spot,
+        known: &Known,
+    ) -> Result<Option<bool>, AllocError>
+        requires sound { IsSound self.old }
+        requires within { IsWithin self.old.parts packed.now }
+        requires spot { IsSpotOf packed.now place spot }
+        requires known { IsKnownAt (program_of checked.now.tree) self.old.parts spot known.now }
+        ensures sound { OnOk result (IsSound self.new) }
+        ensures grown { OnOk result (IsGrown self.old.parts self.new.parts) }
+        ensures longer { OnOk result (IsLonger (states_of self.old) (states_of self.new)) }
+        ensures followed { IfOk result (λ o. IfSome o (λ moves. IsFollowedOwn (program_of checked.now.tree)
+            (states_of self.new) (unpacked self.old.parts packed.now) (suc place))) }
+        ensures moves { IfOk result (λ o. IfSome o (λ moves. moves ≡ true
+            → CanMove (program_of checked.now.tree) (unpacked self.old.parts packed.now) (suc place))) }
+    {
+        let way = Way::new(before, u64::from(spot.process), 0);
+        if !self.cover_known(alloc, checked, packed, place, known, way)? {
+            return Ok(None);
+        }
+        Ok(Some(known.outcomes.len() > 0))
+    }
+
+    // The same of one that can move, and reaches these; it is remembered, unless it makes another process.
+    fn follow_ends(
+        &mut self,
+        alloc: Global,
+        checked: &'a Checked,
+        memo: &mut Memo,
+        packed: &Packed,
+        before: usize,
+        place: usize,
+        spot: Spot,
+        ends: &[End<'a>],
+    ) -> Result<bool, AllocError>
+        requires sound { IsSound self.old }
+        requires within { IsWithin self.old.parts packed.now }
+        requires known { AreKnown (program_of checked.now.tree) self.old.parts memo.old }
+        requires spot { IsSpotOf packed.now place spot }
+        requires ends { AreEnds (program_of checked.now.tree) spot.process (alone self.old.parts spot)
+            (ends_in ends.now) }
+        requires moves { CanMove (program_of checked.now.tree) (alone self.old.parts spot) spot.process }
+        ensures sound { OnOk result (IsSound self.new) }
+        ensures grown { OnOk result (IsGrown self.old.parts self.new.parts) }
+        ensures longer { OnOk result (IsLonger (states_of self.old) (states_of self.new)) }
+        ensures known { OnOk result (AreKnown (program_of checked.now.tree) self.new.parts memo.new) }
+        ensures followed { IfOk result (λ kept. kept ≡ true → IsFollowedOwn (program_of checked.now.tree)
+            (states_of self.new) (unpacked self.old.parts packed.now) (suc place)) }
+    {
+        let made = packed.processes.len();
+        let way = Way::new(before, u64::from(spot.process), 0);
+        let Some(known) = self
+            .parts
+            .learn(alloc, checked.program(), spot, made, ends)?
+        else {
+            let covered = self.cover_ends(alloc, checked, packed, ends, way)?;
+            return Ok(covered);
+        };
+        let kept = self.cover_known(alloc, checked, packed, place, &known, way)?;
+        memo.keep(known);
+        Ok(kept)
+    }
+
+    // The same of one of which nothing is remembered, and tells whether it can move; None where no more can be kept.
+    fn follow_new(
+        &mut self,
+        alloc: Global,
+        checked: &'a Checked,
+        memo: &mut Memo,
+        packed: &Packed,
+        before: usize,
+        place: usize,
+        spot: Spot,
+    ) -> Result<Option<bool>, AllocError>
+        requires sound { IsSound self.old }
+        requires within { IsWithin self.old.parts packed.now }
+        requires known { AreKnown (program_of checked.now.tree) self.old.parts memo.old }
+        requires spot { IsSpotOf packed.now place spot }
+        ensures sound { OnOk result (IsSound self.new) }
+        ensures grown { OnOk result (IsGrown self.old.parts self.new.parts) }
+        ensures longer { OnOk result (IsLonger (states_of self.old) (states_of self.new)) }
+        ensures known { OnOk result (AreKnown (program_of checked.now.tree) self.new.parts memo.new) }
+        ensures followed { IfOk result (λ o. IfSome o (λ moves. IsFollowedOwn (program_of checked.now.tree)
+            (states_of self.new) (unpacked self.old.parts packed.now) (suc place))) }
+        ensures moves { IfOk result (λ o. IfSome o (λ moves. moves ≡ true
+            → CanMove (program_of checked.now.tree) (unpacked self.old.parts packed.now) (suc place))) }
+    {
+        let Some(small) = self.parts.small(alloc, spot)? else {
+            return Ok(None);
+        };
+        let process = u64::from(spot.process);
+        if !can_move(&small, checked, process) {
+            memo.keep(resting(alloc, spot));
+            return Ok(Some(false));
+        }
+        let Some(ends) = ends(alloc, checked, small, process)? else {
+            return Ok(None);
+        };
+        let listed = ends.as_slice();
+        if !self.follow_ends(alloc, checked, memo, packed, before, place, spot, listed)? {
+            return Ok(None);
+        }
+        Ok(Some(true))
+    }
+
+    /// Covers what the process at this place of a kept state may do next of its own, as it is remembered or as it is found
+    /// out, and tells whether it can move; None where no more can be kept.
+    pub fn follow_spot(
+        &mut self,
+        alloc: Global,
+        checked: &'a Checked,
+        memo: &mut Memo,
+        packed: &Packed,
+        before: usize,
+        place: usize,
+    ) -> Result<Option<bool>, AllocError>
+        requires sound { IsSound self.old }
+        requires within { IsWithin self.old.parts packed.now }
+        requires known { AreKnown (program_of checked.now.tree) self.old.parts memo.old }
+        ensures sound { OnOk result (IsSound self.new) }
+        ensures grown { OnOk result (IsGrown self.old.parts self.new.parts) }
+        ensures longer { OnOk result (IsLonger (states_of self.old) (states_of self.new)) }
+        ensures known { OnOk result (AreKnown (program_of checked.now.tree) self.new.parts memo.new) }
+        ensures followed { IfOk result (λ o. IfSome o (λ moves. IsFollowedOwn (program_of checked.now.tree)
+            (states_of self.new) (unpacked self.old.parts packed.now) (suc place))) }
+        ensures moves { IfOk result (λ o. IfSome o (λ moves. moves ≡ true
+            → CanMove (program_of checked.now.tree) (unpacked self.old.parts packed.now) (suc place))) }
+    {
+        let Some(spot) = packed.spot(place) else {
+            return Ok(None);
+        };
+        let Some(known) = memo.find(spot) else {
+            return self.follow_new(alloc, checked, memo, packed, before, place, spot);
+        };
+        let moves = self.follow_known(alloc, checked, packed, before, place, spot, known)?;
+        Ok(moves)
+    }
+}
