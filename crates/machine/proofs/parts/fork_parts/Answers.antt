@@ -22,7 +22,7 @@ returns-in-Some-clause-done c =
     let k = parts_of c.args.shared.now c.args.threads.now.items in
     let counted : c.len-made.result ≡ length c.args.threads.now.items = search rules in
     let within : c.args.t ≤ length c.args.threads.now.items = search rules in
-    let event = c.in_ok-child.event in
+    let event = c.take_fork.new.event in
     stepped c.args.image.now k c.args.t c.len-made.result c.index_mut-local.result.now _
     (stands_at c.args.threads.now.items c.args.t c.index_mut-local.result.now c.index_mut-local.result.now
     c.requires.thread.0 within c.index_mut-local.ensures.value) c.requires.awake counted
@@ -52,5 +52,5 @@ returns-in_default-clause-done c =
       thread = c.take_fork.new.local;
       child =
           c.in_default.is i;
-      event = c.in_ok-child.event;
+      event = c.take_fork.new.event;
     })))
