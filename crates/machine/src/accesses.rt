@@ -64,7 +64,13 @@ impl Common {
     }
 
     /// Puts `new` at an address where the word is `expected`; the answer is the word before.
-    pub fn compare_swap(&mut self, a: Addr, expected: u32, new: u32, event: &mut Event) -> Result<u32, StepFault>
+    pub fn compare_swap(
+        &mut self,
+        a: Addr,
+        expected: u32,
+        new: u32,
+        event: &mut Event,
+    ) -> Result<u32, StepFault>
         ensures gives { (made t : ℕ)
             → serve made t (AskCompareSwap a.0 expected new) (common self.old)
             ≡ with_common result event.new (common self.new) }

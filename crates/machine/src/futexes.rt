@@ -17,7 +17,13 @@ const AGAIN: u32 = u32::MAX;
 
 impl Common {
     /// Puts thread `t` to sleep on an address where the word is `expected`; the answer is 0, or 1 where it isn't.
-    pub fn wait(&mut self, t: u32, a: Addr, expected: u32, event: &mut Event) -> Result<u32, StepFault>
+    pub fn wait(
+        &mut self,
+        t: u32,
+        a: Addr,
+        expected: u32,
+        event: &mut Event,
+    ) -> Result<u32, StepFault>
         requires thread { IsThread t }
         requires awake { place_of self.old.sleepers t ≡ None }
         ensures gives { (made : ℕ)

@@ -101,7 +101,14 @@ pub fn step_parts(
             Ok(())
         }
         NextStep::Shared(request) => {
-            take_request(image, shared, t, &mut threads[t as usize - 1], request, event)
+            take_request(
+                image,
+                shared,
+                t,
+                &mut threads[t as usize - 1],
+                request,
+                event,
+            )
         }
         NextStep::Fork {
             entry: _,
