@@ -19,7 +19,7 @@ ghost use Rattle.runner.specs.Views.{log_state};
 
 use crate::entering::{enter, enter_kill, enter_outside, make_room};
 use crate::fault::RunFault;
-use crate::in_place::{taken_entry, take_entry, take_if_free};
+use crate::in_place::{take_entry, take_if_free, taken_entry};
 use crate::naming::RunName;
 use crate::next::{After, Next};
 use crate::piece::Piece;
