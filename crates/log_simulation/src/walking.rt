@@ -115,27 +115,27 @@ fn go_own(
 }
 
 // Wakes thread `t` from outside; false where that isn't this event.
-fn take_stray(machine: &mut PieceMachine, t: u32, event: &Event, taken: &mut Event) -> bool
+fn take_stray(machine: &mut PieceMachine, t: u32, event: &Event, stray: &mut Event) -> bool
     ensures gives { MatchBool result
         (stray_piece (parts machine.old) t ≡ Ok (parts machine.new, event.now))
         ((k : PieceConcrete) → stray_piece (parts machine.old) t ≡ Ok (k, event.now) → ⊥) }
     ensures program { machine.new.view.program ≡ machine.old.view.program }
 {
-    match machine.stray(t, taken) {
-        Ok(()) => *taken == *event,
+    match machine.stray(t, stray) {
+        Ok(()) => *stray == *event,
         Err(_) => false,
     }
 }
 
 // Kills thread `t`; false where that isn't this event.
-fn take_kill(machine: &mut PieceMachine, t: u32, event: &Event, taken: &mut Event) -> bool
+fn take_kill(machine: &mut PieceMachine, t: u32, event: &Event, kill: &mut Event) -> bool
     ensures gives { MatchBool result
         (kill_piece machine.old.view.program (parts machine.old) t ≡ Ok (parts machine.new, event.now))
         ((k : PieceConcrete) → kill_piece machine.old.view.program (parts machine.old) t ≡ Ok (k, event.now) → ⊥) }
     ensures program { machine.new.view.program ≡ machine.old.view.program }
 {
-    match machine.kill(t, taken) {
-        Ok(()) => *taken == *event,
+    match machine.kill(t, kill) {
+        Ok(()) => *kill == *event,
         Err(_) => false,
     }
 }
