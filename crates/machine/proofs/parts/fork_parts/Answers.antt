@@ -6,6 +6,13 @@ use Rattle.machine.proofs.Steps.{hand_on}
 use Rattle.machine.proofs.Whole.{stands_at, stepped}
 use Rattle.machine.proofs.parts.fork_parts.Goals as goal
 
+pub take_fork-requires-clause-asks : goal.take_fork-requires-clause-asks
+take_fork-requires-clause-asks c =
+    let within : c.args.t ≤ length c.args.threads.now.items = search rules in
+    let x = c.index_mut-local.result.now in
+    c.requires.asks x (stands_at c.args.threads.now.items c.args.t x x c.requires.thread.0 within
+    c.index_mut-local.ensures.value)
+
 pub returns-in_err-child-clause-err : goal.returns-in_err-child-clause-err
 returns-in_err-child-clause-err c =
     let counted : c.len-made.result ≡ length c.args.threads.now.items = search rules in
