@@ -32,22 +32,22 @@ fn is_before_local(machine: &Machine, t: u32) -> bool
     machine.is_before_local(t, machine.local(t))
 }
 
-// Takes the shared step of thread `t`; false where it isn't this event.
-fn take_shared(machine: &mut PieceMachine, t: u32, event: Event) -> bool
+// Takes the shared step of thread `t`, whose event is put in its place; false where it isn't this event.
+fn take_shared(machine: &mut PieceMachine, t: u32, event: &Event, taken: &mut Event) -> bool
     requires thread { (0 < t) × (t ≤ length machine.old.view.threads) }
     requires room { 1 ≤ machine.old.view.room }
     ensures ends { (here : Thread) → thread_of (parts machine.old).concrete t ≡ Some here
         → MatchBool result
-        (Ends machine.old.view.program (parts machine.old) t here (Some event) (parts machine.new))
-        ((k : PieceConcrete) → Ends machine.old.view.program (parts machine.old) t here (Some event) k
+        (Ends machine.old.view.program (parts machine.old) t here (Some event.now) (parts machine.new))
+        ((k : PieceConcrete) → Ends machine.old.view.program (parts machine.old) t here (Some event.now) k
         → ⊥) }
     ensures program { machine.new.view.program ≡ machine.old.view.program }
 {
     if is_before_local(machine.machine(), t) {
         return false;
     }
-    match machine.step(t) {
-        Ok(taken) => taken == event,
+    match machine.step(t, taken) {
+        Ok(()) => *taken == *event,
         Err(_) => false,
     }
 }
@@ -74,13 +74,14 @@ fn copy_mover(machine: &PieceMachine, t: u32, here: &mut Local) -> bool
     true
 }
 
-// Takes an entry of a thread's own, and records it; false where the machine can't take it. What `here` holds is lost.
+// Takes an entry of a thread's own, and records it; false where the machine can't take it. What `here` and `taken` hold is lost.
 fn go_own(
     image: &Image,
     machine: &mut PieceMachine,
     recorder: &mut Recorder,
     here: &mut Local,
     entry: &Entry,
+    taken: &mut Event,
 ) -> Result<bool, AllocError>
     requires program { machine.old.view.program ≡ image.now }
     ensures enters { IfOk result (λ b. MatchBool b
@@ -102,7 +103,7 @@ fn go_own(
     };
     let step = here.next_step(image, t);
     let visible = recorder.is_visible(image, machine.machine(), t, step, event.value);
-    if !take_shared(machine, t, event) {
+    if !take_shared(machine, t, &event, taken) {
         return Ok(false);
     }
     if is_piece(event.name) {
@@ -114,27 +115,27 @@ fn go_own(
 }
 
 // Wakes thread `t` from outside; false where that isn't this event.
-fn take_stray(machine: &mut PieceMachine, t: u32, event: Event) -> bool
+fn take_stray(machine: &mut PieceMachine, t: u32, event: &Event, stray: &mut Event) -> bool
     ensures gives { MatchBool result
-        (stray_piece (parts machine.old) t ≡ Ok (parts machine.new, event))
-        ((k : PieceConcrete) → stray_piece (parts machine.old) t ≡ Ok (k, event) → ⊥) }
+        (stray_piece (parts machine.old) t ≡ Ok (parts machine.new, event.now))
+        ((k : PieceConcrete) → stray_piece (parts machine.old) t ≡ Ok (k, event.now) → ⊥) }
     ensures program { machine.new.view.program ≡ machine.old.view.program }
 {
-    match machine.stray(t) {
-        Ok(stray) => stray == event,
+    match machine.stray(t, stray) {
+        Ok(()) => *stray == *event,
         Err(_) => false,
     }
 }
 
 // Kills thread `t`; false where that isn't this event.
-fn take_kill(machine: &mut PieceMachine, t: u32, event: Event) -> bool
+fn take_kill(machine: &mut PieceMachine, t: u32, event: &Event, kill: &mut Event) -> bool
     ensures gives { MatchBool result
-        (kill_piece machine.old.view.program (parts machine.old) t ≡ Ok (parts machine.new, event))
-        ((k : PieceConcrete) → kill_piece machine.old.view.program (parts machine.old) t ≡ Ok (k, event) → ⊥) }
+        (kill_piece machine.old.view.program (parts machine.old) t ≡ Ok (parts machine.new, event.now))
+        ((k : PieceConcrete) → kill_piece machine.old.view.program (parts machine.old) t ≡ Ok (k, event.now) → ⊥) }
     ensures program { machine.new.view.program ≡ machine.old.view.program }
 {
-    match machine.kill(t) {
-        Ok(kill) => kill == event,
+    match machine.kill(t, kill) {
+        Ok(()) => *kill == *event,
         Err(_) => false,
     }
 }
@@ -144,17 +145,18 @@ fn go_stray(
     machine: &mut PieceMachine,
     recorder: &mut Recorder,
     t: u32,
-    event: Event,
+    event: &Event,
+    taken: &mut Event,
 ) -> Result<bool, AllocError>
     ensures gives { IfOk result (λ b. MatchBool b
-        (stray_piece (parts machine.old) t ≡ Ok (parts machine.new, event))
-        ((k : PieceConcrete) → stray_piece (parts machine.old) t ≡ Ok (k, event) → ⊥)) }
+        (stray_piece (parts machine.old) t ≡ Ok (parts machine.new, event.now))
+        ((k : PieceConcrete) → stray_piece (parts machine.old) t ≡ Ok (k, event.now) → ⊥)) }
     ensures told { IfOk result (λ b. b ≡ true → (p : Program) → machine.old.view.program ≡ code_of p
-        → IsAlongStep p (parts machine.old) recorder.old t event (parts machine.new)
+        → IsAlongStep p (parts machine.old) recorder.old t event.now (parts machine.new)
         recorder.new) }
     ensures program { OnOk result (machine.new.view.program ≡ machine.old.view.program) }
 {
-    if !take_stray(machine, t, event) {
+    if !take_stray(machine, t, event, taken) {
         return Ok(false);
     }
     recorder.take_stray(t, event.value)?;
@@ -166,18 +168,19 @@ fn go_kill(
     machine: &mut PieceMachine,
     recorder: &mut Recorder,
     t: u32,
-    event: Event,
+    event: &Event,
+    taken: &mut Event,
 ) -> Result<bool, AllocError>
     ensures gives { IfOk result (λ b. MatchBool b
-        (kill_piece machine.old.view.program (parts machine.old) t ≡ Ok (parts machine.new, event))
-        ((k : PieceConcrete) → kill_piece machine.old.view.program (parts machine.old) t ≡ Ok (k, event) → ⊥)) }
+        (kill_piece machine.old.view.program (parts machine.old) t ≡ Ok (parts machine.new, event.now))
+        ((k : PieceConcrete) → kill_piece machine.old.view.program (parts machine.old) t ≡ Ok (k, event.now) → ⊥)) }
     ensures told { IfOk result (λ b. b ≡ true → (p : Program) → machine.old.view.program ≡ code_of p
-        → IsAlongStep p (parts machine.old) recorder.old t event (parts machine.new)
+        → IsAlongStep p (parts machine.old) recorder.old t event.now (parts machine.new)
         recorder.new) }
     ensures program { OnOk result (machine.new.view.program ≡ machine.old.view.program) }
 {
     let last = recorder.killed_last(machine.machine(), t);
-    if !take_kill(machine, t, event) {
+    if !take_kill(machine, t, event, taken) {
         return Ok(false);
     }
     if event.value == 1 {
@@ -203,6 +206,7 @@ fn go_outside(
     machine: &mut PieceMachine,
     recorder: &mut Recorder,
     entry: &Entry,
+    taken: &mut Event,
 ) -> Result<bool, AllocError>
     ensures enters { IfOk result (λ b. MatchBool b
         (EntersOutside machine.old.view.program (parts machine.old) entry.now (parts machine.new))
@@ -219,18 +223,19 @@ fn go_outside(
         return Ok(false);
     }
     match event.name {
-        EventName::Kill => go_kill(machine, recorder, entry.thread, event),
-        _ => go_stray(machine, recorder, entry.thread, event),
+        EventName::Kill => go_kill(machine, recorder, entry.thread, &event, taken),
+        _ => go_stray(machine, recorder, entry.thread, &event, taken),
     }
 }
 
-// Takes an entry, and records it; false where the machine can't take it. What `here` holds is lost.
+// Takes an entry, and records it; false where the machine can't take it. What `here` and `taken` hold is lost.
 fn go_through(
     image: &Image,
     machine: &mut PieceMachine,
     recorder: &mut Recorder,
     here: &mut Local,
     entry: &Entry,
+    taken: &mut Event,
 ) -> Result<bool, AllocError>
     requires program { machine.old.view.program ≡ image.now }
     ensures enters { IfOk result (λ b. MatchBool b
@@ -242,9 +247,9 @@ fn go_through(
     ensures program { OnOk result (machine.new.view.program ≡ image.now) }
 {
     if is_outside(entry) {
-        return go_outside(machine, recorder, entry);
+        return go_outside(machine, recorder, entry, taken);
     }
-    go_own(image, machine, recorder, here, entry)
+    go_own(image, machine, recorder, here, entry, taken)
 }
 
 /// What a walk over a log came to.
@@ -277,10 +282,11 @@ pub fn walk(
     log_is_counted(&log);
     let mut machine = PieceMachine::new(alloc, image, BUCKETS)?;
     let mut here = Local::exiting(ExitPhase::Ended);
+    let mut taken = Event::new(EventName::Local, 0);
     let mut number: u64 = 0;
     for entry in log {
         number += 1;
-        if !go_through(image, &mut machine, recorder, &mut here, &entry)? {
+        if !go_through(image, &mut machine, recorder, &mut here, &entry, &mut taken)? {
             return Ok(Walked::StopsAt(number));
         }
         if !recorder.is_whole() {

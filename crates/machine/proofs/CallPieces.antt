@@ -30,7 +30,7 @@ use Rattle.machine.specs.ConcretePieces.{pieces_of, woken_in, moved_in, call_nam
 use Rattle.machine.specs.declared.call_step.CallStep.TheVariants as step
 use Rattle.machine.specs.declared.call_step.CallProgress.{CallProgress}
 use Rattle.machine.specs.declared.call_step.CallProgress.TheVariants as common
-use Rattle.machine.specs.declared.served.Served.{Served}
+use Rattle.machine.specs.declared.event.Event.{Event}
 use Rattle.machine.specs.ConcreteServing.{event_of}
 use Rattle.machine.specs.ThreadSets.{IsThread}
 use Rattle.machine.specs.Views.{View, concrete, IsWellFormed}
@@ -282,25 +282,25 @@ long_behind v t call go Blocked = refl
 long_behind v t call go (Done answer) = length-set v.threads (t - 1) (go (answer_of call answer))
 
 -- what those who share the memory are told
-pub next_told : (call : FutexCall) (progress : FutexProgress) (phase : FutexPhase)
-    → Tells call progress (common.Next phase) → progress ≡ Next phase
-next_told call (Next p) phase h = ap Next h
-next_told call Blocked phase h = absurd h
-next_told call (Done answer) phase h = absurd h
+pub next_told : (call : FutexCall) (progress : FutexProgress) (phase : FutexPhase) (event : Event)
+    → Tells call progress (common.Next phase) event → progress ≡ Next phase
+next_told call (Next p) phase event h = ap Next h
+next_told call Blocked phase event h = absurd h
+next_told call (Done answer) phase event h = absurd h
 
-pub blocked_told : (call : FutexCall) (progress : FutexProgress) → Tells call progress common.Blocked
-    → progress ≡ Blocked
-blocked_told call (Next p) h = absurd h
-blocked_told call Blocked h = refl
-blocked_told call (Done answer) h = absurd h
+pub blocked_told : (call : FutexCall) (progress : FutexProgress) (event : Event)
+    → Tells call progress common.Blocked event → progress ≡ Blocked
+blocked_told call (Next p) event h = absurd h
+blocked_told call Blocked event h = refl
+blocked_told call (Done answer) event h = absurd h
 
-pub done_told : (call : FutexCall) (progress : FutexProgress) (served : Served)
-    → Tells call progress (common.Done served)
-    → (answer : FutexAnswer) × (progress ≡ Done answer) × (served.answer ≡ answer_of call answer)
-    × (served.event ≡ event_of (call_name call) (answer_of call answer) (woken_in answer) (moved_in answer))
-done_told call (Next p) served h = absurd h
-done_told call Blocked served h = absurd h
-done_told call (Done answer) served h = (answer, refl, h.0, h.1)
+pub done_told : (call : FutexCall) (progress : FutexProgress) (value : ℕ) (event : Event)
+    → Tells call progress (common.Done value) event
+    → (answer : FutexAnswer) × (progress ≡ Done answer) × (value ≡ answer_of call answer)
+    × (event ≡ event_of (call_name call) (answer_of call answer) (woken_in answer) (moved_in answer))
+done_told call (Next p) value event h = absurd h
+done_told call Blocked value event h = absurd h
+done_told call (Done answer) value event h = (answer, refl, h.0, h.1)
 
 none_threads : All IsThread []
 none_threads k d l = absurd (omega arith)
@@ -354,10 +354,10 @@ blocked_same t word (Requeue a b wakes moves expected) Compare s s' h = absurd h
 blocked_same t word call Act s s' h = absurd h
 
 -- what those who share the memory were told of a piece
-abbrev pub Told : View → ℕ → FutexCall → FutexPhase → CallProgress → View → Type 0
-Told v t call phase r v' =
+abbrev pub Told : View → ℕ → FutexCall → FutexPhase → CallProgress → Event → View → Type 0
+Told v t call phase r event v' =
     (progress : FutexProgress) × PieceSo (word_of v.words) t call phase v.sleepers progress v'.sleepers
-    × Tells call progress r
+    × Tells call progress r event
 
 one_thread : (x y : Thread) → Some x ≡ Some y → x ≡ y
 one_thread x y h = cc
@@ -367,34 +367,36 @@ asks_of : (v : View) (t : ℕ) (call : FutexCall) (x : Thread) (m : MakesCall v 
 asks_of v t call x m stands = ap (look v.program t) (one_thread x m.thread (sym stands ∙ m.stands)) ∙ m.asks
 
 -- the call goes on to another piece
-pub next_so : (v v' : View) (t : ℕ) (call : FutexCall) (phase next : FutexPhase) → MakesCall v t call
-    → LiesIn (length v.words) call → Keeps v v' → v'.threads ≡ v.threads
-    → Told v t call phase (common.Next next) v' → (phases : ℕ → FutexPhase) (x : Thread) → phases t ≡ phase
-    → thread_of (concrete v) t ≡ Some x → DoesPiece v phases t call x (step.Next next) v'
-next_so v v' t call phase next m lies k threads h phases x at stands =
+pub next_so : (v v' : View) (t : ℕ) (call : FutexCall) (phase next : FutexPhase) (event : Event)
+    → MakesCall v t call → LiesIn (length v.words) call → Keeps v v' → v'.threads ≡ v.threads
+    → Told v t call phase (common.Next next) event v' → (phases : ℕ → FutexPhase) (x : Thread) → phases t ≡ phase
+    → thread_of (concrete v) t ≡ Some x → DoesPiece v phases t call x (step.Next next) event v'
+next_so v v' t call phase next event m lies k threads h phases x at stands =
     does_piece v v' phases t call phase x m.go (Next next) k stands (asks_of v t call x m stands) lies at threads
     (λ e. absurd cc)
     (subst (λ (q : FutexProgress). PieceSo (word_of v.words) t call phase v.sleepers q v'.sleepers)
-    (next_told call h.0 next h.2) h.1)
+    (next_told call h.0 next event h.2) h.1)
 
 -- a held bucket is in its way
-pub blocked_so : (v v' : View) (t : ℕ) (call : FutexCall) (phase : FutexPhase) → MakesCall v t call
+pub blocked_so : (v v' : View) (t : ℕ) (call : FutexCall) (phase : FutexPhase) (event : Event) → MakesCall v t call
     → LiesIn (length v.words) call → Keeps v v' → v'.threads ≡ v.threads → v'.program ≡ v.program
-    → (v'.sleepers ≡ v.sleepers → v' ≡ v) → Told v t call phase common.Blocked v' → (phases : ℕ → FutexPhase)
-    (x : Thread) → phases t ≡ phase → thread_of (concrete v) t ≡ Some x → DoesPiece v phases t call x step.Blocked v'
-blocked_so v v' t call phase m lies k threads program same h phases x at stands =
+    → (v'.sleepers ≡ v.sleepers → v' ≡ v) → Told v t call phase common.Blocked event v' → (phases : ℕ → FutexPhase)
+    (x : Thread) → phases t ≡ phase → thread_of (concrete v) t ≡ Some x
+    → DoesPiece v phases t call x step.Blocked event v'
+blocked_so v v' t call phase event m lies k threads program same h phases x at stands =
     let piece = subst (λ (q : FutexProgress). PieceSo (word_of v.words) t call phase v.sleepers q v'.sleepers)
-    (blocked_told call h.0 h.2) h.1 in
+    (blocked_told call h.0 event h.2) h.1 in
     does_piece v v' phases t call phase x m.go Blocked k stands (asks_of v t call x m stands) lies at threads
     (λ e. same (blocked_same t (word_of v.words) call phase v.sleepers v'.sleepers piece)) piece
 
 -- the call is over
-pub done_so : (v v' : View) (t : ℕ) (call : FutexCall) (phase : FutexPhase) (served : Served) (m : MakesCall v t call)
-    → LiesIn (length v.words) call → Keeps v v' → v'.threads ≡ slice_set v.threads (t - 1) (m.go served.answer)
-    → Told v t call phase (common.Done served) v' → (phases : ℕ → FutexPhase) (x : Thread) → phases t ≡ phase
-    → thread_of (concrete v) t ≡ Some x → DoesPiece v phases t call x (step.Done served.event) v'
-done_so v v' t call phase served m lies k threads h phases x at stands =
-    let d = done_told call h.0 served h.2 in
+pub done_so : (v v' : View) (t : ℕ) (call : FutexCall) (phase : FutexPhase) (answer : ℕ) (event : Event)
+    (m : MakesCall v t call) → LiesIn (length v.words) call → Keeps v v'
+    → v'.threads ≡ slice_set v.threads (t - 1) (m.go answer)
+    → Told v t call phase (common.Done answer) event v' → (phases : ℕ → FutexPhase) (x : Thread) → phases t ≡ phase
+    → thread_of (concrete v) t ≡ Some x → DoesPiece v phases t call x step.Done event v'
+done_so v v' t call phase answer event m lies k threads h phases x at stands =
+    let d = done_told call h.0 answer event h.2 in
     let piece = subst (λ (q : FutexProgress). PieceSo (word_of v.words) t call phase v.sleepers q v'.sleepers)
     d.1 h.1 in (
       woken_in d.0,
@@ -406,10 +408,11 @@ done_so v v' t call phase served m lies k threads h phases x at stands =
     )
 
 -- what always holds is kept by each piece
-pub well_so : (v v' : View) (t : ℕ) (call : FutexCall) (phase : FutexPhase) (r : CallProgress) → MakesCall v t call
-    → IsWellFormed v.program (concrete v) → Keeps v v' → length v'.threads ≡ length v.threads → IsSound v'.sleepers
-    → Told v t call phase r v' → IsWellFormed v.program (concrete v')
-well_so v v' t call phase r m concrete' k long sound h =
+pub well_so : (v v' : View) (t : ℕ) (call : FutexCall) (phase : FutexPhase) (r : CallProgress) (event : Event)
+    → MakesCall v t call → IsWellFormed v.program (concrete v) → Keeps v v'
+    → length v'.threads ≡ length v.threads → IsSound v'.sleepers → Told v t call phase r event v'
+    → IsWellFormed v.program (concrete v')
+well_so v v' t call phase r event m concrete' k long sound h =
     let place = has_place v.program (concrete v) t m.thread concrete' m.stands in
     piece_well v.program v v' t concrete' k long place.some place.few sound
     (piece_sleep t (word_of v.words) call phase v.sleepers v'.sleepers h.0 h.1)

@@ -18,7 +18,6 @@ use Rattle.machine.specs.ConcretePieces.{QueuesSo, call_name, woken_in, moved_in
 use Rattle.machine.specs.ConcreteServing.{event_of}
 use Rattle.machine.specs.declared.call_step.CallStep.TheVariants as step
 use Rattle.machine.specs.declared.call_step.CallProgress.TheVariants as common
-use Rattle.machine.specs.declared.served.Served.{Served}
 use Rattle.machine.specs.Views.{View}
 use Rattle.machine.proofs.CallPieces.{Told, next_told, blocked_told, done_told}
 
@@ -27,8 +26,8 @@ abbrev OrderBy : Sleepers → ℕ → FutexCall → FutexPhase → FutexProgress
 OrderBy s t call phase (Next next) s' = (next ≢ First) × (queue s' ≡ queue s)
 OrderBy s t call phase Blocked s' = queue s' ≡ queue s
 OrderBy s t call phase (Done answer) s' =
-    QueuesSo s t call phase
-    (step.Done (event_of (call_name call) (answer_of call answer) (woken_in answer) (moved_in answer))) s'
+    QueuesSo s t call phase step.Done
+    (event_of (call_name call) (answer_of call answer) (woken_in answer) (moved_in answer)) s'
 
 -- behind a bucket the call goes on
 goes_on : (n : ℕ) (call : FutexCall) → (after_lock n First call ≢ First) × (after_lock n Second call ≢ First)
@@ -79,24 +78,27 @@ piece_order s s' t word (Requeue a b wakes moves expected) Compare progress h =
     compares_order s s' t word (Requeue a b wakes moves expected) a.0 expected progress h
 piece_order s s' t word call Act progress h = acts_order s s' t call progress h
 
-pub next_order : (v v' : View) (t : ℕ) (call : FutexCall) (phase next : FutexPhase)
-    → Told v t call phase (common.Next next) v' → QueuesSo v.sleepers t call phase (step.Next next) v'.sleepers
-next_order v v' t call phase next h =
+pub next_order : (v v' : View) (t : ℕ) (call : FutexCall) (phase next : FutexPhase) (event : Event)
+    → Told v t call phase (common.Next next) event v'
+    → QueuesSo v.sleepers t call phase (step.Next next) event v'.sleepers
+next_order v v' t call phase next event h =
     piece_order v.sleepers v'.sleepers t (word_of v.words) call phase (Next next)
     (subst (λ (q : FutexProgress). PieceSo (word_of v.words) t call phase v.sleepers q v'.sleepers)
-    (next_told call h.0 next h.2) h.1)
+    (next_told call h.0 next event h.2) h.1)
 
-pub blocked_order : (v v' : View) (t : ℕ) (call : FutexCall) (phase : FutexPhase)
-    → Told v t call phase common.Blocked v' → QueuesSo v.sleepers t call phase step.Blocked v'.sleepers
-blocked_order v v' t call phase h =
+pub blocked_order : (v v' : View) (t : ℕ) (call : FutexCall) (phase : FutexPhase) (event : Event)
+    → Told v t call phase common.Blocked event v'
+    → QueuesSo v.sleepers t call phase step.Blocked event v'.sleepers
+blocked_order v v' t call phase event h =
     piece_order v.sleepers v'.sleepers t (word_of v.words) call phase Blocked
     (subst (λ (q : FutexProgress). PieceSo (word_of v.words) t call phase v.sleepers q v'.sleepers)
-    (blocked_told call h.0 h.2) h.1)
+    (blocked_told call h.0 event h.2) h.1)
 
-pub done_order : (v v' : View) (t : ℕ) (call : FutexCall) (phase : FutexPhase) (served : Served)
-    → Told v t call phase (common.Done served) v' → QueuesSo v.sleepers t call phase (step.Done served.event) v'.sleepers
-done_order v v' t call phase served h =
-    let d = done_told call h.0 served h.2 in
-    subst (λ (e : Event). QueuesSo v.sleepers t call phase (step.Done e) v'.sleepers) (sym d.3)
+pub done_order : (v v' : View) (t : ℕ) (call : FutexCall) (phase : FutexPhase) (answer : ℕ) (event : Event)
+    → Told v t call phase (common.Done answer) event v'
+    → QueuesSo v.sleepers t call phase step.Done event v'.sleepers
+done_order v v' t call phase answer event h =
+    let d = done_told call h.0 answer event h.2 in
+    subst (λ (e : Event). QueuesSo v.sleepers t call phase step.Done e v'.sleepers) (sym d.3)
     (piece_order v.sleepers v'.sleepers t (word_of v.words) call phase (Done d.0)
     (subst (λ (q : FutexProgress). PieceSo (word_of v.words) t call phase v.sleepers q v'.sleepers) d.1 h.1))

@@ -16,8 +16,8 @@ use Rattle.locals.specs.Looks.{Request, AskLoad, AskStore, AskSwap, AskCompareSw
 use Rattle.locals.specs.Looks.{AskWait, AskWake, AskRequeue, AskReturn, AskReturnValue, AskFault, Look, Goes}
 use Rattle.locals.specs.Looks.{Asks, Leaves, Breaks, Rests, look}
 use Rattle.locals.specs.Requests.{request_step, next_step_of, after_answer, fork_child, CanBeAnswered, Answers}
-use Rattle.machine.specs.declared.served.Served.{Served as Given}
 use Rattle.machine.specs.declared.event.EventName.TheVariants as name
+use Rattle.machine.specs.declared.event.Event.{Event}
 use Rattle.machine.specs.declared.event.StepFault.{StepFault}
 use Rattle.machine.specs.declared.event.StepFault.TheVariants.{CannotMove, Broken}
 use Rattle.machine.specs.States.{Common}
@@ -120,28 +120,28 @@ no_rest (AskReturnValue v) h = cc
 no_rest (AskFault cause) h = cc
 
 -- a request that was served
-pub shared_so : (made t : ℕ) (c c' : Common) (l : Look) (x : Thread) (request : Told) (g : Given)
-    → next_step_of l ≡ next.Shared request
-    → ((m : ℕ) → serve m t (asked_of request) c ≡ with_common (Ok g) c')
+pub shared_so : (made t : ℕ) (c c' : Common) (l : Look) (x : Thread) (request : Told) (answer : ℕ)
+    (event : Event) → next_step_of l ≡ next.Shared request
+    → ((m : ℕ) → serve m t (asked_of request) c ≡ with_common (Ok answer) event c')
     → thread_step made t c l ≡ Ok
-    (record { common = c'; thread = after_answer l g.answer x; child = None; event = g.event })
-shared_so made t c c' (Goes y) x request g is gives = absurd cc
-shared_so made t c c' (Asks r go) x request g is gives =
+    (record { common = c'; thread = after_answer l answer x; child = None; event = event })
+shared_so made t c c' (Goes y) x request answer event is gives = absurd cc
+shared_so made t c c' (Asks r go) x request answer event is gives =
     ap (λ q. go_on_with go (serve made t q c)) (sym (asked_back r request is)) ∙ ap (go_on_with go) (gives made)
-shared_so made t c c' (Leaves phase) x request g is gives = absurd cc
-shared_so made t c c' Breaks x request g is gives = absurd cc
-shared_so made t c c' Rests x request g is gives = absurd cc
+shared_so made t c c' (Leaves phase) x request answer event is gives = absurd cc
+shared_so made t c c' Breaks x request answer event is gives = absurd cc
+shared_so made t c c' Rests x request answer event is gives = absurd cc
 
 -- and one that was refused
-pub shared_err : (made t : ℕ) (c c' : Common) (l : Look) (request : Told) (f : StepFault)
+pub shared_err : (made t : ℕ) (c c' : Common) (l : Look) (request : Told) (f : StepFault) (event : Event)
     → next_step_of l ≡ next.Shared request
-    → ((m : ℕ) → serve m t (asked_of request) c ≡ with_common (Err f) c') → thread_step made t c l ≡ Err f
-shared_err made t c c' (Goes y) request f is gives = absurd cc
-shared_err made t c c' (Asks r go) request f is gives =
+    → ((m : ℕ) → serve m t (asked_of request) c ≡ with_common (Err f) event c') → thread_step made t c l ≡ Err f
+shared_err made t c c' (Goes y) request f event is gives = absurd cc
+shared_err made t c c' (Asks r go) request f event is gives =
     ap (λ q. go_on_with go (serve made t q c)) (sym (asked_back r request is)) ∙ ap (go_on_with go) (gives made)
-shared_err made t c c' (Leaves phase) request f is gives = absurd cc
-shared_err made t c c' Breaks request f is gives = absurd cc
-shared_err made t c c' Rests request f is gives = absurd cc
+shared_err made t c c' (Leaves phase) request f event is gives = absurd cc
+shared_err made t c c' Breaks request f event is gives = absurd cc
+shared_err made t c c' Rests request f event is gives = absurd cc
 
 answers_none : (r : Request) (answer : ℕ) (request : Told) → request_step r ≡ next.Shared request → Answers answer r
 answers_none (AskFork entry arguments has_room) answer request is = absurd cc

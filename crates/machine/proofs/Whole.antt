@@ -2,7 +2,7 @@
 use Rattle.std.proofs.Common.{◌≡◌, ℕ, zero, suc, ◌-◌, ◌<◌, ◌≤◌, List, [], ◌∷◌}
 use Rattle.std.proofs.Common.{length, get_or, Some, None, Result, Ok, Err, slice_get, slice_set, replicate}
 use Rattle.std.proofs.Common.{refl, sym, ap, ◌∙◌, arith}
-use Rattle.std.specs.Prelude.{IfOk, OnErr}
+use Rattle.std.specs.Prelude.{OnOk, OnErr}
 use Rattle.std.proofs.Math.Path.{fun_ext}
 use Rattle.words.specs.declared.version.ImageVersion.TheVariants.{One}
 use Rattle.words.specs.Versions.{most_of}
@@ -49,10 +49,10 @@ stepped p k t made x r stands awake counted done =
     ap (step_thread p k t) stands ∙ ap (step_awake p k t x) awake
     ∙ ap (λ m. on_machine k t (thread_step m t k.common (look p t x))) (sym counted) ∙ ap (on_machine k t) done
 
-pub kept_after : (p : Program) (k k' : ConcreteState) (t : ℕ) (r : Result Event StepFault) → IsWellFormed p k
-    → IfOk r (λ e. step_of p k t ≡ Ok (k', e)) → OnErr r (k' ≡ k) → IsWellFormed p k'
-kept_after p k k' t (Ok e) concrete done same = (steps_so p k k' t e concrete done).3
-kept_after p k k' t (Err f) concrete done same = rw same concrete
+pub kept_after : {A : Type 0} (p : Program) (k k' : ConcreteState) (t : ℕ) (r : Result A StepFault) (e : Event)
+    → IsWellFormed p k → OnOk r (step_of p k t ≡ Ok (k', e)) → OnErr r (k' ≡ k) → IsWellFormed p k'
+kept_after p k k' t (Ok u) e concrete done same = (steps_so p k k' t e concrete done).3
+kept_after p k k' t (Err f) e concrete done same = rw same concrete
 
 -- the parts of a machine at the start of a program
 pub opened : (p : Program) (words : List ℕ) (s : Sleepers) (threads : List Thread)

@@ -21,6 +21,7 @@ use Rattle.machine.specs.declared.call_step.CallStep.{CallStep}
 use Rattle.machine.specs.declared.call_step.CallStep.TheVariants.{Next, Blocked, Done}
 use Rattle.machine.specs.declared.call_step.CallProgress.{CallProgress}
 use Rattle.machine.specs.declared.call_step.CallProgress.TheVariants as common
+use Rattle.machine.specs.declared.event.Event.{Event}
 use Rattle.machine.specs.declared.event.EventName.{EventName}
 use Rattle.machine.specs.declared.event.EventName.TheVariants as name
 use Rattle.machine.specs.ConcreteServing.{event_of}
@@ -66,22 +67,22 @@ abbrev pub moved_in : FutexAnswer → List ℕ
 moved_in Again = []
 moved_in (Acted r) = r.moved
 
--- what came of a piece, as those who share the memory are told it
-abbrev pub Tells : FutexCall → FutexProgress → CallProgress → Type 0
-Tells call (told.Next phase) (common.Next phase') = phase ≡ phase'
-Tells call told.Blocked common.Blocked = Unit {0}
-Tells call (told.Done answer) (common.Done served) =
-    (served.answer ≡ answer_of call answer)
-    × (served.event ≡ event_of (call_name call) (answer_of call answer) (woken_in answer) (moved_in answer))
-Tells call progress result = ⊥
+-- what came of a piece, as those who share the memory are told it, with the event of a call that is over
+abbrev pub Tells : FutexCall → FutexProgress → CallProgress → Event → Type 0
+Tells call (told.Next phase) (common.Next phase') event = phase ≡ phase'
+Tells call told.Blocked common.Blocked event = Unit {0}
+Tells call (told.Done answer) (common.Done value) event =
+    (value ≡ answer_of call answer)
+    × (event ≡ event_of (call_name call) (answer_of call answer) (woken_in answer) (moved_in answer))
+Tells call progress result event = ⊥
 
--- a piece of thread t's call is one step of the machine with pieces; or a held bucket is in its way, and nothing has
--- changed
-abbrev pub DoesPiece : View → (ℕ → FutexPhase) → ℕ → FutexCall → Thread → CallStep → View → Type 0
-DoesPiece v phases t call x (Next phase) v' =
+-- a piece of thread t's call is one step of the machine with pieces, with this event where the call is over; or a held
+-- bucket is in its way, and nothing has changed
+abbrev pub DoesPiece : View → (ℕ → FutexPhase) → ℕ → FutexCall → Thread → CallStep → Event → View → Type 0
+DoesPiece v phases t call x (Next phase) event v' =
     Piece v.program (pieces_of v phases) t x [] (pieces_of v' (put phases t phase))
-DoesPiece v phases t call x Blocked v' = BlocksCall (pieces_of v phases) t (Some call) × (v' ≡ v)
-DoesPiece v phases t call x (Done event) v' =
+DoesPiece v phases t call x Blocked event v' = BlocksCall (pieces_of v phases) t (Some call) × (v' ≡ v)
+DoesPiece v phases t call x Done event v' =
     (woken : List ℕ) × (moved : List ℕ) × (answer : ℕ) × (event ≡ event_of (call_name call) answer woken moved)
     × Piece v.program (pieces_of v phases) t x woken (pieces_of v' (put phases t First))
 
@@ -93,14 +94,14 @@ IsHeldUp words sleepers t phase =
 
 -- the lists of sleepers behind a piece of a call: as before, or behind its act by their fronts, which its event tells;
 -- and a call that goes on has its first piece behind it
-abbrev pub QueuesSo : Sleepers → ℕ → FutexCall → FutexPhase → CallStep → Sleepers → Type 0
-QueuesSo s t call phase (Next next) s' = (next ≢ First) × (queue s' ≡ queue s)
-QueuesSo s t call phase Blocked s' = queue s' ≡ queue s
-QueuesSo s t call First (Done event) s' = ⊥
-QueuesSo s t call Second (Done event) s' = ⊥
-QueuesSo s t call Compare (Done event) s' =
+abbrev pub QueuesSo : Sleepers → ℕ → FutexCall → FutexPhase → CallStep → Event → Sleepers → Type 0
+QueuesSo s t call phase (Next next) event s' = (next ≢ First) × (queue s' ≡ queue s)
+QueuesSo s t call phase Blocked event s' = queue s' ≡ queue s
+QueuesSo s t call First Done event s' = ⊥
+QueuesSo s t call Second Done event s' = ⊥
+QueuesSo s t call Compare Done event s' =
     (queue s' ≡ queue s) × (event ≡ event_of (call_name call) (again_of call) [] [])
-QueuesSo s t call Act (Done event) s' =
+QueuesSo s t call Act Done event s' =
     (queue s' ≡ queue_by t call (queue s))
     × (event ≡ event_of (call_name call)
     (length (woken_by call (queue s)) + length (moved_by call (queue s))) (woken_by call (queue s))

@@ -7,7 +7,7 @@ use Rattle.locals.specs.declared.request.Request.{Request as Told}
 use Rattle.locals.specs.declared.request.Request.TheVariants as told
 use Rattle.locals.specs.Looks.{Request, AskLoad, AskStore, AskSwap, AskCompareSwap, AskOr, AskAdd, AskFork, AskPrint}
 use Rattle.locals.specs.Looks.{AskWait, AskWake, AskRequeue, AskReturn, AskReturnValue, AskFault, Look, Asks}
-use Rattle.machine.specs.declared.served.Served.{Served as Given}
+use Rattle.machine.specs.declared.event.Event.{Event}
 use Rattle.machine.specs.declared.event.EventName.{EventName}
 use Rattle.machine.specs.declared.event.EventName.TheVariants as name
 use Rattle.machine.specs.declared.event.StepFault.{StepFault}
@@ -30,10 +30,10 @@ asked_of told.Return = AskReturn
 asked_of (told.ReturnValue v) = AskReturnValue v
 asked_of (told.Fault cause) = AskFault cause
 
--- what the code gave, with what is shared after it
-abbrev pub with_common : Result Given StepFault → Common → Result Served StepFault
-with_common (Ok g) c = Ok (record { answer = g.answer; common = c; child = None; event = g.event })
-with_common (Err fault) c = Err fault
+-- what the code answered, with the event that it put in its place and what is shared after it
+abbrev pub with_common : Result ℕ StepFault → Event → Common → Result Served StepFault
+with_common (Ok answer) event c = Ok (record { answer = answer; common = c; child = None; event = event })
+with_common (Err fault) event c = Err fault
 
 -- how a step of an exit is told, and the address that it names, or 0
 abbrev pub name_at : ExitPhase → EventName

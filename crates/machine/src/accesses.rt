@@ -1,91 +1,114 @@
 //! The accesses of threads to the words.
-ghost use Rattle.std.specs.Prelude.{◌≡◌, ◌<◌, ℕ, OnErr};
+ghost use Rattle.std.specs.Prelude.{◌≡◌, ◌≤◌, ◌<◌, ℕ, length, IfErr, OnOk, OnErr};
 ghost use Rattle.locals.specs.Looks.{AskLoad, AskStore, AskSwap, AskCompareSwap, AskOr, AskAdd};
 ghost use Rattle.machine.specs.ConcreteServing.{serve};
 ghost use Rattle.machine.specs.RequestMeanings.{with_common};
 ghost use Rattle.machine.specs.Views.{common};
 
 use crate::common::Common;
-use crate::event::{EventName, StepFault};
-use crate::served::{Served, check_address};
-use words::Addr;
+use crate::event::{Event, EventName, StepFault};
+use words::{Addr, Mem};
+
+/// A step may not be where its address lies outside the memory.
+pub fn check_address(words: &Mem, a: Addr) -> Result<(), StepFault>
+    ensures inside { OnOk result (a.0 < length words.now) }
+    ensures outside { IfErr result (λ f. (f ≡ StepFault.Broken) × (length words.now ≤ a.0)) }
+{
+    if (a.0 as usize) < words.len() {
+        Ok(())
+    } else {
+        Err(StepFault::Broken)
+    }
+}
 
 impl Common {
     /// Reads the word at an address.
-    pub fn load(&self, a: Addr) -> Result<Served, StepFault>
+    pub fn load(&self, a: Addr, event: &mut Event) -> Result<u32, StepFault>
         ensures gives { (made t : ℕ)
-            → serve made t (AskLoad a.0) (common self.now) ≡ with_common result (common self.now) }
+            → serve made t (AskLoad a.0) (common self.now) ≡ with_common result event.new (common self.now) }
     {
         check_address(&self.words, a)?;
         let word = self.words.load(a);
-        Ok(Served::quietly(word, EventName::Load, word))
+        event.put(EventName::Load, word);
+        Ok(word)
     }
 
     /// Puts a word at an address.
-    pub fn store(&mut self, a: Addr, v: u32) -> Result<Served, StepFault>
+    pub fn store(&mut self, a: Addr, v: u32, event: &mut Event) -> Result<u32, StepFault>
         ensures gives { (made t : ℕ)
             → serve made t (AskStore a.0 v) (common self.old)
-            ≡ with_common result (common self.new) }
+            ≡ with_common result event.new (common self.new) }
         ensures capacity { self.new.capacity ≡ self.old.capacity }
         ensures holders { self.new.sleepers.holders ≡ self.old.sleepers.holders }
         ensures same { OnErr result (self.new ≡ self.old) }
     {
         check_address(&self.words, a)?;
         self.words.store(a, v);
-        Ok(Served::quietly(0, EventName::Store, v))
+        event.put(EventName::Store, v);
+        Ok(0)
     }
 
     /// Puts a word at an address; the answer is the word before.
-    pub fn swap(&mut self, a: Addr, v: u32) -> Result<Served, StepFault>
+    pub fn swap(&mut self, a: Addr, v: u32, event: &mut Event) -> Result<u32, StepFault>
         ensures gives { (made t : ℕ)
             → serve made t (AskSwap a.0 v) (common self.old)
-            ≡ with_common result (common self.new) }
+            ≡ with_common result event.new (common self.new) }
         ensures capacity { self.new.capacity ≡ self.old.capacity }
         ensures holders { self.new.sleepers.holders ≡ self.old.sleepers.holders }
         ensures same { OnErr result (self.new ≡ self.old) }
     {
         check_address(&self.words, a)?;
         let before = self.words.swap(a, v);
-        Ok(Served::quietly(before, EventName::Swap, before))
+        event.put(EventName::Swap, before);
+        Ok(before)
     }
 
     /// Puts `new` at an address where the word is `expected`; the answer is the word before.
-    pub fn compare_swap(&mut self, a: Addr, expected: u32, new: u32) -> Result<Served, StepFault>
+    pub fn compare_swap(
+        &mut self,
+        a: Addr,
+        expected: u32,
+        new: u32,
+        event: &mut Event,
+    ) -> Result<u32, StepFault>
         ensures gives { (made t : ℕ)
             → serve made t (AskCompareSwap a.0 expected new) (common self.old)
-            ≡ with_common result (common self.new) }
+            ≡ with_common result event.new (common self.new) }
         ensures capacity { self.new.capacity ≡ self.old.capacity }
         ensures holders { self.new.sleepers.holders ≡ self.old.sleepers.holders }
         ensures same { OnErr result (self.new ≡ self.old) }
     {
         check_address(&self.words, a)?;
         let before = self.words.compare_swap(a, expected, new);
-        Ok(Served::quietly(before, EventName::CompareSwap, before))
+        event.put(EventName::CompareSwap, before);
+        Ok(before)
     }
 
     /// Sets bits in the word at an address; the answer is the word before.
-    pub fn fetch_or(&mut self, a: Addr, v: u32) -> Result<Served, StepFault>
+    pub fn fetch_or(&mut self, a: Addr, v: u32, event: &mut Event) -> Result<u32, StepFault>
         ensures gives { (made t : ℕ)
-            → serve made t (AskOr a.0 v) (common self.old) ≡ with_common result (common self.new) }
+            → serve made t (AskOr a.0 v) (common self.old) ≡ with_common result event.new (common self.new) }
         ensures capacity { self.new.capacity ≡ self.old.capacity }
         ensures holders { self.new.sleepers.holders ≡ self.old.sleepers.holders }
         ensures same { OnErr result (self.new ≡ self.old) }
     {
         check_address(&self.words, a)?;
         let before = self.words.fetch_or(a, v);
-        Ok(Served::quietly(before, EventName::FetchOr, before))
+        event.put(EventName::FetchOr, before);
+        Ok(before)
     }
 
     /// Adds a number to the word at an address, modulo 2^32; the answer is the word before.
-    pub fn fetch_add(&mut self, a: Addr, v: u32) -> Result<Served, StepFault>
+    pub fn fetch_add(&mut self, a: Addr, v: u32, event: &mut Event) -> Result<u32, StepFault>
         ensures gives { (made t : ℕ)
-            → serve made t (AskAdd a.0 v) (common self.old) ≡ with_common result (common self.new) }
+            → serve made t (AskAdd a.0 v) (common self.old) ≡ with_common result event.new (common self.new) }
         ensures capacity { self.new.capacity ≡ self.old.capacity }
         ensures holders { self.new.sleepers.holders ≡ self.old.sleepers.holders }
         ensures same { OnErr result (self.new ≡ self.old) }
     {
         check_address(&self.words, a)?;
         let before = self.words.fetch_add(a, v);
-        Ok(Served::quietly(before, EventName::FetchAdd, before))
+        event.put(EventName::FetchAdd, before);
+        Ok(before)
     }
 }

@@ -14,7 +14,6 @@ ghost use Rattle.machine.specs.ConcretePieces.{call_name, woken_in, moved_in, Te
 use crate::call_step::CallProgress;
 use crate::common::Common;
 use crate::event::{Event, EventName};
-use crate::served::Served;
 use futexcalls::{FutexAnswer, FutexCall, FutexPhase, FutexProgress, futex_step, next_bucket};
 
 // How a call that is over is told.
@@ -28,28 +27,25 @@ fn name_of(call: FutexCall) -> EventName
     }
 }
 
-// What comes of a call that is over.
-fn served(call: FutexCall, answer: &FutexAnswer) -> Served
+// The answer of a call that is over; its event is put in its place.
+fn tell(call: FutexCall, answer: &FutexAnswer, event: &mut Event) -> u32
     requires woken { All IsThread (woken_in answer.now) }
     requires moved { All IsThread (moved_in answer.now) }
-    ensures answer { result.answer ≡ answer_of call answer.now }
-    ensures event { result.event
+    ensures answer { result ≡ answer_of call answer.now }
+    ensures event { event.new
         ≡ event_of (call_name call) (answer_of call answer.now) (woken_in answer.now) (moved_in answer.now) }
 {
     let value = answer.value(call);
-    let event = match answer {
-        FutexAnswer::Again => Event::new(name_of(call), value),
-        FutexAnswer::Acted(acted) => Event::with_threads(
+    match answer {
+        FutexAnswer::Again => event.put(name_of(call), value),
+        FutexAnswer::Acted(acted) => event.put_with(
             name_of(call),
             value,
             acted.woken.as_slice(),
             acted.moved.as_slice(),
         ),
-    };
-    Served {
-        answer: value,
-        event,
     }
+    value
 }
 
 impl Common {
@@ -61,7 +57,13 @@ impl Common {
     }
 
     /// Takes the next piece of a futex call of thread `t`, which is awake and holds the buckets that its phase says.
-    pub fn call_piece(&mut self, t: u32, call: FutexCall, phase: FutexPhase) -> CallProgress
+    pub fn call_piece(
+        &mut self,
+        t: u32,
+        call: FutexCall,
+        phase: FutexPhase,
+        event: &mut Event,
+    ) -> CallProgress
         requires thread { IsThread t }
         requires lies { LiesIn (length self.old.words) call }
         requires awake { place_of self.old.sleepers t ≡ None }
@@ -72,7 +74,7 @@ impl Common {
             → holder_of self.old.sleepers k ≡ Some t }
         ensures piece { (progress : FutexProgress)
             × PieceSo (word_of self.old.words) t call phase self.old.sleepers progress self.new.sleepers
-            × Tells call progress result }
+            × Tells call progress result event.new }
         ensures words { self.new.words ≡ self.old.words }
         ensures output { self.new.output ≡ self.old.output }
         ensures capacity { self.new.capacity ≡ self.old.capacity }
@@ -82,7 +84,7 @@ impl Common {
         match futex_step(&self.words, &mut self.buckets, t, call, phase) {
             FutexProgress::Next(next) => CallProgress::Next(next),
             FutexProgress::Blocked => CallProgress::Blocked,
-            FutexProgress::Done(answer) => CallProgress::Done(served(call, &answer)),
+            FutexProgress::Done(answer) => CallProgress::Done(tell(call, &answer, event)),
         }
     }
 }

@@ -1,5 +1,3 @@
-use crate::event::Event;
-use crate::served::Served;
 use futexcalls::FutexPhase;
 
 /// What came of a piece of a futex call, before its thread has gone on.
@@ -9,8 +7,8 @@ pub enum CallProgress {
     Next(FutexPhase),
     /// A thread holds the bucket that the call takes next. Nothing has changed.
     Blocked,
-    /// The call is over.
-    Done(Served),
+    /// The call is over, with this answer to its thread.
+    Done(u32),
 }
 
 /// What came of a piece of the futex call that a thread makes.
@@ -21,5 +19,5 @@ pub enum CallStep {
     /// A thread holds the bucket that the call takes next. Nothing has changed.
     Blocked,
     /// The call is over, and the thread has gone on with its answer.
-    Done(Event),
+    Done,
 }

@@ -8,65 +8,68 @@ ghost use Rattle.machine.specs.RequestMeanings.{with_common};
 ghost use Rattle.machine.specs.Views.{common};
 
 use crate::common::Common;
-use crate::event::EventName;
-use crate::served::Served;
+use crate::event::{Event, EventName};
 use words::{Cause, ENDED, ProcessWord, block, signed};
 
 impl Common {
     /// Prints a number, given as its word.
-    pub fn print(&mut self, number: u32) -> Served
+    pub fn print(&mut self, number: u32, event: &mut Event) -> u32
         requires { length self.old.output < self.old.capacity }
         ensures gives { (made t : ℕ)
             → serve made t (AskPrint number) (common self.old)
-            ≡ with_common (Ok result) (common self.new) }
+            ≡ with_common (Ok result) event.new (common self.new) }
         ensures capacity { self.new.capacity ≡ self.old.capacity }
         ensures holders { self.new.sleepers.holders ≡ self.old.sleepers.holders }
     {
         self.output.push_reserved(signed(number));
-        Served::quietly(0, EventName::Print, number)
+        event.put(EventName::Print, number);
+        0
     }
 
     /// Thread `t` ends by the return of its last frame. The answer is the first entry of its robust list.
-    pub fn end(&mut self, t: u32) -> Served
+    pub fn end(&mut self, t: u32, event: &mut Event) -> u32
         requires { IsThread t }
         ensures gives { (made : ℕ)
-            → serve made t AskReturn (common self.old) ≡ with_common (Ok result) (common self.new) }
+            → serve made t AskReturn (common self.old) ≡ with_common (Ok result) event.new (common self.new) }
         ensures capacity { self.new.capacity ≡ self.old.capacity }
         ensures holders { self.new.sleepers.holders ≡ self.old.sleepers.holders }
     {
         let head = self.words.load(block(t, ProcessWord::Head));
         self.words.store(block(t, ProcessWord::Outcome), ENDED);
-        Served::quietly(head, EventName::Ret, ENDED)
+        event.put(EventName::Ret, ENDED);
+        head
     }
 
     /// Thread `t` ends by the return of its last frame with a value. The answer is the first entry of its robust list.
-    pub fn end_with(&mut self, t: u32, value: u32) -> Served
+    pub fn end_with(&mut self, t: u32, value: u32, event: &mut Event) -> u32
         requires { IsThread t }
         ensures gives { (made : ℕ)
             → serve made t (AskReturnValue value) (common self.old)
-            ≡ with_common (Ok result) (common self.new) }
+            ≡ with_common (Ok result) event.new (common self.new) }
         ensures capacity { self.new.capacity ≡ self.old.capacity }
         ensures holders { self.new.sleepers.holders ≡ self.old.sleepers.holders }
     {
         self.words.store(block(t, ProcessWord::Result), value);
         let head = self.words.load(block(t, ProcessWord::Head));
         self.words.store(block(t, ProcessWord::Outcome), ENDED);
-        Served::quietly(head, EventName::RetValue, value)
+        event.put(EventName::RetValue, value);
+        head
     }
 
     /// Thread `t` dies of this cause. The answer is the first entry of its robust list.
-    pub fn die(&mut self, t: u32, cause: Cause) -> Served
+    pub fn die(&mut self, t: u32, cause: Cause, event: &mut Event) -> u32
         requires { IsThread t }
         ensures gives { (made : ℕ)
             → serve made t (AskFault cause) (common self.old)
-            ≡ with_common (Ok result) (common self.new) }
+            ≡ with_common (Ok result) event.new (common self.new) }
         ensures capacity { self.new.capacity ≡ self.old.capacity }
         ensures holders { self.new.sleepers.holders ≡ self.old.sleepers.holders }
     {
         let head = self.words.load(block(t, ProcessWord::Head));
         self.words
             .store(block(t, ProcessWord::Outcome), cause.number());
-        Served::quietly(head, EventName::Die, cause.number())
+        event.put(EventName::Die, cause.number());
+        head
     }
 
     /// Thread `t` begins: its id word is its number.

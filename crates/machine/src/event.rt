@@ -96,6 +96,28 @@ impl Event {
             moved: ThreadSet::of(moved),
         }
     }
+
+    /// Becomes an event that wakes and moves nobody.
+    pub fn put(&mut self, name: EventName, value: u32)
+        ensures { self.new ≡ plain name value }
+    {
+        self.name = name;
+        self.value = value;
+        self.woken = ThreadSet::new();
+        self.moved = ThreadSet::new();
+    }
+
+    /// Becomes an event that wakes and moves these threads.
+    pub fn put_with(&mut self, name: EventName, value: u32, woken: &[u32], moved: &[u32])
+        requires woken { All IsThread woken.now }
+        requires moved { All IsThread moved.now }
+        ensures { self.new ≡ event_of name value woken.now moved.now }
+    {
+        self.name = name;
+        self.value = value;
+        self.woken = ThreadSet::of(woken);
+        self.moved = ThreadSet::of(moved);
+    }
 }
 
 /// One entry of a log: local steps of a thread, and then at most one shared step.

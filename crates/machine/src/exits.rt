@@ -39,11 +39,11 @@ fn name_of(phase: ExitPhase) -> EventName
 
 impl Common {
     /// Takes a step of the exit of thread `t`, which isn't over, and answers the phase after it.
-    pub fn leave(&mut self, t: u32, phase: ExitPhase) -> (ExitPhase, Event)
+    pub fn leave(&mut self, t: u32, phase: ExitPhase, event: &mut Event) -> ExitPhase
         requires thread { IsThread t }
         requires running { phase ≢ ExitPhase.Ended }
         ensures gives { leave t phase (common self.old)
-            ≡ record { common = common self.new; next = result.0; event = result.1 } }
+            ≡ record { common = common self.new; next = result; event = event.new } }
         ensures capacity { self.new.capacity ≡ self.old.capacity }
         ensures holders { self.new.sleepers.holders ≡ self.old.sleepers.holders }
     {
@@ -53,8 +53,8 @@ impl Common {
             ExitPhase::LastWake => woken.count(),
             _ => address,
         };
-        let event = Event::with_threads(name_of(phase), value, woken.threads.as_slice(), &[]);
-        (next, event)
+        event.put_with(name_of(phase), value, woken.threads.as_slice(), &[]);
+        next
     }
 
     /// Whether a thread holds the bucket of the word on which the step of thread `t`'s exit in this phase would wake.

@@ -7,9 +7,9 @@ ghost use Rattle.machine.specs.ConcreteServing.{serve};
 ghost use Rattle.machine.specs.RequestMeanings.{with_common};
 ghost use Rattle.machine.specs.Views.{common};
 
+use crate::accesses::check_address;
 use crate::common::Common;
 use crate::event::{Event, EventName, StepFault};
-use crate::served::{Served, check_address};
 use futexcalls::{WaitAnswer, cmp_requeue, wait, wake};
 use words::Addr;
 
@@ -17,28 +17,36 @@ const AGAIN: u32 = u32::MAX;
 
 impl Common {
     /// Puts thread `t` to sleep on an address where the word is `expected`; the answer is 0, or 1 where it isn't.
-    pub fn wait(&mut self, t: u32, a: Addr, expected: u32) -> Result<Served, StepFault>
+    pub fn wait(
+        &mut self,
+        t: u32,
+        a: Addr,
+        expected: u32,
+        event: &mut Event,
+    ) -> Result<u32, StepFault>
         requires thread { IsThread t }
         requires awake { place_of self.old.sleepers t ≡ None }
         ensures gives { (made : ℕ)
             → serve made t (AskWait a.0 expected) (common self.old)
-            ≡ with_common result (common self.new) }
+            ≡ with_common result event.new (common self.new) }
         ensures capacity { self.new.capacity ≡ self.old.capacity }
         ensures holders { self.new.sleepers.holders ≡ self.old.sleepers.holders }
         ensures same { OnErr result (self.new ≡ self.old) }
     {
         check_address(&self.words, a)?;
-        match wait(&self.words, &mut self.buckets, t, a, expected) {
-            WaitAnswer::Sleeps => Ok(Served::quietly(0, EventName::Wait, 0)),
-            WaitAnswer::Again => Ok(Served::quietly(1, EventName::Wait, 1)),
-        }
+        let answer = match wait(&self.words, &mut self.buckets, t, a, expected) {
+            WaitAnswer::Sleeps => 0,
+            WaitAnswer::Again => 1,
+        };
+        event.put(EventName::Wait, answer);
+        Ok(answer)
     }
 
     /// Wakes the first `n` sleepers on an address; the answer is how many.
-    pub fn wake(&mut self, a: Addr, n: u32) -> Result<Served, StepFault>
+    pub fn wake(&mut self, a: Addr, n: u32, event: &mut Event) -> Result<u32, StepFault>
         ensures gives { (made t : ℕ)
             → serve made t (AskWake a.0 n) (common self.old)
-            ≡ with_common result (common self.new) }
+            ≡ with_common result event.new (common self.new) }
         ensures capacity { self.new.capacity ≡ self.old.capacity }
         ensures holders { self.new.sleepers.holders ≡ self.old.sleepers.holders }
         ensures same { OnErr result (self.new ≡ self.old) }
@@ -46,10 +54,8 @@ impl Common {
         check_address(&self.words, a)?;
         let woken = wake(&mut self.buckets, a, n);
         let count = woken.count();
-        Ok(Served {
-            answer: count,
-            event: Event::with_threads(EventName::Wake, count, woken.threads.as_slice(), &[]),
-        })
+        event.put_with(EventName::Wake, count, woken.threads.as_slice(), &[]);
+        Ok(count)
     }
 
     /// Where the word at `a` is `expected`, wakes the first `wake` sleepers on `a` and moves the first `moves` of the
@@ -61,10 +67,11 @@ impl Common {
         wake: u32,
         moves: u32,
         expected: u32,
-    ) -> Result<Served, StepFault>
+        event: &mut Event,
+    ) -> Result<u32, StepFault>
         ensures gives { (made t : ℕ) → serve made t (AskRequeue a.0 b.0 wake moves expected)
             (common self.old)
-            ≡ with_common result (common self.new) }
+            ≡ with_common result event.new (common self.new) }
         ensures capacity { self.new.capacity ≡ self.old.capacity }
         ensures holders { self.new.sleepers.holders ≡ self.old.sleepers.holders }
         ensures same { OnErr result (self.new ≡ self.old) }
@@ -73,13 +80,12 @@ impl Common {
         check_address(&self.words, b)?;
         let Ok(requeued) = cmp_requeue(&self.words, &mut self.buckets, a, b, wake, moves, expected)
         else {
-            return Ok(Served::quietly(AGAIN, EventName::Requeue, AGAIN));
+            event.put(EventName::Requeue, AGAIN);
+            return Ok(AGAIN);
         };
         let count = requeued.count();
         let (woken, moved) = (requeued.woken.as_slice(), requeued.moved.as_slice());
-        Ok(Served {
-            answer: count,
-            event: Event::with_threads(EventName::Requeue, count, woken, moved),
-        })
+        event.put_with(EventName::Requeue, count, woken, moved);
+        Ok(count)
     }
 }

@@ -13,7 +13,6 @@ mod laws;
 mod machine;
 mod parts;
 mod refusals;
-mod served;
 mod serving;
 mod thread_set;
 mod thread_step;

@@ -266,11 +266,11 @@ impl Machine {
     ///
     /// Refuses with `CannotMove` where there is no such thread, it sleeps or it has ended, and with `Broken` where its
     /// step may not be; then nothing has changed.
-    pub fn step(&mut self, t: u32) -> Result<Event, StepFault>
+    pub fn step(&mut self, t: u32, event: &mut Event) -> Result<(), StepFault>
         requires { 1 ≤ self.old.room }
-        ensures done { IfOk result (λ e. step_of self.old.program (concrete self.old) t
-            ≡ Ok (concrete self.new, e)) }
-        ensures room { IfOk result (λ e. self.old.room ≡ self.new.room + printed_by e) }
+        ensures done { OnOk result (step_of self.old.program (concrete self.old) t
+            ≡ Ok (concrete self.new, event.new)) }
+        ensures room { OnOk result (self.old.room ≡ self.new.room + printed_by event.new) }
         ensures err { IfErr result (λ f. (step_of self.old.program (concrete self.old) t ≡ Err f)
             × (self.new ≡ self.old)) }
         ensures program { self.new.program ≡ self.old.program }
@@ -281,20 +281,20 @@ impl Machine {
             return Err(StepFault::CannotMove);
         }
         let next = self.next_step(t);
-        self.step_as(t, next)
+        self.step_as(t, next, event)
     }
 
     /// The step of thread `t`, which was made and is awake, whose next step is `next`. It is `step` for a caller that
     /// has asked for the next step already.
-    pub fn step_as(&mut self, t: u32, next: NextStep) -> Result<Event, StepFault>
+    pub fn step_as(&mut self, t: u32, next: NextStep, event: &mut Event) -> Result<(), StepFault>
         requires room { 1 ≤ self.old.room }
         requires thread { (0 < t) × (t ≤ length self.old.threads) }
         requires awake { (state_of (concrete self.old)).asleep t ≡ None }
         requires next { (x : Thread) → thread_of (concrete self.old) t ≡ Some x
             → next ≡ next_step_of (look self.old.program t x) }
-        ensures done { IfOk result (λ e. step_of self.old.program (concrete self.old) t
-            ≡ Ok (concrete self.new, e)) }
-        ensures room { IfOk result (λ e. self.old.room ≡ self.new.room + printed_by e) }
+        ensures done { OnOk result (step_of self.old.program (concrete self.old) t
+            ≡ Ok (concrete self.new, event.new)) }
+        ensures room { OnOk result (self.old.room ≡ self.new.room + printed_by event.new) }
         ensures err { IfErr result (λ f. (step_of self.old.program (concrete self.old) t ≡ Err f)
             × (self.new ≡ self.old)) }
         ensures program { self.new.program ≡ self.old.program }
@@ -306,7 +306,7 @@ impl Machine {
             common,
             threads,
         } = self;
-        step_parts(image, common, threads, t, next)
+        step_parts(image, common, threads, t, next, event)
     }
 
     /// What the next step of thread `t` is.
@@ -382,7 +382,13 @@ impl Machine {
     /// Takes a piece of the futex call that thread `t` makes, which is awake, stands before this piece, and holds the
     /// buckets that its phase says; the words of the call lie in the memory. Behind the last piece the thread goes on
     /// with the call's answer.
-    pub fn take_piece(&mut self, t: u32, call: FutexCall, phase: FutexPhase) -> CallStep
+    pub fn take_piece(
+        &mut self,
+        t: u32,
+        call: FutexCall,
+        phase: FutexPhase,
+        event: &mut Event,
+    ) -> CallStep
         requires makes { MakesCall self.old t call }
         requires lies { LiesIn (length self.old.words) call }
         requires awake { (state_of (concrete self.old)).asleep t ≡ None }
@@ -393,18 +399,18 @@ impl Machine {
             → holder_of self.old.sleepers k ≡ Some t }
         ensures piece { (phases : ℕ → FutexPhase) (x : Thread) → phases t ≡ phase
             → thread_of (concrete self.old) t ≡ Some x
-            → DoesPiece self.old phases t call x result self.new }
-        ensures order { QueuesSo self.old.sleepers t call phase result self.new.sleepers }
+            → DoesPiece self.old phases t call x result event.new self.new }
+        ensures order { QueuesSo self.old.sleepers t call phase result event.new self.new.sleepers }
         ensures program { self.new.program ≡ self.old.program }
         ensures room { self.new.room ≡ self.old.room }
         ensures holds { IsWellFormed self.new.program (concrete self.new) }
     {
-        match self.common.call_piece(t, call, phase) {
+        match self.common.call_piece(t, call, phase, event) {
             CallProgress::Next(next) => CallStep::Next(next),
             CallProgress::Blocked => CallStep::Blocked,
-            CallProgress::Done(served) => {
-                self.threads[t as usize - 1].go_on(&self.image, t, served.answer);
-                CallStep::Done(served.event)
+            CallProgress::Done(answer) => {
+                self.threads[t as usize - 1].go_on(&self.image, t, answer);
+                CallStep::Done
             }
         }
     }
@@ -413,9 +419,9 @@ impl Machine {
     /// no thread takes.
     ///
     /// Refuses with `CannotMove` where there is no such thread or it doesn't sleep; then nothing has changed.
-    pub fn stray(&mut self, t: u32) -> Result<Event, StepFault>
-        ensures done { IfOk result (λ e. stray_of (concrete self.old) t ≡ Ok (concrete self.new, e)) }
-        ensures room { IfOk result (λ e. self.new.room ≡ self.old.room) }
+    pub fn stray(&mut self, t: u32, event: &mut Event) -> Result<(), StepFault>
+        ensures done { OnOk result (stray_of (concrete self.old) t ≡ Ok (concrete self.new, event.new)) }
+        ensures room { OnOk result (self.new.room ≡ self.old.room) }
         ensures err { IfErr result (λ f. (stray_of (concrete self.old) t ≡ Err f)
             × (self.new ≡ self.old)) }
         ensures program { self.new.program ≡ self.old.program }
@@ -426,7 +432,8 @@ impl Machine {
             return Err(StepFault::CannotMove);
         };
         self.common.drop_sleeper(t);
-        Ok(Event::with_threads(EventName::Stray, place.0, &[t], &[]))
+        event.put_with(EventName::Stray, place.0, &[t], &[]);
+        Ok(())
     }
 
     /// Kills thread `t`, wherever it stands, asleep or not. It is a step that no thread takes. The event's value is 1
@@ -434,10 +441,10 @@ impl Machine {
     /// value is 0. Which wakes it owed are made by its exit (robust-futex ABI).
     ///
     /// Refuses with `CannotMove` where there is no such thread; then nothing has changed.
-    pub fn kill(&mut self, t: u32) -> Result<Event, StepFault>
-        ensures done { IfOk result (λ e. kill_of (concrete self.old) t ≡ Ok (concrete self.new, e)) }
+    pub fn kill(&mut self, t: u32, event: &mut Event) -> Result<(), StepFault>
+        ensures done { OnOk result (kill_of (concrete self.old) t ≡ Ok (concrete self.new, event.new)) }
         ensures unmade { OnErr result (thread_of (concrete self.old) t ≡ None) }
-        ensures room { IfOk result (λ e. self.new.room ≡ self.old.room) }
+        ensures room { OnOk result (self.new.room ≡ self.old.room) }
         ensures err { IfErr result (λ f. (kill_of (concrete self.old) t ≡ Err f)
             × (self.new ≡ self.old)) }
         ensures program { self.new.program ≡ self.old.program }
@@ -448,10 +455,12 @@ impl Machine {
             return Err(StepFault::CannotMove);
         }
         if self.local(t).is_dying() {
-            return Ok(Event::new(EventName::Kill, 0));
+            event.put(EventName::Kill, 0);
+            return Ok(());
         }
         self.common.drop_sleeper(t);
         self.threads[t as usize - 1].kill();
-        Ok(Event::new(EventName::Kill, 1))
+        event.put(EventName::Kill, 1);
+        Ok(())
     }
 }

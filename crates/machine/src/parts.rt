@@ -1,4 +1,4 @@
-ghost use Rattle.std.specs.Prelude.{◌≡◌, ◌^◌, sum, ◌≤◌, ◌<◌, Some, None, Ok, Err, IfOk, IfErr, OnErr, [], ◌∷◌};
+ghost use Rattle.std.specs.Prelude.{◌≡◌, ◌^◌, sum, ◌≤◌, ◌<◌, Some, None, Ok, Err, IfOk, IfErr, OnOk, OnErr, [], ◌∷◌};
 ghost use Rattle.std.specs.Prelude.{length, replicate, slice_index, slice_set, vec_len, vec_capacity};
 ghost use Rattle.words.specs.declared.version.ImageVersion.TheVariants.{One};
 ghost use Rattle.words.specs.Limits.{most_threads};
@@ -76,7 +76,8 @@ pub fn step_parts(
     threads: &mut Vec<Local>,
     t: u32,
     next: NextStep,
-) -> Result<Event, StepFault>
+    event: &mut Event,
+) -> Result<(), StepFault>
     requires room { length shared.old.output < shared.old.capacity }
     requires thread { (0 < t) × (t ≤ vec_len threads.old) }
     requires few { vec_len threads.old ≤ most_threads }
@@ -84,9 +85,8 @@ pub fn step_parts(
     requires next { (x : Thread) → thread_at threads.old.items t ≡ Some x
         → next ≡ next_step_of (look image.now t x) }
     requires space { most_threads ≤ vec_capacity threads.old }
-    ensures done { IfOk result
-        (λ e. step_of image.now (parts_of shared.old threads.old.items) t
-        ≡ Ok (parts_of shared.new threads.new.items, e)) }
+    ensures done { OnOk result (step_of image.now (parts_of shared.old threads.old.items) t
+        ≡ Ok (parts_of shared.new threads.new.items, event.new)) }
     ensures err { IfErr result (λ f. step_of image.now (parts_of shared.old threads.old.items) t
         ≡ Err f) }
     ensures same { OnErr result ((shared.new ≡ shared.old)
@@ -96,17 +96,28 @@ pub fn step_parts(
     ensures space { vec_capacity threads.new ≡ vec_capacity threads.old }
 {
     match next {
-        NextStep::Local => Ok(take_local(image, t, &mut threads[t as usize - 1])),
+        NextStep::Local => {
+            take_local(image, t, &mut threads[t as usize - 1], event);
+            Ok(())
+        }
         NextStep::Shared(request) => {
-            take_request(image, shared, t, &mut threads[t as usize - 1], request)
+            take_request(
+                image,
+                shared,
+                t,
+                &mut threads[t as usize - 1],
+                request,
+                event,
+            )
         }
         NextStep::Fork {
             entry: _,
             count: _,
             has_room,
-        } => fork_parts(image, shared, threads, t, has_room),
+        } => fork_parts(image, shared, threads, t, has_room, event),
         NextStep::Exit(phase) => {
-            Ok(take_exit(image, shared, t, &mut threads[t as usize - 1], phase))
+            take_exit(image, shared, t, &mut threads[t as usize - 1], phase, event);
+            Ok(())
         }
         NextStep::Broken => Err(StepFault::Broken),
         NextStep::Ended => Err(StepFault::CannotMove),
@@ -122,16 +133,16 @@ fn fork_parts(
     threads: &mut Vec<Local>,
     t: u32,
     has_room: bool,
-) -> Result<Event, StepFault>
+    event: &mut Event,
+) -> Result<(), StepFault>
     requires thread { (0 < t) × (t ≤ vec_len threads.old) }
     requires few { vec_len threads.old ≤ most_threads }
     requires awake { place_of shared.old.sleepers t ≡ None }
     requires asks { (x : Thread) → thread_at threads.old.items t ≡ Some x
         → AsksFork (look image.now t x) has_room }
     requires space { most_threads ≤ vec_capacity threads.old }
-    ensures done { IfOk result
-        (λ e. step_of image.now (parts_of shared.old threads.old.items) t
-        ≡ Ok (parts_of shared.new threads.new.items, e)) }
+    ensures done { OnOk result (step_of image.now (parts_of shared.old threads.old.items) t
+        ≡ Ok (parts_of shared.new threads.new.items, event.new)) }
     ensures err { IfErr result (λ f. step_of image.now (parts_of shared.old threads.old.items) t
         ≡ Err f) }
     ensures same { OnErr result ((shared.new ≡ shared.old)
@@ -142,9 +153,9 @@ fn fork_parts(
 {
     let made = threads.len() as u32;
     let local = &mut threads[t as usize - 1];
-    let (child, event) = take_fork(image, shared, made, t, local, has_room)?;
+    let child = take_fork(image, shared, made, t, local, has_room, event)?;
     if let Some(child) = child {
         threads.push_reserved(child);
     }
-    Ok(event)
+    Ok(())
 }

@@ -1,4 +1,4 @@
-ghost use Rattle.std.specs.Prelude.{◌≡◌, ◌≤◌, ◌<◌, ℕ, None, Ok, Err, IfOk, IfErr, OnErr, IsSome, length};
+ghost use Rattle.std.specs.Prelude.{◌≡◌, ◌≤◌, ◌<◌, ℕ, None, Ok, Err, IfOk, IfErr, OnOk, OnErr, IsSome, length};
 ghost use Rattle.words.specs.Limits.{most_threads};
 ghost use Rattle.buckets.specs.Sleepers.{place_of};
 ghost use Rattle.locals.specs.Looks.{look};
@@ -18,13 +18,13 @@ use robustexit::ExitPhase;
 use words::MOST_THREADS;
 
 /// A local step of thread `t`.
-pub fn take_local(image: &Image, t: u32, local: &mut Local) -> Event
+pub fn take_local(image: &Image, t: u32, local: &mut Local, event: &mut Event)
     requires asks { next_step_of (look image.now t local.old) ≡ next.Local }
     ensures { (made : ℕ) (c : CommonOf) → thread_step made t c (look image.now t local.old)
-        ≡ Ok (record { common = c; thread = local.new; child = None; event = result }) }
+        ≡ Ok (record { common = c; thread = local.new; child = None; event = event.new }) }
 {
     local.take_step(image, t);
-    Event::new(EventName::Local, 0)
+    event.put(EventName::Local, 0);
 }
 
 /// A step of the exit of thread `t`.
@@ -34,17 +34,17 @@ pub fn take_exit(
     t: u32,
     local: &mut Local,
     phase: ExitPhase,
-) -> Event
+    event: &mut Event,
+)
     requires thread { IsThread t }
     requires asks { next_step_of (look image.now t local.old) ≡ next.Exit phase }
     ensures done { (made : ℕ) → thread_step made t (common shared.old) (look image.now t local.old)
-        ≡ Ok (record { common = common shared.new; thread = local.new; child = None; event = result }) }
+        ≡ Ok (record { common = common shared.new; thread = local.new; child = None; event = event.new }) }
     ensures capacity { shared.new.capacity ≡ shared.old.capacity }
     ensures holders { shared.new.sleepers.holders ≡ shared.old.sleepers.holders }
 {
-    let (next, event) = shared.leave(t, phase);
+    let next = shared.leave(t, phase, event);
     local.enter_phase(next);
-    event
 }
 
 /// A request of thread `t`, which is awake.
@@ -54,23 +54,24 @@ pub fn take_request(
     t: u32,
     local: &mut Local,
     request: Request,
-) -> Result<Event, StepFault>
+    event: &mut Event,
+) -> Result<(), StepFault>
     requires room { length shared.old.output < shared.old.capacity }
     requires thread { IsThread t }
     requires awake { place_of shared.old.sleepers t ≡ None }
     requires asks { next_step_of (look image.now t local.old) ≡ next.Shared request }
-    ensures done { IfOk result (λ e. (made : ℕ)
+    ensures done { OnOk result ((made : ℕ)
         → thread_step made t (common shared.old) (look image.now t local.old)
-        ≡ Ok (record { common = common shared.new; thread = local.new; child = None; event = e })) }
+        ≡ Ok (record { common = common shared.new; thread = local.new; child = None; event = event.new })) }
     ensures err { IfErr result (λ f. (made : ℕ)
         → thread_step made t (common shared.old) (look image.now t local.old) ≡ Err f) }
     ensures same { OnErr result ((local.new ≡ local.old) × (shared.new ≡ shared.old)) }
     ensures capacity { shared.new.capacity ≡ shared.old.capacity }
     ensures holders { shared.new.sleepers.holders ≡ shared.old.sleepers.holders }
 {
-    let served = shared.serve(t, request)?;
-    local.go_on(image, t, served.answer);
-    Ok(served.event)
+    let answer = shared.serve(t, request, event)?;
+    local.go_on(image, t, answer);
+    Ok(())
 }
 
 /// A fork of thread `t`, which answers the thread that it made. Where as many threads were made as there can be the
@@ -82,22 +83,24 @@ pub fn take_fork(
     t: u32,
     local: &mut Local,
     has_room: bool,
-) -> Result<(Option<Local>, Event), StepFault>
+    event: &mut Event,
+) -> Result<Option<Local>, StepFault>
     requires few { made ≤ most_threads }
     requires asks { AsksFork (look image.now t local.old) has_room }
     ensures done { IfOk result
-        (λ r. thread_step made t (common shared.old) (look image.now t local.old)
-        ≡ Ok (record { common = common shared.new; thread = local.new; child = r.0; event = r.1 })) }
+        (λ child. thread_step made t (common shared.old) (look image.now t local.old)
+        ≡ Ok (record { common = common shared.new; thread = local.new; child = child; event = event.new })) }
     ensures err { IfErr result
         (λ f. thread_step made t (common shared.old) (look image.now t local.old) ≡ Err f) }
-    ensures child { IfOk result (λ r. IsSome r.0 → made < most_threads) }
+    ensures child { IfOk result (λ child. IsSome child → made < most_threads) }
     ensures same { OnErr result ((local.new ≡ local.old) × (shared.new ≡ shared.old)) }
     ensures capacity { shared.new.capacity ≡ shared.old.capacity }
     ensures holders { shared.new.sleepers.holders ≡ shared.old.sleepers.holders }
 {
     if made == MOST_THREADS {
         local.go_on(image, t, 0);
-        return Ok((None, Event::new(EventName::Fork, 0)));
+        event.put(EventName::Fork, 0);
+        return Ok(None);
     }
     if !has_room {
         return Err(StepFault::Broken);
@@ -106,5 +109,6 @@ pub fn take_fork(
     shared.open_thread(number);
     let child = local.child(image, t);
     local.go_on(image, t, number);
-    Ok((child, Event::new(EventName::Fork, number)))
+    event.put(EventName::Fork, number);
+    Ok(child)
 }

@@ -245,16 +245,16 @@ parts_put v v' phases t call phase kept m = λ i. record (parts (record { view =
 }
 
 pub taken_next : (v v' : View) (phases : List FutexPhase) (t : ℕ) (call : FutexCall) (phase next : FutexPhase)
-    → IsKept v phases → (m : MakesCall v t call) → LiesIn (length v.words) call
+    (event : Event) → IsKept v phases → (m : MakesCall v t call) → LiesIn (length v.words) call
     → (state_of (concrete v)).asleep t ≡ None → phase_in phases t ≡ phase
-    → QueuesSo v.sleepers t call phase (Next next) v'.sleepers
-    → DoesPiece v (phase_in phases) t call m.thread (Next next) v'
+    → QueuesSo v.sleepers t call phase (Next next) event v'.sleepers
+    → DoesPiece v (phase_in phases) t call m.thread (Next next) event v'
     → piece_of v.program (parts (record { view = v; phases = phases })) t
     ≡ Ok (
       parts (record { view = v'; phases = slice_set phases t next }),
       told_next (takes_at (bucket_count v.sleepers) phase call) call,
     )
-taken_next v v' phases t call phase next kept m lies awake at order piece =
+taken_next v v' phases t call phase next event kept m lies awake at order piece =
     next_gives v.program (parts (record { view = v; phases = phases })) (at_phase v' phases t next) t call m.go
     (makes_so v phases t call m lies awake) (λ first. order.0 (sym (put-here (phase_in phases) t next t refl) ∙ first))
     (sym order.1) piece
@@ -266,8 +266,8 @@ taken_next v v' phases t call phase next kept m lies awake at order piece =
 taken_at : (v v' : View) (phases : List FutexPhase) (t : ℕ) (call : FutexCall) (phase : FutexPhase) (event : Event)
     → IsKept v phases → (m : MakesCall v t call) → LiesIn (length v.words) call
     → (state_of (concrete v)).asleep t ≡ None → phase_in phases t ≡ phase → IsWellFormed v.program (concrete v')
-    → QueuesSo v.sleepers t call phase (Done event) v'.sleepers
-    → DoesPiece v (phase_in phases) t call m.thread (Done event) v'
+    → QueuesSo v.sleepers t call phase Done event v'.sleepers
+    → DoesPiece v (phase_in phases) t call m.thread Done event v'
     → piece_of v.program (parts (record { view = v; phases = phases })) t
     ≡ Ok (at_phase v' phases t First, event)
 taken_at v v' phases t call First event kept m lies awake at well order piece = absurd order
@@ -283,8 +283,8 @@ taken_at v v' phases t call Act event kept m lies awake at well order piece =
 pub taken_done : (v v' : View) (phases : List FutexPhase) (t : ℕ) (call : FutexCall) (phase : FutexPhase) (event : Event)
     → IsKept v phases → (m : MakesCall v t call) → LiesIn (length v.words) call
     → (state_of (concrete v)).asleep t ≡ None → phase_in phases t ≡ phase → IsWellFormed v.program (concrete v')
-    → QueuesSo v.sleepers t call phase (Done event) v'.sleepers
-    → DoesPiece v (phase_in phases) t call m.thread (Done event) v'
+    → QueuesSo v.sleepers t call phase Done event v'.sleepers
+    → DoesPiece v (phase_in phases) t call m.thread Done event v'
     → piece_of v.program (parts (record { view = v; phases = phases })) t
     ≡ Ok (parts (record { view = v'; phases = slice_set phases t First }), event)
 taken_done v v' phases t call phase event kept m lies awake at well order piece =

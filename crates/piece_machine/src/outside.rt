@@ -1,5 +1,5 @@
 //! What comes to a machine in pieces from outside.
-ghost use Rattle.std.specs.Prelude.{◌≡◌, ◌<◌, ◌≤◌, ℕ, length, Some, None, Ok, Err, true, take, IfOk, IfErr};
+ghost use Rattle.std.specs.Prelude.{◌≡◌, ◌<◌, ◌≤◌, ℕ, length, Some, None, Ok, Err, true, take, OnOk, IfErr};
 ghost use Rattle.buckets.specs.Places.{names, with_place};
 ghost use Rattle.buckets.specs.Sleepers.{bucket_count, holder_of};
 ghost use Rattle.futexcalls.specs.Pieces.{buckets_of, held_at};
@@ -78,15 +78,15 @@ impl PieceMachine {
     /// within no call, so that no bucket is given up.
     ///
     /// Refuses with `CannotMove` where there is no such thread or it doesn't sleep; then nothing has changed.
-    pub fn stray(&mut self, t: u32) -> Result<Event, StepFault>
-        ensures done { IfOk result (λ e. stray_piece (parts self.old) t ≡ Ok (parts self.new, e)) }
+    pub fn stray(&mut self, t: u32, event: &mut Event) -> Result<(), StepFault>
+        ensures done { OnOk result (stray_piece (parts self.old) t ≡ Ok (parts self.new, event.new)) }
         ensures err { IfErr result
             (λ f. (stray_piece (parts self.old) t ≡ Err f) × (self.new ≡ self.old)) }
         ensures program { self.new.view.program ≡ self.old.view.program }
         ensures room { self.new.view.room ≡ self.old.view.room }
     {
-        let event = self.machine.stray(t)?;
-        Ok(event)
+        self.machine.stray(t, event)?;
+        Ok(())
     }
 
     /// Kills thread `t`, wherever it stands: asleep, or within a call, whose buckets it gives up. The event's value is 1
@@ -94,9 +94,9 @@ impl PieceMachine {
     /// value is 0.
     ///
     /// Refuses with `CannotMove` where there is no such thread; then nothing has changed.
-    pub fn kill(&mut self, t: u32) -> Result<Event, StepFault>
-        ensures done { IfOk result (λ e. kill_piece self.old.view.program (parts self.old) t
-            ≡ Ok (parts self.new, e)) }
+    pub fn kill(&mut self, t: u32, event: &mut Event) -> Result<(), StepFault>
+        ensures done { OnOk result (kill_piece self.old.view.program (parts self.old) t
+            ≡ Ok (parts self.new, event.new)) }
         ensures err { IfErr result
             (λ f. (kill_piece self.old.view.program (parts self.old) t ≡ Err f)
             × (self.new ≡ self.old)) }
@@ -109,8 +109,8 @@ impl PieceMachine {
         let call = self.call_at(t);
         give_up(&mut self.machine, t, call, self.phases.at(t));
         self.phases.put(t, FutexPhase::First);
-        let event = self.machine.kill(t)?;
-        Ok(event)
+        self.machine.kill(t, event)?;
+        Ok(())
     }
 
     // The futex call that thread `t` makes, if it makes one.

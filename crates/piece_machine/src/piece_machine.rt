@@ -83,13 +83,13 @@ fn expected_word(call: FutexCall) -> u32
     }
 }
 
-// How a piece is told that takes this bucket, or else compares the word, and behind which its call goes on.
-fn told(bucket: Option<u32>, call: FutexCall) -> Event
-    ensures { result ≡ told_next bucket call }
+// Tells of a piece that takes this bucket, or else compares the word, and behind which its call goes on.
+fn tell(bucket: Option<u32>, call: FutexCall, event: &mut Event)
+    ensures { event.new ≡ told_next bucket call }
 {
     match bucket {
-        Some(bucket) => Event::new(EventName::FutexLock, bucket),
-        None => Event::new(EventName::FutexCompare, expected_word(call)),
+        Some(bucket) => event.put(EventName::FutexLock, bucket),
+        None => event.put(EventName::FutexCompare, expected_word(call)),
     }
 }
 
@@ -140,10 +140,10 @@ impl PieceMachine {
     ///
     /// Refuses with `CannotMove` where there is no such thread, it sleeps, it has ended, or a held bucket is in its way,
     /// and with `Broken` where its step may not be; then nothing has changed.
-    pub fn step(&mut self, t: u32) -> Result<Event, StepFault>
+    pub fn step(&mut self, t: u32, event: &mut Event) -> Result<(), StepFault>
         requires { 1 ≤ self.old.view.room }
-        ensures done { IfOk result (λ e. piece_of self.old.view.program (parts self.old) t
-            ≡ Ok (parts self.new, e)) }
+        ensures done { OnOk result (piece_of self.old.view.program (parts self.old) t
+            ≡ Ok (parts self.new, event.new)) }
         ensures err { IfErr result
             (λ f. (piece_of self.old.view.program (parts self.old) t ≡ Err f)
             × (self.new ≡ self.old)) }
@@ -154,19 +154,19 @@ impl PieceMachine {
             return Err(StepFault::CannotMove);
         }
         let next = self.machine.next_step(t);
-        self.step_as(t, next)
+        self.step_as(t, next, event)
     }
 
     /// The step of thread `t`, which was made and is awake, whose next step is `next`. It is `step` for a caller that
     /// has asked for the next step already.
-    pub fn step_as(&mut self, t: u32, next: NextStep) -> Result<Event, StepFault>
+    pub fn step_as(&mut self, t: u32, next: NextStep, event: &mut Event) -> Result<(), StepFault>
         requires room { 1 ≤ self.old.view.room }
         requires thread { (0 < t) × (t ≤ length self.old.view.threads) }
         requires awake { (state_of (concrete self.old.view)).asleep t ≡ None }
         requires next { (x : Thread) → thread_of (concrete self.old.view) t ≡ Some x
             → next ≡ next_step_of (look self.old.view.program t x) }
-        ensures done { IfOk result (λ e. piece_of self.old.view.program (parts self.old) t
-            ≡ Ok (parts self.new, e)) }
+        ensures done { OnOk result (piece_of self.old.view.program (parts self.old) t
+            ≡ Ok (parts self.new, event.new)) }
         ensures err { IfErr result
             (λ f. (piece_of self.old.view.program (parts self.old) t ≡ Err f)
             × (self.new ≡ self.old)) }
@@ -175,45 +175,45 @@ impl PieceMachine {
     {
         match next {
             NextStep::Shared(request) => match call_in(request) {
-                Some(call) => self.call_step(t, call),
-                None => self.whole_step(t, next),
+                Some(call) => self.call_step(t, call, event),
+                None => self.whole_step(t, next, event),
             },
             NextStep::Exit(phase) => {
                 if self.machine.is_held_up(t, phase) {
                     return Err(StepFault::CannotMove);
                 }
-                self.whole_step(t, next)
+                self.whole_step(t, next, event)
             }
-            _ => self.whole_step(t, next),
+            _ => self.whole_step(t, next, event),
         }
     }
 
     // A step of thread `t`, which is awake, that is none of a futex call, and that no held bucket is in the way of.
-    fn whole_step(&mut self, t: u32, next: NextStep) -> Result<Event, StepFault>
+    fn whole_step(&mut self, t: u32, next: NextStep, event: &mut Event) -> Result<(), StepFault>
         requires room { 1 ≤ self.old.view.room }
         requires thread { (0 < t) × (t ≤ length self.old.view.threads) }
         requires apart { IsApart self.old.view.program (pieces self.old) t }
         requires next { (x : Thread) → thread_of (concrete self.old.view) t ≡ Some x
             → next ≡ next_step_of (look self.old.view.program t x) }
-        ensures done { IfOk result (λ e. piece_of self.old.view.program (parts self.old) t
-            ≡ Ok (parts self.new, e)) }
+        ensures done { OnOk result (piece_of self.old.view.program (parts self.old) t
+            ≡ Ok (parts self.new, event.new)) }
         ensures err { IfErr result
             (λ f. (piece_of self.old.view.program (parts self.old) t ≡ Err f)
             × (self.new ≡ self.old)) }
         ensures program { self.new.view.program ≡ self.old.view.program }
         ensures room { self.old.view.room ≤ self.new.view.room + 1 }
     {
-        let event = self.machine.step_as(t, next)?;
-        Ok(event)
+        self.machine.step_as(t, next, event)?;
+        Ok(())
     }
 
     // A piece of the futex call that thread `t` makes, which is awake.
-    fn call_step(&mut self, t: u32, call: FutexCall) -> Result<Event, StepFault>
+    fn call_step(&mut self, t: u32, call: FutexCall, event: &mut Event) -> Result<(), StepFault>
         requires thread { t ≤ length self.old.view.threads }
         requires makes { MakesCall self.old.view t call }
         requires awake { (pieces self.old).base.asleep t ≡ None }
-        ensures done { IfOk result (λ e. piece_of self.old.view.program (parts self.old) t
-            ≡ Ok (parts self.new, e)) }
+        ensures done { OnOk result (piece_of self.old.view.program (parts self.old) t
+            ≡ Ok (parts self.new, event.new)) }
         ensures err { IfErr result
             (λ f. (piece_of self.old.view.program (parts self.old) t ≡ Err f)
             × (self.new ≡ self.old)) }
@@ -225,15 +225,16 @@ impl PieceMachine {
         }
         let phase = self.phases.at(t);
         let bucket = self.machine.next_bucket(call, phase);
-        match self.machine.take_piece(t, call, phase) {
+        match self.machine.take_piece(t, call, phase, event) {
             CallStep::Next(next) => {
                 self.phases.put(t, next);
-                Ok(told(bucket, call))
+                tell(bucket, call, event);
+                Ok(())
             }
             CallStep::Blocked => Err(StepFault::CannotMove),
-            CallStep::Done(event) => {
+            CallStep::Done => {
                 self.phases.put(t, FutexPhase::First);
-                Ok(event)
+                Ok(())
             }
         }
     }

@@ -1,9 +1,10 @@
 -- What comes of a piece that is handed in.
-use Rattle.std.specs.Prelude.{ℕ, ◌≡◌, ◌≢◌, ◌+◌, ◌++◌, ◌≤◌, ◌<◌, ◌⊎◌, [], ◌∷◌, true, false, Option, Some, None}
+use Rattle.std.specs.Prelude.{ℕ, ◌≡◌, ◌≢◌, ◌+◌, ◌++◌, ◌≤◌, ◌<◌, ◌⊎◌, [], ◌∷◌, Bool, true, false, Option, Some, None}
 use Rattle.std.specs.Prelude.{Result, Ok, Err}
 use Rattle.isa.specs.Programs.{Program}
 use Rattle.locals.specs.Threads.{Thread}
 use Rattle.locals.specs.Steps.{local_step, local_after}
+use Rattle.machine.specs.declared.event.Entry.{Entry}
 use Rattle.machine.specs.declared.event.Event.{Event}
 use Rattle.machine.specs.declared.event.StepFault.{StepFault}
 use Rattle.machine.specs.declared.event.StepFault.TheVariants as step
@@ -11,9 +12,19 @@ use Rattle.machine.specs.States.{state_of, thread_of}
 use Rattle.machine.specs.ConcreteSteps.{can_move}
 use Rattle.piece_machine.specs.PieceConcrete.{PieceConcrete, piece_of, with_local, stray_piece, kill_piece}
 use Rattle.runner.specs.declared.fault.RunFault.{RunFault}
+use Rattle.runner.specs.declared.in_place.Taken.{Taken}
 use Rattle.runner.specs.declared.fault.RunFault.TheVariants.{Stray, Limit, CannotMove, Broken, Memory}
 use Rattle.runner.specs.Views.{PieceView, LogState}
 use Rattle.runner.specs.Logs.{cost, event_cost}
+
+-- the event of an entry, if it has a shared step
+abbrev pub event_if : Bool → Event → Option Event
+event_if true event = Some event
+event_if false event = None
+
+-- the entry of thread t that was made in its place, where the event of its shared step is this one, if it has one
+abbrev pub taken_entry : ℕ → Taken → Event → Entry
+taken_entry t taken event = record { thread = t; local = taken.local; event = event_if taken.shared event }
 
 -- a thread comes in at a place: a turn where it stands before a local step, and else its step with the event
 abbrev pub entry_end_by : PieceConcrete → Result (PieceConcrete × Event) StepFault → Option Thread

@@ -1,4 +1,4 @@
-ghost use Rattle.std.specs.Prelude.{◌≡◌, ◌≢◌, ◌≤◌, ◌<◌, ◌^◌, ◌++◌, ◌∷◌, [], length, true, None, Some, Ok};
+ghost use Rattle.std.specs.Prelude.{◌≡◌, ◌≢◌, ◌≤◌, ◌<◌, ◌^◌, ◌++◌, ◌∷◌, [], length, true, Some, None, Ok};
 ghost use Rattle.std.specs.Prelude.{IfOk, OnOk, OnErr, IsOk};
 ghost use Rattle.locals.specs.Looks.{look};
 ghost use Rattle.locals.specs.Requests.{next_step_of};
@@ -7,7 +7,7 @@ ghost use Rattle.machine.specs.ConcreteSteps.{can_move};
 ghost use Rattle.machine.specs.Views.{concrete};
 ghost use Rattle.piece_machine.specs.PieceConcrete.{kill_piece, stray_piece};
 ghost use Rattle.piece_machine.specs.PieceViews.{GoesTo, parts};
-ghost use Rattle.runner.specs.Entries.{entry_end};
+ghost use Rattle.runner.specs.Entries.{entry_end, event_if};
 
 use crate::stepping::is_local;
 use locals::{Local, NextStep};
@@ -17,7 +17,7 @@ use piece_machine::PieceMachine;
 use std::alloc::AllocError;
 
 /// Takes in where thread `t` has come after `count` local steps, and where its next step is `next`, as one entry of the
-/// log.
+/// log. Answers whether it has a shared step, whose event is put in its place.
 pub fn enter(
     machine: &mut PieceMachine,
     log: &mut PackedLog,
@@ -25,30 +25,31 @@ pub fn enter(
     here: &Local,
     next: NextStep,
     count: u32,
-) -> Result<Option<Event>, AllocError>
+    event: &mut Event,
+) -> Result<bool, AllocError>
     requires thread { can_move (concrete machine.old.view) t ≡ true }
     requires goes { GoesTo machine.old.view t here.now }
     requires next { next ≡ next_step_of (look machine.old.view.program t here.now) }
     requires fine { IsOk (entry_end machine.old.view.program (parts machine.old) t here.now) }
     ensures gives { IfOk result
-        (λ event. entry_end machine.old.view.program (parts machine.old) t here.now
-        ≡ Ok (parts machine.new, event)) }
+        (λ shared. entry_end machine.old.view.program (parts machine.old) t here.now
+        ≡ Ok (parts machine.new, event_if shared event.new)) }
     ensures log { IfOk result
-        (λ event. log.new.items
-        ≡ log.old.items ++ record { thread = t; local = count; event = event } ∷ []) }
+        (λ shared. log.new.items
+        ≡ log.old.items ++ record { thread = t; local = count; event = event_if shared event.new } ∷ []) }
     ensures few { OnOk result (length log.old.items < 2 ^ 64) }
     ensures err { OnErr result ((parts machine.new ≡ parts machine.old)
         × (log.new.items ≡ log.old.items)) }
     ensures program { machine.new.view.program ≡ machine.old.view.program }
 {
     make_room(machine, log)?;
-    let event = hand_in(machine, t, here, next);
+    let shared = hand_in(machine, t, here, next, event);
     log.push_reserved(Entry {
         thread: t,
         local: count,
-        event,
+        event: event_if(shared, event),
     });
-    Ok(event)
+    Ok(shared)
 }
 
 /// Takes in a wake of thread `t`, which sleeps, from outside, as one entry of the log.
@@ -56,26 +57,25 @@ pub fn enter_outside(
     machine: &mut PieceMachine,
     log: &mut PackedLog,
     t: u32,
-) -> Result<Event, AllocError>
+    event: &mut Event,
+) -> Result<(), AllocError>
     requires sleeps { (state_of (concrete machine.old.view)).asleep t ≢ None }
-    ensures gives { IfOk result
-        (λ event. stray_piece (parts machine.old) t ≡ Ok (parts machine.new, event)) }
-    ensures log { IfOk result
-        (λ event. log.new.items
-        ≡ log.old.items ++ record { thread = t; local = 0; event = Some event } ∷ []) }
+    ensures gives { OnOk result (stray_piece (parts machine.old) t ≡ Ok (parts machine.new, event.new)) }
+    ensures log { OnOk result (log.new.items
+        ≡ log.old.items ++ record { thread = t; local = 0; event = Some event.new } ∷ []) }
     ensures few { OnOk result (length log.old.items < 2 ^ 64) }
     ensures err { OnErr result ((parts machine.new ≡ parts machine.old)
         × (log.new.items ≡ log.old.items)) }
     ensures program { machine.new.view.program ≡ machine.old.view.program }
 {
     make_room(machine, log)?;
-    let event = wake_from_outside(machine, t);
+    wake_from_outside(machine, t, event);
     log.push_reserved(Entry {
         thread: t,
         local: 0,
-        event: Some(event),
+        event: Some(*event),
     });
-    Ok(event)
+    Ok(())
 }
 
 /// Takes in a kill of thread `t`, which was made, from outside, as one entry of the log.
@@ -83,26 +83,33 @@ pub fn enter_kill(
     machine: &mut PieceMachine,
     log: &mut PackedLog,
     t: u32,
-) -> Result<Event, AllocError>
+    event: &mut Event,
+) -> Result<(), AllocError>
     requires made { thread_of (concrete machine.old.view) t ≢ None }
-    ensures gives { IfOk result
-        (λ event. kill_piece machine.old.view.program (parts machine.old) t ≡ Ok (parts machine.new, event)) }
-    ensures log { IfOk result
-        (λ event. log.new.items
-        ≡ log.old.items ++ record { thread = t; local = 0; event = Some event } ∷ []) }
+    ensures gives { OnOk result
+        (kill_piece machine.old.view.program (parts machine.old) t ≡ Ok (parts machine.new, event.new)) }
+    ensures log { OnOk result (log.new.items
+        ≡ log.old.items ++ record { thread = t; local = 0; event = Some event.new } ∷ []) }
     ensures few { OnOk result (length log.old.items < 2 ^ 64) }
     ensures err { OnErr result ((parts machine.new ≡ parts machine.old)
         × (log.new.items ≡ log.old.items)) }
     ensures program { machine.new.view.program ≡ machine.old.view.program }
 {
     make_room(machine, log)?;
-    let event = kill_from_outside(machine, t);
+    kill_from_outside(machine, t, event);
     log.push_reserved(Entry {
         thread: t,
         local: 0,
-        event: Some(event),
+        event: Some(*event),
     });
-    Ok(event)
+    Ok(())
+}
+
+/// The event of an entry, if it has a shared step.
+pub fn event_if(shared: bool, event: &Event) -> Option<Event>
+    ensures { result ≡ event_if shared event.now }
+{
+    if shared { Some(*event) } else { None }
 }
 
 /// Makes room for one more entry, and for the number that it may print.
@@ -116,48 +123,54 @@ pub fn make_room(machine: &mut PieceMachine, log: &mut PackedLog) -> Result<(), 
     machine.make_room(1)
 }
 
-// Puts a thread where it has come, and takes the shared step that it stands before, if any.
-fn hand_in(machine: &mut PieceMachine, t: u32, here: &Local, next: NextStep) -> Option<Event>
+// Puts a thread where it has come, and takes the shared step that it stands before, if any. Answers whether there was one.
+fn hand_in(
+    machine: &mut PieceMachine,
+    t: u32,
+    here: &Local,
+    next: NextStep,
+    event: &mut Event,
+) -> bool
     requires thread { can_move (concrete machine.old.view) t ≡ true }
     requires goes { GoesTo machine.old.view t here.now }
     requires next { next ≡ next_step_of (look machine.old.view.program t here.now) }
     requires fine { IsOk (entry_end machine.old.view.program (parts machine.old) t here.now) }
     requires room { 1 ≤ machine.old.view.room }
     ensures gives { entry_end machine.old.view.program (parts machine.old) t here.now
-        ≡ Ok (parts machine.new, result) }
+        ≡ Ok (parts machine.new, event_if result event.new) }
     ensures program { machine.new.view.program ≡ machine.old.view.program }
 {
     machine.copy_local(t, here);
     let turn = is_local(next);
     if turn {
-        return None;
+        return false;
     }
-    match machine.step_as(t, next) {
-        Ok(event) => Some(event),
+    match machine.step_as(t, next, event) {
+        Ok(()) => true,
         Err(_) => unreachable!(),
     }
 }
 
 /// Wakes thread `t`, which sleeps, though no thread called for it.
-pub fn wake_from_outside(machine: &mut PieceMachine, t: u32) -> Event
+pub fn wake_from_outside(machine: &mut PieceMachine, t: u32, event: &mut Event)
     requires sleeps { (state_of (concrete machine.old.view)).asleep t ≢ None }
-    ensures gives { stray_piece (parts machine.old) t ≡ Ok (parts machine.new, result) }
+    ensures gives { stray_piece (parts machine.old) t ≡ Ok (parts machine.new, event.new) }
     ensures program { machine.new.view.program ≡ machine.old.view.program }
 {
-    match machine.stray(t) {
-        Ok(event) => event,
+    match machine.stray(t, event) {
+        Ok(()) => {}
         Err(_) => unreachable!(),
     }
 }
 
 // Kills thread `t`, which was made, from outside.
-fn kill_from_outside(machine: &mut PieceMachine, t: u32) -> Event
+fn kill_from_outside(machine: &mut PieceMachine, t: u32, event: &mut Event)
     requires made { thread_of (concrete machine.old.view) t ≢ None }
-    ensures gives { kill_piece machine.old.view.program (parts machine.old) t ≡ Ok (parts machine.new, result) }
+    ensures gives { kill_piece machine.old.view.program (parts machine.old) t ≡ Ok (parts machine.new, event.new) }
     ensures program { machine.new.view.program ≡ machine.old.view.program }
 {
-    match machine.kill(t) {
-        Ok(event) => event,
+    match machine.kill(t, event) {
+        Ok(()) => {}
         Err(_) => unreachable!(),
     }
 }

@@ -11,30 +11,55 @@ ghost use Rattle.machine.specs.Views.{concrete};
 ghost use Rattle.piece_machine.specs.PieceConcrete.{PieceConcrete, piece_fault_at, with_local};
 ghost use Rattle.piece_machine.specs.PieceDetermined.{IsFit};
 ghost use Rattle.piece_machine.specs.PieceViews.{GoesTo, parts};
-ghost use Rattle.runner.specs.Entries.{BreaksAfter, entry_end};
+ghost use Rattle.runner.specs.Entries.{BreaksAfter, entry_end, taken_entry, event_if};
 ghost use Rattle.runner.specs.Logs.{EntersOwn, event_cost};
 ghost use Rattle.runner.specs.Reports.{IsHeldUp};
 ghost use Rattle.runner.specs.Walks.{Walked, LooksFrom};
 
+use crate::entering::event_if;
 use crate::fault::RunFault;
 use crate::stepping::is_local;
 use isa::Image;
 use locals::{Local, NextStep};
-use machine::{Entry, Machine, StepFault};
+use machine::{Entry, Event, Machine, StepFault};
 use piece_machine::PieceMachine;
 use words::MOST_LOCAL_STEPS;
 
+/// An entry that a thread made in its place, whose event stands elsewhere.
+#[derive(Clone, Copy, PartialEq, Eq, Debug)]
+pub struct Taken {
+    /// How many local steps it has.
+    pub local: u32,
+    /// Whether a shared step comes behind them.
+    pub shared: bool,
+}
+
+/// The entry of thread `t` that was made in its place, with the event of its shared step, if it has one.
+pub fn taken_entry(t: u32, taken: Taken, event: &Event) -> Entry
+    ensures { result ≡ taken_entry t taken event.now }
+{
+    Entry {
+        thread: t,
+        local: taken.local,
+        event: event_if(taken.shared, event),
+    }
+}
+
 /// Takes the next entry of thread `t` in its place: its local steps until another step comes or its turn is over, and
-/// then the shared step that it stands before, if any. No held bucket is in its way. Where that step may not be, the
-/// entry has the local steps alone.
-pub fn take_entry(machine: &mut PieceMachine, t: u32) -> (Entry, Result<(), RunFault>)
+/// then the shared step that it stands before, if any, whose event is put in its place. No held bucket is in its way.
+/// Where that step may not be, the entry has the local steps alone.
+pub fn take_entry(
+    machine: &mut PieceMachine,
+    t: u32,
+    event: &mut Event,
+) -> (Taken, Result<(), RunFault>)
     requires thread { can_move (concrete machine.old.view) t ≡ true }
     requires free { IsHeldUp machine.old.view.program (parts machine.old) t → ⊥ }
     requires room { 1 ≤ machine.old.view.room }
-    ensures enters { EntersOwn machine.old.view.program (parts machine.old) result.0
+    ensures enters { EntersOwn machine.old.view.program (parts machine.old) (taken_entry t result.0 event.new)
         (parts machine.new) }
     ensures turn { result.0.local ≤ most_local_steps }
-    ensures goes { OnOk result.1 (1 ≤ result.0.local + event_cost result.0.event) }
+    ensures goes { OnOk result.1 (1 ≤ result.0.local + event_cost (event_if result.0.shared event.new)) }
     ensures breaks { IfErr result.1
         (λ fault. (fault ≡ RunFault.Broken)
         × BreaksAfter machine.old.view.program (parts machine.old) t result.0.local) }
@@ -42,7 +67,7 @@ pub fn take_entry(machine: &mut PieceMachine, t: u32) -> (Entry, Result<(), RunF
 {
     let local = machine.run_local(t, MOST_LOCAL_STEPS);
     let next = machine.machine().next_step(t);
-    end_entry(machine, t, local, next)
+    end_entry(machine, t, local, next, event)
 }
 
 /// The same of a thread that may be held up: None where a held bucket is in its way, and then nothing has changed. Where
@@ -52,15 +77,17 @@ pub fn take_if_free(
     image: &Image,
     t: u32,
     ahead: &mut Local,
-) -> Option<(Entry, Result<(), RunFault>)>
+    event: &mut Event,
+) -> Option<(Taken, Result<(), RunFault>)>
     requires image { image.now ≡ machine.old.view.program }
     requires thread { can_move (concrete machine.old.view) t ≡ true }
     requires fit { IsFit machine.old.view.program (parts machine.old) }
     requires room { 1 ≤ machine.old.view.room }
-    ensures enters { IfSome result (λ taken. EntersOwn machine.old.view.program (parts machine.old) taken.0
-        (parts machine.new)) }
+    ensures enters { IfSome result (λ taken. EntersOwn machine.old.view.program (parts machine.old)
+        (taken_entry t taken.0 event.new) (parts machine.new)) }
     ensures turn { IfSome result (λ taken. taken.0.local ≤ most_local_steps) }
-    ensures goes { IfSome result (λ taken. OnOk taken.1 (1 ≤ taken.0.local + event_cost taken.0.event)) }
+    ensures goes { IfSome result (λ taken. OnOk taken.1
+        (1 ≤ taken.0.local + event_cost (event_if taken.0.shared event.new))) }
     ensures breaks { IfSome result (λ taken. IfErr taken.1
         (λ fault. (fault ≡ RunFault.Broken)
         × BreaksAfter machine.old.view.program (parts machine.old) t taken.0.local)) }
@@ -69,14 +96,14 @@ pub fn take_if_free(
     ensures program { machine.new.view.program ≡ machine.old.view.program }
 {
     if machine.holds_none() {
-        return Some(take_entry(machine, t));
+        return Some(take_entry(machine, t, event));
     }
     let (local, next) = look_ahead(machine.machine(), image, t, ahead);
     if waits_for_bucket(machine, t, next) {
         return None;
     }
     catch_up(machine, t, local, ahead);
-    Some(end_entry(machine, t, local, next))
+    Some(end_entry(machine, t, local, next, event))
 }
 
 // How many local steps thread `t` takes in its turn, and what its next step is behind them. It takes them in `ahead`,
@@ -130,7 +157,8 @@ fn end_entry(
     t: u32,
     local: u32,
     next: NextStep,
-) -> (Entry, Result<(), RunFault>)
+    event: &mut Event,
+) -> (Taken, Result<(), RunFault>)
     requires thread { (0 < t) × (t ≤ length machine.old.view.threads) }
     requires awake { (state_of (concrete machine.old.view)).asleep t ≡ None }
     requires next { (x : Thread) → thread_of (concrete machine.old.view) t ≡ Some x
@@ -138,28 +166,27 @@ fn end_entry(
     requires room { 1 ≤ machine.old.view.room }
     ensures count { result.0.local ≡ local }
     ensures enters { (k : PieceConcrete) → Walked machine.old.view.program k t local (parts machine.old)
-        → EntersOwn machine.old.view.program k result.0 (parts machine.new) }
+        → EntersOwn machine.old.view.program k (taken_entry t result.0 event.new) (parts machine.new) }
     ensures goes { (k : PieceConcrete) → Walked machine.old.view.program k t local (parts machine.old)
-        → OnOk result.1 (1 ≤ result.0.local + event_cost result.0.event) }
+        → OnOk result.1 (1 ≤ result.0.local + event_cost (event_if result.0.shared event.new)) }
     ensures breaks { IfErr result.1 (λ fault. (k : PieceConcrete)
         (w : Walked machine.old.view.program k t local (parts machine.old))
         → (entry_end machine.old.view.program k t w.here ≢ Err CannotMove)
         → (fault ≡ RunFault.Broken) × BreaksAfter machine.old.view.program k t result.0.local) }
     ensures program { machine.new.view.program ≡ machine.old.view.program }
 {
-    let mut entry = Entry {
-        thread: t,
+    let mut taken = Taken {
         local,
-        event: None,
+        shared: false,
     };
     if is_local(next) {
-        return (entry, Ok(()));
+        return (taken, Ok(()));
     }
-    match machine.step_as(t, next) {
-        Ok(event) => {
-            entry.event = Some(event);
-            (entry, Ok(()))
+    match machine.step_as(t, next, event) {
+        Ok(()) => {
+            taken.shared = true;
+            (taken, Ok(()))
         }
-        Err(_) => (entry, Err(RunFault::Broken)),
+        Err(_) => (taken, Err(RunFault::Broken)),
     }
 }

@@ -152,14 +152,15 @@ fn take_outside(machine: &mut PieceMachine, entry: &Entry) -> Option<Entry>
     if entry.local > 0 {
         return None;
     }
+    let mut event = Event::new(EventName::Local, 0);
     if is_kill(entry) {
-        return match machine.kill(entry.thread) {
-            Ok(event) => Some(alone(entry.thread, event)),
+        return match machine.kill(entry.thread, &mut event) {
+            Ok(()) => Some(alone(entry.thread, event)),
             Err(_) => None,
         };
     }
-    match machine.stray(entry.thread) {
-        Ok(event) => Some(alone(entry.thread, event)),
+    match machine.stray(entry.thread, &mut event) {
+        Ok(()) => Some(alone(entry.thread, event)),
         Err(_) => None,
     }
 }
@@ -193,8 +194,9 @@ fn take_shared(machine: &mut PieceMachine, t: u32) -> Option<Event>
     if is_local(next) {
         return None;
     }
-    match machine.step_as(t, next) {
-        Ok(event) => Some(event),
+    let mut event = Event::new(EventName::Local, 0);
+    match machine.step_as(t, next, &mut event) {
+        Ok(()) => Some(event),
         Err(_) => None,
     }
 }

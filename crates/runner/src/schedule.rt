@@ -11,7 +11,7 @@ use crate::entering::wake_from_outside;
 use crate::report::{Report, report_of};
 use crate::stepping::is_local;
 use isa::Image;
-use machine::{Entry, StepFault};
+use machine::{Entry, Event, EventName, StepFault};
 use packed_log::PackedLog;
 use piece_machine::PieceMachine;
 use std::alloc::{AllocError, Global};
@@ -122,7 +122,8 @@ fn take_stray(machine: &mut PieceMachine, number: u64, t: u32) -> Result<Entry, 
     if machine.machine().asleep(t).is_none() {
         return Err(ScheduleFault::BadEntry(number));
     }
-    let event = wake_from_outside(machine, t);
+    let mut event = Event::new(EventName::Local, 0);
+    wake_from_outside(machine, t, &mut event);
     Ok(Entry {
         thread: t,
         local: 0,
@@ -140,8 +141,9 @@ fn take_kill(machine: &mut PieceMachine, number: u64, t: u32) -> Result<Entry, S
         (λ fault. RefusesSchedule machine.old.view.program (parts machine.old) number (Kill t) fault) }
     ensures program { machine.new.view.program ≡ machine.old.view.program }
 {
-    match machine.kill(t) {
-        Ok(event) => Ok(Entry {
+    let mut event = Event::new(EventName::Local, 0);
+    match machine.kill(t, &mut event) {
+        Ok(()) => Ok(Entry {
             thread: t,
             local: 0,
             event: Some(event),
@@ -168,7 +170,8 @@ fn take_step(machine: &mut PieceMachine, t: u32) -> Result<Entry, StepFault>
             event: None,
         });
     }
-    let event = machine.step_as(t, next)?;
+    let mut event = Event::new(EventName::Local, 0);
+    machine.step_as(t, next, &mut event)?;
     Ok(Entry {
         thread: t,
         local: 0,

@@ -19,7 +19,7 @@ ghost use Rattle.runner.specs.Views.{log_state};
 
 use crate::entering::{enter, enter_kill, enter_outside, make_room};
 use crate::fault::RunFault;
-use crate::in_place::{take_entry, take_if_free};
+use crate::in_place::{take_entry, take_if_free, taken_entry};
 use crate::naming::RunName;
 use crate::next::{After, Next};
 use crate::piece::Piece;
@@ -27,7 +27,7 @@ use crate::share::{PARTS, Share};
 use crate::stepping::is_local;
 use isa::Image;
 use locals::{Local, NextStep};
-use machine::{Machine, StepFault};
+use machine::{Event, EventName, Machine, StepFault};
 use packed_log::PackedLog;
 use piece_machine::PieceMachine;
 use robustexit::ExitPhase;
@@ -54,6 +54,8 @@ pub struct Shared<J: RunName> {
     given: u32,
     // Where a thread goes on ahead of the machine while its entry may still be refused.
     ahead: Local,
+    // The event of the last step, in which each step puts its own.
+    event: Event,
 }
 
 impl<J: RunName> Model for Shared<J> {
@@ -97,6 +99,7 @@ impl<J: RunName> Shared<J> {
             rest,
             given: 0,
             ahead: Local::exiting(ExitPhase::Ended),
+            event: Event::new(EventName::Local, 0),
         })
     }
 
@@ -300,17 +303,18 @@ impl<J: RunName> Shared<J> {
             return Err(fault);
         }
         let count = piece.count;
-        let Ok(event) = enter(
+        let Ok(shared) = enter(
             &mut self.machine,
             &mut self.log,
             t,
             &piece.here,
             next,
             count,
+            &mut self.event,
         ) else {
             return Err(RunFault::Memory);
         };
-        self.steps += count + u32::from(event.is_some());
+        self.steps += count + u32::from(shared);
         share.count_one(&mut self.book);
         Ok(())
     }
@@ -339,7 +343,7 @@ impl<J: RunName> Shared<J> {
         if self.steps == self.limit {
             return Err(RunFault::Limit);
         }
-        if enter_outside(&mut self.machine, &mut self.log, t).is_err() {
+        if enter_outside(&mut self.machine, &mut self.log, t, &mut self.event).is_err() {
             return Err(RunFault::Memory);
         }
         self.steps += 1;
@@ -371,7 +375,7 @@ impl<J: RunName> Shared<J> {
         if self.limit == self.steps {
             return Err(RunFault::Limit);
         }
-        if enter_kill(&mut self.machine, &mut self.log, t).is_err() {
+        if enter_kill(&mut self.machine, &mut self.log, t, &mut self.event).is_err() {
             return Err(RunFault::Memory);
         }
         self.steps += 1;
@@ -460,7 +464,8 @@ impl<J: RunName> Shared<J> {
         if make_room(&mut self.machine, &mut self.log).is_err() {
             return Err(RunFault::Memory);
         }
-        let (entry, outcome) = take_entry(&mut self.machine, t);
+        let (taken, outcome) = take_entry(&mut self.machine, t, &mut self.event);
+        let entry = taken_entry(t, taken, &self.event);
         self.log.push_reserved(entry);
         self.steps += entry.local + u32::from(entry.event.is_some());
         share.count_one(&mut self.book);
@@ -488,10 +493,12 @@ impl<J: RunName> Shared<J> {
         if make_room(&mut self.machine, &mut self.log).is_err() {
             return Err(RunFault::Memory);
         }
-        let Some(taken) = take_if_free(&mut self.machine, image, t, &mut self.ahead) else {
+        let machine = &mut self.machine;
+        let Some(made) = take_if_free(machine, image, t, &mut self.ahead, &mut self.event) else {
             return Ok(false);
         };
-        let (entry, outcome) = taken;
+        let (taken, outcome) = made;
+        let entry = taken_entry(t, taken, &self.event);
         self.log.push_reserved(entry);
         self.steps += entry.local + u32::from(entry.event.is_some());
         share.count_one(&mut self.book);

@@ -2,7 +2,7 @@ use crate::failure::Failure;
 use crate::outcome::outcome_of;
 use crate::schedule::Schedule;
 use isa::Image;
-use machine::StepFault;
+use machine::{Event, EventName, StepFault};
 use piece_machine::PieceMachine;
 use std::alloc::{AllocError, Global};
 use std::io;
@@ -143,25 +143,30 @@ fn run_schedule(
 ) -> Result<PieceMachine, Failure> {
     let mut machine = PieceMachine::new(alloc, image, BUCKETS)?;
     let mut schedule = Schedule::new(seed);
+    let mut event = Event::new(EventName::Local, 0);
     for before in 0..bounds.limit {
-        if bounds.wakes_at(before) && wake(&mut machine, &mut schedule)? {
+        if bounds.wakes_at(before) && wake(&mut machine, &mut schedule, &mut event)? {
             continue;
         }
         machine.make_room(1)?;
         let Some(thread) = schedule.next(&machine) else {
             break;
         };
-        machine.step(thread)?;
+        machine.step(thread, &mut event)?;
     }
     Ok(machine)
 }
 
 // Wakes a thread that sleeps from outside; false where none sleeps.
-fn wake(machine: &mut PieceMachine, schedule: &mut Schedule) -> Result<bool, StepFault> {
+fn wake(
+    machine: &mut PieceMachine,
+    schedule: &mut Schedule,
+    event: &mut Event,
+) -> Result<bool, StepFault> {
     let Some(thread) = schedule.next_sleeper(machine) else {
         return Ok(false);
     };
-    machine.stray(thread)?;
+    machine.stray(thread, event)?;
     Ok(true)
 }
 

@@ -3,7 +3,7 @@ ghost use Rattle.piece_machine.specs.PieceConcrete.{can_take};
 ghost use Rattle.piece_machine.specs.PieceViews.{parts};
 
 use isa::Image;
-use machine::{Entry, StepFault};
+use machine::{Entry, Event, EventName, StepFault};
 use piece_machine::PieceMachine;
 use std::alloc::{AllocError, Global};
 use test_schedules::{SORTS, Sequence, draw_mover, draw_sleeper};
@@ -19,8 +19,9 @@ fn take_turn(machine: &mut PieceMachine, thread: u32, most: u32) -> Result<Entry
     let event = if local == most {
         None
     } else {
-        match machine.step(thread) {
-            Ok(event) => Some(event),
+        let mut event = Event::new(EventName::Local, 0);
+        match machine.step(thread, &mut event) {
+            Ok(()) => Some(event),
             Err(StepFault::CannotMove) => None,
             Err(fault) => return Err(fault),
         }
@@ -83,7 +84,8 @@ impl Outside {
 // Wakes a thread that is drawn among those that sleep from outside; None where none sleeps.
 fn wake(machine: &mut PieceMachine, sequence: &mut Sequence) -> Option<Entry> {
     let thread = draw_sleeper(machine.machine(), sequence)?;
-    let event = machine.stray(thread).ok()?;
+    let mut event = Event::new(EventName::Local, 0);
+    machine.stray(thread, &mut event).ok()?;
     Some(Entry {
         thread,
         local: 0,
@@ -94,7 +96,8 @@ fn wake(machine: &mut PieceMachine, sequence: &mut Sequence) -> Option<Entry> {
 // Kills a thread, of those that are made each in turn.
 fn kill(machine: &mut PieceMachine, turn: u32) -> Option<Entry> {
     let thread = turn % machine.machine().threads() + 1;
-    let event = machine.kill(thread).ok()?;
+    let mut event = Event::new(EventName::Local, 0);
+    machine.kill(thread, &mut event).ok()?;
     Some(Entry {
         thread,
         local: 0,

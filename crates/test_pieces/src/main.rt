@@ -20,7 +20,7 @@ use crate::failure::Failure;
 use crate::show::{show_movers, show_refusal, show_step};
 use buckets::Buckets;
 use isa::{Image, decode};
-use machine::{Event, StepFault};
+use machine::{Event, EventName, StepFault};
 use piece_machine::PieceMachine;
 use std::alloc::Global;
 use std::io;
@@ -65,11 +65,15 @@ fn take_word<R: Print>(rt: &R, machine: &mut PieceMachine, word: &str) -> Result
     }
     if let Some(sleeper) = word.strip_prefix('s') {
         let thread = number(sleeper)?;
-        return show_outside(rt, thread, machine.stray(thread));
+        let mut event = Event::new(EventName::Local, 0);
+        let outcome = machine.stray(thread, &mut event);
+        return show_outside(rt, thread, outcome, &event);
     }
     if let Some(killed) = word.strip_prefix('k') {
         let thread = number(killed)?;
-        return show_outside(rt, thread, machine.kill(thread));
+        let mut event = Event::new(EventName::Local, 0);
+        let outcome = machine.kill(thread, &mut event);
+        return show_outside(rt, thread, outcome, &event);
     }
     if let Some(asked) = word.strip_prefix('r') {
         return show_next(rt, machine, number(asked)?);
@@ -107,10 +111,11 @@ fn run_locally<R: Print>(
 fn show_outside<R: Print>(
     rt: &R,
     thread: u32,
-    outcome: Result<Event, StepFault>,
+    outcome: Result<(), StepFault>,
+    event: &Event,
 ) -> Result<(), Failure> {
     match outcome {
-        Ok(event) => show_step(rt, thread, event)?,
+        Ok(()) => show_step(rt, thread, event)?,
         Err(fault) => show_refusal(rt, thread, fault)?,
     }
     Ok(())
@@ -146,10 +151,11 @@ fn take_steps<R: Print>(
     thread: u32,
     steps: u32,
 ) -> Result<(), Failure> {
+    let mut event = Event::new(EventName::Local, 0);
     for _ in 0..steps {
         machine.make_room(1)?;
-        match machine.step(thread) {
-            Ok(event) => show_step(rt, thread, event)?,
+        match machine.step(thread, &mut event) {
+            Ok(()) => show_step(rt, thread, &event)?,
             Err(fault) => {
                 show_refusal(rt, thread, fault)?;
                 return Ok(());

@@ -3,7 +3,7 @@ use piece_machine::PieceMachine;
 use std::io;
 
 /// Prints a step of a thread, unless it is a local one.
-pub fn show_step<R: Print>(rt: &R, thread: u32, event: Event) -> io::Result<()> {
+pub fn show_step<R: Print>(rt: &R, thread: u32, event: &Event) -> io::Result<()> {
     if event.name == EventName::Local {
         return Ok(());
     }

@@ -26,7 +26,7 @@ returns-in_ok-take_kill-clause-told c = λ _ p own w events along.
     let new = parts c.take_kill.new.machine in
     let s = whole_of p new in
     let word = (machine_state k.concrete).word in
-    let event = c.args.event in
+    let event = c.args.event.now in
     let g = along.source in
     let begins = c.if-event-eq1.true in
     let gives = subst (λ (i : Image). kill_piece i k t ≡ Ok (new, event)) own
@@ -55,7 +55,7 @@ returns-else-event-eq1-clause-told c = λ _ p own w events along.
     let t = c.args.t in
     let k = parts c.args.machine.now in
     let new = parts c.take_kill.new.machine in
-    let event = c.args.event in
+    let event = c.args.event.now in
     let g = along.source in
     let gives = subst (λ (i : Image). kill_piece i k t ≡ Ok (new, event)) own
     (when_true _ _ c.take_kill.result c.take_kill.ensures.gives c.if-not-take_kill.false) in

@@ -6,6 +6,13 @@ use Rattle.machine.proofs.Steps.{hand_on}
 use Rattle.machine.proofs.Whole.{stands_at, stepped}
 use Rattle.machine.proofs.parts.fork_parts.Goals as goal
 
+pub take_fork-requires-clause-asks : goal.take_fork-requires-clause-asks
+take_fork-requires-clause-asks c =
+    let within : c.args.t ≤ length c.args.threads.now.items = search rules in
+    let x = c.index_mut-local.result.now in
+    c.requires.asks x (stands_at c.args.threads.now.items c.args.t x x c.requires.thread.0 within
+    c.index_mut-local.ensures.value)
+
 pub returns-in_err-child-clause-err : goal.returns-in_err-child-clause-err
 returns-in_err-child-clause-err c =
     let counted : c.len-made.result ≡ length c.args.threads.now.items = search rules in
@@ -22,7 +29,7 @@ returns-in-Some-clause-done c =
     let k = parts_of c.args.shared.now c.args.threads.now.items in
     let counted : c.len-made.result ≡ length c.args.threads.now.items = search rules in
     let within : c.args.t ≤ length c.args.threads.now.items = search rules in
-    let event = c.in_ok-child.event in
+    let event = c.take_fork.new.event in
     stepped c.args.image.now k c.args.t c.len-made.result c.index_mut-local.result.now _
     (stands_at c.args.threads.now.items c.args.t c.index_mut-local.result.now c.index_mut-local.result.now
     c.requires.thread.0 within c.index_mut-local.ensures.value) c.requires.awake counted
@@ -52,5 +59,5 @@ returns-in_default-clause-done c =
       thread = c.take_fork.new.local;
       child =
           c.in_default.is i;
-      event = c.in_ok-child.event;
+      event = c.take_fork.new.event;
     })))

@@ -1,8 +1,7 @@
 -- A step of the thread is one of the machine.
 use Rattle.std.proofs.Common.{◌≤◌, Result, Ok, Err, length, rules, refl, sym, ◌∙◌}
-use Rattle.std.specs.Prelude.{IfOk, IfErr}
+use Rattle.std.specs.Prelude.{OnOk, IfErr}
 use Rattle.locals.specs.Looks.{look}
-use Rattle.machine.specs.declared.event.Event.{Event}
 use Rattle.machine.specs.declared.event.StepFault.{StepFault}
 use Rattle.machine.specs.Views.{parts_of}
 use Rattle.machine.proofs.Whole.{stands_at, made_at, stepped, told_there}
@@ -36,13 +35,13 @@ pub fork_parts-requires-clause-asks : goal.fork_parts-requires-clause-asks
 fork_parts-requires-clause-asks c = λ x at.
     forks_when (look c.args.image.now c.args.t x) _ _ c.in-Fork.has_room (sym (c.requires.next x at) ∙ c.in-Fork.is)
 
-if_ok : (r : Result Event StepFault) (P Q : Event → Type 0) → ((e : Event) → P e → Q e) → IfOk r P → IfOk r Q
-if_ok (Ok e) P Q f h = f e h
-if_ok (Err g) P Q f h = tt
+on_ok : {A : Type 0} (r : Result A StepFault) (P Q : Type 0) → (P → Q) → OnOk r P → OnOk r Q
+on_ok (Ok u) P Q f h = f h
+on_ok (Err g) P Q f h = tt
 
-if_err : (r : Result Event StepFault) (P Q : StepFault → Type 0) → ((g : StepFault) → P g → Q g) → IfErr r P
+if_err : {A : Type 0} (r : Result A StepFault) (P Q : StepFault → Type 0) → ((g : StepFault) → P g → Q g) → IfErr r P
     → IfErr r Q
-if_err (Ok e) P Q f h = tt
+if_err (Ok u) P Q f h = tt
 if_err (Err g) P Q f h = f g h
 
 pub returns-in-Local-clause-done : goal.returns-in-Local-clause-done
@@ -61,8 +60,8 @@ returns-in-Shared-clause-done c =
     let x = c.index_mut-in-Shared.result.now in
     let stands = stands_at c.args.threads.now.items c.args.t x x c.requires.thread.0 within
     c.index_mut-in-Shared.ensures.value in
-    if_ok c.take_request.result _ _
-    (λ e done. stepped c.args.image.now k c.args.t (length k.threads) x _ stands c.requires.awake refl
+    on_ok c.take_request.result _ _
+    (λ done. stepped c.args.image.now k c.args.t (length k.threads) x _ stands c.requires.awake refl
     (done (length k.threads))) c.take_request.ensures.done
 
 pub returns-in-Shared-clause-err : goal.returns-in-Shared-clause-err

@@ -23,9 +23,9 @@ step_as-requires-clause-next c =
 pub returns-clause-gives : goal.returns-clause-gives
 returns-clause-gives c =
     step_end c.args.machine.now.view.program (parts c.args.machine.now) c.args.t c.args.here.now
-    (parts c.step_as.new.self) c.in-Ok.event
+    (parts c.step_as.new.self) c.step_as.new.event
     (c.if-turn.ensures (look c.args.machine.now.view.program c.args.t c.args.here.now) c.requires.next)
-    (subst (λ (m : MachineView). piece_of m.view.program (parts m) c.args.t ≡ Ok (parts c.step_as.new.self, c.in-Ok.event))
+    (subst (λ (m : MachineView). piece_of m.view.program (parts m) c.args.t ≡ Ok (parts c.step_as.new.self, c.step_as.new.event))
     c.copy_local.ensures c.in-Ok.ensures.done)
 
 pub returns-then-turn-clause-gives : goal.returns-then-turn-clause-gives

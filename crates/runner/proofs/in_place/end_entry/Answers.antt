@@ -25,7 +25,7 @@ pub returns-in-Ok-clause-enters : goal.returns-in-Ok-clause-enters
 returns-in-Ok-clause-enters c =
     let m = c.args.machine.now in
     let p = m.view.program in
-    λ k w. step_enters p k (parts m) (parts c.step_as.new.self) c.args.t c.args.local c.in-Ok.event w
+    λ k w. step_enters p k (parts m) (parts c.step_as.new.self) c.args.t c.args.local c.step_as.new.event w
     (sym (c.if-is_local.ensures (look p c.args.t w.here)
     (c.requires.next w.here (walked_there p k (parts m) c.args.t c.args.local w))))
     c.in-Ok.ensures.done

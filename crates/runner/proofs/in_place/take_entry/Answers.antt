@@ -7,7 +7,7 @@ use Rattle.locals.specs.Threads.{Thread}
 use Rattle.machine.specs.States.{thread_of}
 use Rattle.machine.specs.Views.{View, concrete}
 use Rattle.piece_machine.specs.PieceViews.{parts}
-use Rattle.runner.specs.Entries.{BreaksAfter}
+use Rattle.runner.specs.Entries.{BreaksAfter, taken_entry}
 use Rattle.runner.specs.Logs.{EntersOwn}
 use Rattle.runner.specs.Reports.{IsHeldUp}
 use Rattle.runner.proofs.Walking.{if_err, walk_waits, walked_as, walked_awake, walked_made, walked_on}
@@ -42,7 +42,8 @@ returns-clause-enters c =
     let same = ap (λ (w : View). w.program) c.run_local-local.ensures.runs.after in
     let w = walked_on old mid c.args.t c.run_local-local.result c.requires.thread c.run_local-local.ensures.runs
     c.run_local-local.ensures.phases in
-    subst (λ (q : Program). EntersOwn q (parts old) c.end_entry.result.0 (parts c.end_entry.new.machine)) same
+    subst (λ (q : Program). EntersOwn q (parts old) (taken_entry c.args.t c.end_entry.result.0 c.end_entry.new.event)
+    (parts c.end_entry.new.machine)) same
     (c.end_entry.ensures.enters (parts old)
     (walked_as old.view.program mid.view.program (parts old) (parts mid) c.args.t c.run_local-local.result same w))
 

@@ -2,7 +2,7 @@
 use Rattle.std.proofs.Common.{◌∙◌, ap, arith, refl, subst, sym}
 use Rattle.isa.specs.Programs.{Program}
 use Rattle.piece_machine.specs.PieceViews.{parts}
-use Rattle.runner.specs.Entries.{BreaksAfter, entry_end}
+use Rattle.runner.specs.Entries.{BreaksAfter, entry_end, taken_entry}
 use Rattle.runner.specs.Logs.{EntersOwn}
 use Rattle.runner.proofs.Waiting.{none_free}
 use Rattle.runner.proofs.Walking.{free_ahead, goes_ahead, goes_there, held_ahead, if_err, looked, next_there, walked_after}
@@ -84,7 +84,8 @@ returns-clause-enters c =
     let new = c.catch_up.new.machine in
     let w = walked_after m new c.args.t n s.result.1 s.new.ahead c.requires.thread l c.catch_up.ensures.some
     c.catch_up.ensures.none in
-    subst (λ (q : Program). EntersOwn q (parts m) c.end_entry.result.0 (parts c.end_entry.new.machine))
+    subst (λ (q : Program). EntersOwn q (parts m) (taken_entry c.args.t c.end_entry.result.0 c.end_entry.new.event)
+    (parts c.end_entry.new.machine))
     c.catch_up.ensures.program
     (c.end_entry.ensures.enters (parts m)
     (walked_as m.view.program new.view.program (parts m) (parts new) c.args.t n c.catch_up.ensures.program w))

@@ -68,17 +68,17 @@ returns-clause-ok c =
     → c.next_step-next.result ≡ next_step_of (look w.program c.args.t x)) c.machine.ensures.shows
     c.next_step-next.ensures u.thread u.stands in
     let shared = sym (c.if-is_local.ensures (look p c.args.t u.thread) is) in (
-      step_enters p (parts old) (parts old) (parts c.step_as.new.self) c.args.t 0 c.in_ok-event.event
-          (walked_none p (parts old) c.args.t u.thread u.stands moves shared) shared c.in_ok-event.ensures.done,
+      step_enters p (parts old) (parts old) (parts c.step_as.new.self) c.args.t 0 c.step_as.new.event
+          (walked_none p (parts old) c.args.t u.thread u.stands moves shared) shared c.in_ok-step_as.ensures.done,
       refl,
       refl,
     )
 
-pub returns-in_err-event-clause-err : goal.returns-in_err-event-clause-err
-returns-in_err-event-clause-err c =
+pub returns-in_err-step_as-clause-err : goal.returns-in_err-step_as-clause-err
+returns-in_err-step_as-clause-err c =
     let old = c.args.machine.now in
     let p = err_from_is_err_and c.from_residual.result c.from_residual.ensures.1 in
     let broken : piece_of old.view.program (parts old) c.args.t ≡ Err Broken =
-    only_broken old.view.program (parts old) c.args.t c.in_err-event.field-0.0 c.machine.ensures.fit
-    c.requires.thread c.in_err-event.ensures.err.0 in
+    only_broken old.view.program (parts old) c.args.t c.in_err-step_as.field-0.0 c.machine.ensures.fit
+    c.requires.thread c.in_err-step_as.ensures.err.0 in
     rw p.1 broken

@@ -14,8 +14,8 @@ use Rattle.machine.proofs.Determines.{left, left_is, left_threads, value_of}
 use Rattle.machine.proofs.common.Common.leave.Goals.{in-LastWake, in_default}
 use Rattle.machine.proofs.common.Common.leave.Goals as goal
 
-pub with_threads-event-requires-clause-woken : goal.with_threads-event-requires-clause-woken
-with_threads-event-requires-clause-woken c =
+pub put_with-requires-clause-woken : goal.put_with-requires-clause-woken
+put_with-requires-clause-woken c =
     rw c.as_slice.ensures (left_threads c.self.inside.buckets c.exit_step-next.new.buckets
     (wake_word c.args.t c.args.phase (word_of c.self.inside.words)) c.exit_step-next.result.1.threads
     c.self.invariant.sound.agree
@@ -50,9 +50,9 @@ returns-clause-gives c =
     c.self.invariant.sound.agree within x.step x.front x.words
     ∙ (λ i. left c.exit_step-next.new.mem c.exit_step-next.new.buckets o c.args.phase c.exit_step-next.result.0
     (sym value i) c.exit_step-next.result.1.threads)
-    ∙ (let told : c.with_threads-event.result
+    ∙ (let told : c.put_with.new.self
     ≡ event_of (name_at c.args.phase) c.match-phase.value c.exit_step-next.result.1.threads [] =
-    c.with_threads-event.ensures
+    c.put_with.ensures
     ∙ (λ i. event_of (c.name_of.ensures i) c.match-phase.value (c.as_slice.ensures i) []) in
     λ i. record {
       common = common_of c.exit_step-next.new.mem c.exit_step-next.new.buckets o;

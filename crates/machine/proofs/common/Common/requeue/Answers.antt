@@ -7,14 +7,14 @@ use Rattle.machine.specs.Views.{common}
 use Rattle.machine.proofs.Queues.{woken_threads, moved_threads, requeue_gives}
 use Rattle.machine.proofs.common.Common.requeue.Goals as goal
 
-pub with_threads-requires-clause-woken : goal.with_threads-requires-clause-woken
-with_threads-requires-clause-woken c =
+pub put_with-requires-clause-woken : goal.put_with-requires-clause-woken
+put_with-requires-clause-woken c =
     let r = c.in-Ok.ensures in
     woken_threads c.self.inside.buckets c.args.a.0 c.args.wake c.as_slice-woken.result.now r.sound.0
     c.self.invariant.places (c.as_slice-woken.ensures ∙ r.woken)
 
-pub with_threads-requires-clause-moved : goal.with_threads-requires-clause-moved
-with_threads-requires-clause-moved c =
+pub put_with-requires-clause-moved : goal.put_with-requires-clause-moved
+put_with-requires-clause-moved c =
     let r = c.in-Ok.ensures in
     moved_threads c.self.inside.buckets c.args.a.0 c.args.b.0 c.args.wake c.args.moves c.as_slice-moved.result.now
     r.sound.0 c.self.invariant.places (c.as_slice-moved.ensures ∙ r.moved)
@@ -26,8 +26,8 @@ returns-clause-gives c = λ made t.
     (sym c.self.view_is)
     ∙ requeue_gives c.self.inside.words c.self.inside.buckets c.cmp_requeue.new.buckets c.self.inside.output.items
     c.args.a.0 c.args.b.0 c.args.wake c.args.moves c.args.expected c.in-Ok.requeued.woken c.in-Ok.requeued.moved
-    c.count-count.result c.with_threads.result
+    c.count-count.result c.put_with.new.self
     c.in_ok-check_address.ensures.inside c.in_ok-check_address-2.ensures.inside r.call r.woken r.moved r.rest r.last
     r.others c.count-count.ensures
-    (c.with_threads.ensures ∙
+    (c.put_with.ensures ∙
     (λ i. event_of name.Requeue c.count-count.result (c.as_slice-woken.ensures i) (c.as_slice-moved.ensures i)))

@@ -39,5 +39,5 @@ returns-clause-done c =
         common = sym c.drop_sleeper.ensures.dropped i;
         threads = slice_set k.threads (c.args.t - 1) (sym c.kill.ensures i);
       },
-      sym c.new-2.ensures i,
+      sym c.put-2.ensures i,
     ))))

@@ -1,10 +1,9 @@
 -- What always holds is kept, and the room falls by what was printed.
 use Rattle.std.proofs.Common.{◌≡◌, ◌+◌, ◌-◌, length, Some, Result, Ok, Err, ap, sym, subst, arith}
-use Rattle.std.specs.Prelude.{IfOk, OnErr}
+use Rattle.std.specs.Prelude.{OnOk, OnErr}
 use Rattle.locals.specs.Threads.{Thread}
 use Rattle.locals.specs.Looks.{look}
 use Rattle.locals.specs.Requests.{next_step_of}
-use Rattle.machine.specs.declared.event.Event.{Event}
 use Rattle.machine.specs.declared.event.StepFault.{StepFault}
 use Rattle.machine.specs.States.{thread_at}
 use Rattle.machine.specs.Views.{View, parts_of, printed_by}
@@ -17,8 +16,8 @@ step_parts-requires-clause-next c =
     subst (λ (v : View). (x : Thread) → thread_at v.threads c.args.t ≡ Some x
     → c.args.next ≡ next_step_of (look v.program c.args.t x)) (sym c.self.view_is) c.requires.next
 
-on_err : (r : Result Event StepFault) (A B C : Type 0) → (A → B → C) → OnErr r (A × B) → OnErr r C
-on_err (Ok e) A B C f h = tt
+on_err : {U : Type 0} (r : Result U StepFault) (A B C : Type 0) → (A → B → C) → OnErr r (A × B) → OnErr r C
+on_err (Ok u) A B C f h = tt
 on_err (Err g) A B C f h = f h.0 h.1
 
 pub invariant_of-self : goal.invariant_of-self
@@ -26,14 +25,14 @@ invariant_of-self c =
     let s = c.step_parts.ensures in
     let k = parts_of c.self.inside.common c.self.inside.threads.items in
     let k' = parts_of c.step_parts.new.shared c.step_parts.new.threads.items in (
-      kept_after c.self.inside.image k k' c.args.t c.step_parts.result c.self.invariant.0 s.done
+      kept_after c.self.inside.image k k' c.args.t c.step_parts.result c.step_parts.new.event c.self.invariant.0 s.done
           (on_err c.step_parts.result _ _ (k' ≡ k) (λ v t i. parts_of (v i) (t i)) s.same),
       omega (arith, s.space, c.self.invariant.1),
     )
 
-if_ok : (r : Result Event StepFault) (P Q : Event → Type 0) → ((e : Event) → P e → Q e) → IfOk r P → IfOk r Q
-if_ok (Ok e) P Q f h = f e h
-if_ok (Err g) P Q f h = tt
+on_ok : {U : Type 0} (r : Result U StepFault) (P Q : Type 0) → (P → Q) → OnOk r P → OnOk r Q
+on_ok (Ok u) P Q f h = f h
+on_ok (Err g) P Q f h = tt
 
 pub returns-clause-room : goal.returns-clause-room
 returns-clause-room c =
@@ -43,7 +42,8 @@ returns-clause-room c =
     let k = parts_of old c.self.inside.threads.items in
     let k' = parts_of new c.step_parts.new.threads.items in
     let was : c.args.self.now.room ≡ old.capacity - length old.output = ap (λ v. v.room) (sym c.self.view_is) in
-    if_ok c.step_parts.result _ _ (λ e done.
+    let e = c.step_parts.new.event in
+    on_ok c.step_parts.result _ _ (λ done.
     let more : length new.output ≡ length old.output + printed_by e =
     printed_so c.self.inside.image k k' c.args.t e done in
     omega (arith, was, more, at_most_one e, s.capacity, c.requires.room)) s.done

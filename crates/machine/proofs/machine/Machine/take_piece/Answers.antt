@@ -34,7 +34,8 @@ invariant_of-self c =
     let p = c.call_piece.ensures in
     let makes : MakesCall v c.args.t c.args.call =
     subst (λ (q : View). MakesCall q c.args.t c.args.call) (sym c.self.view_is) c.requires.makes in (
-      well_so v v' c.args.t c.args.call c.args.phase c.call_piece.result makes c.self.invariant.0
+      well_so v v' c.args.t c.args.call c.args.phase c.call_piece.result c.call_piece.new.event makes
+          c.self.invariant.0
           (record { words = p.words; output = p.output; count = p.count }) refl p.sound p.piece,
       c.self.invariant.1,
     )
@@ -65,9 +66,10 @@ returns-in-Next-clause-piece c =
     let lies : LiesIn (length v.words) c.args.call =
     subst (λ (q : View). LiesIn (length q.words) c.args.call) (sym c.self.view_is) c.requires.lies in
     subst (λ (q : View). (phases : ℕ → FutexPhase) (x : Thread) → phases c.args.t ≡ c.args.phase
-    → thread_of (concrete q) c.args.t ≡ Some x → DoesPiece q phases c.args.t c.args.call x (Next c.in-Next.next) v')
+    → thread_of (concrete q) c.args.t ≡ Some x → DoesPiece q phases c.args.t c.args.call x (Next c.in-Next.next)
+    c.call_piece.new.event v')
     c.self.view_is
-    (next_so v v' c.args.t c.args.call c.args.phase c.in-Next.next makes lies
+    (next_so v v' c.args.t c.args.call c.args.phase c.in-Next.next c.call_piece.new.event makes lies
     (record { words = p.words; output = p.output; count = p.count }) refl c.in-Next.ensures.piece)
 
 pub returns-in-Blocked-clause-piece : goal.returns-in-Blocked-clause-piece
@@ -93,9 +95,10 @@ returns-in-Blocked-clause-piece c =
     let lies : LiesIn (length v.words) c.args.call =
     subst (λ (q : View). LiesIn (length q.words) c.args.call) (sym c.self.view_is) c.requires.lies in
     subst (λ (q : View). (phases : ℕ → FutexPhase) (x : Thread) → phases c.args.t ≡ c.args.phase
-    → thread_of (concrete q) c.args.t ≡ Some x → DoesPiece q phases c.args.t c.args.call x Blocked v')
+    → thread_of (concrete q) c.args.t ≡ Some x → DoesPiece q phases c.args.t c.args.call x Blocked
+    c.call_piece.new.event v')
     c.self.view_is
-    (blocked_so v v' c.args.t c.args.call c.args.phase makes lies
+    (blocked_so v v' c.args.t c.args.call c.args.phase c.call_piece.new.event makes lies
     (record { words = p.words; output = p.output; count = p.count }) refl refl
     (λ same. λ i. record v {
       words = p.words i;
@@ -136,7 +139,7 @@ go_on-requires c =
     let here : c.index_mut.result.now ≡ makes.thread =
     one_thread _ _ (sym (stands_at v.threads c.args.t c.index_mut.result.now c.index_mut.result.now place.some
     place.few c.index_mut.ensures.value) ∙ makes.stands) in
-    rw (here, makes.asks) (can_be_answered c.args.call makes.go c.in-Done.served.answer)
+    rw (here, makes.asks) (can_be_answered c.args.call makes.go c.in-Done.answer)
 
 pub invariant_of-self-in-Done : goal.invariant_of-self-in-Done
 invariant_of-self-in-Done c =
@@ -158,7 +161,8 @@ invariant_of-self-in-Done c =
     let p = c.call_piece.ensures in
     let makes : MakesCall v c.args.t c.args.call =
     subst (λ (q : View). MakesCall q c.args.t c.args.call) (sym c.self.view_is) c.requires.makes in (
-      well_so v v' c.args.t c.args.call c.args.phase c.call_piece.result makes c.self.invariant.0
+      well_so v v' c.args.t c.args.call c.args.phase c.call_piece.result c.call_piece.new.event makes
+          c.self.invariant.0
           (record { words = p.words; output = p.output; count = p.count })
           (length-set v.threads (c.args.t - 1) c.go_on.new.self) p.sound p.piece,
       c.self.invariant.1,
@@ -194,15 +198,16 @@ returns-in-Done-clause-piece c =
     let here : c.index_mut.result.now ≡ makes.thread =
     one_thread _ _ (sym (stands_at v.threads c.args.t c.index_mut.result.now c.index_mut.result.now place.some
     place.few c.index_mut.ensures.value) ∙ makes.stands) in
-    let served = c.in-Done.served in
-    let went : c.go_on.new.self ≡ makes.go served.answer =
+    let answer = c.in-Done.answer in
+    let went : c.go_on.new.self ≡ makes.go answer =
     c.go_on.ensures
-    ∙ ap (λ (y : Thread). after_answer (look c.self.inside.image c.args.t y) served.answer y) here
-    ∙ ap (λ l. after_answer l served.answer makes.thread) makes.asks in
+    ∙ ap (λ (y : Thread). after_answer (look c.self.inside.image c.args.t y) answer y) here
+    ∙ ap (λ l. after_answer l answer makes.thread) makes.asks in
     subst (λ (q : View). (phases : ℕ → FutexPhase) (x : Thread) → phases c.args.t ≡ c.args.phase
-    → thread_of (concrete q) c.args.t ≡ Some x → DoesPiece q phases c.args.t c.args.call x (Done served.event) v')
+    → thread_of (concrete q) c.args.t ≡ Some x → DoesPiece q phases c.args.t c.args.call x Done
+    c.call_piece.new.event v')
     c.self.view_is
-    (done_so v v' c.args.t c.args.call c.args.phase served makes lies
+    (done_so v v' c.args.t c.args.call c.args.phase answer c.call_piece.new.event makes lies
     (record { words = p.words; output = p.output; count = p.count })
     (ap (slice_set v.threads (c.args.t - 1)) went) c.in-Done.ensures.piece)
 
@@ -218,8 +223,10 @@ returns-in-Next-clause-order c =
     } in
     let after = c.call_piece.new.self in
     let v' : View = record v { words = after.words; sleepers = after.sleepers; output = after.output } in
-    subst (λ (q : View). QueuesSo q.sleepers c.args.t c.args.call c.args.phase (Next c.in-Next.next) v'.sleepers)
-    c.self.view_is (next_order v v' c.args.t c.args.call c.args.phase c.in-Next.next c.in-Next.ensures.piece)
+    subst (λ (q : View). QueuesSo q.sleepers c.args.t c.args.call c.args.phase (Next c.in-Next.next)
+    c.call_piece.new.event v'.sleepers)
+    c.self.view_is (next_order v v' c.args.t c.args.call c.args.phase c.in-Next.next c.call_piece.new.event
+    c.in-Next.ensures.piece)
 
 pub returns-in-Blocked-clause-order : goal.returns-in-Blocked-clause-order
 returns-in-Blocked-clause-order c =
@@ -233,8 +240,9 @@ returns-in-Blocked-clause-order c =
     } in
     let after = c.call_piece.new.self in
     let v' : View = record v { words = after.words; sleepers = after.sleepers; output = after.output } in
-    subst (λ (q : View). QueuesSo q.sleepers c.args.t c.args.call c.args.phase (Blocked) v'.sleepers)
-    c.self.view_is (blocked_order v v' c.args.t c.args.call c.args.phase c.in-Blocked.ensures.piece)
+    subst (λ (q : View). QueuesSo q.sleepers c.args.t c.args.call c.args.phase Blocked
+    c.call_piece.new.event v'.sleepers)
+    c.self.view_is (blocked_order v v' c.args.t c.args.call c.args.phase c.call_piece.new.event c.in-Blocked.ensures.piece)
 
 pub returns-in-Done-clause-order : goal.returns-in-Done-clause-order
 returns-in-Done-clause-order c =
@@ -248,5 +256,6 @@ returns-in-Done-clause-order c =
     } in
     let after = c.call_piece.new.self in
     let v' : View = record v { words = after.words; sleepers = after.sleepers; output = after.output } in
-    subst (λ (q : View). QueuesSo q.sleepers c.args.t c.args.call c.args.phase (Done c.in-Done.served.event) v'.sleepers)
-    c.self.view_is (done_order v v' c.args.t c.args.call c.args.phase c.in-Done.served c.in-Done.ensures.piece)
+    subst (λ (q : View). QueuesSo q.sleepers c.args.t c.args.call c.args.phase Done
+    c.call_piece.new.event v'.sleepers)
+    c.self.view_is (done_order v v' c.args.t c.args.call c.args.phase c.in-Done.answer c.call_piece.new.event c.in-Done.ensures.piece)

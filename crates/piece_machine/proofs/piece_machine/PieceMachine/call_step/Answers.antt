@@ -56,7 +56,8 @@ invariant_of-self c =
     subst (λ (phs : List FutexPhase). IsKept v' phs) (sym c.put.ensures)
     (kept_step v v' ph (slice_set ph c.args.t c.in-Next.next) c.args.t _ c.self.invariant e.program
     (length-set ph c.args.t c.in-Next.next)
-    (taken_next v v' ph c.args.t c.args.call c.at-phase.result c.in-Next.next c.self.invariant m
+    (taken_next v v' ph c.args.t c.args.call c.at-phase.result c.in-Next.next
+    c.take_piece.new.event c.self.invariant m
     c.if-not-has_words.ensures awake at e.order (e.piece (phase_in ph) m.thread at m.stands)))
 
 pub returns-in-Next-clause-done : goal.returns-in-Next-clause-done
@@ -69,11 +70,12 @@ returns-in-Next-clause-done c =
     subst (λ (q : PieceView). (pieces q).base.asleep c.args.t ≡ None) (sym c.self.view_is) c.requires.awake in
     let at = sym c.at-phase.ensures in
     let e = c.in-Next.ensures in
-    let told : told_next (takes_at (bucket_count v.sleepers) c.at-phase.result c.args.call) c.args.call ≡ c.told.result =
-    ap (λ o. told_next o c.args.call) (sym c.next_bucket-bucket.ensures) ∙ sym c.told.ensures in
+    let told : told_next (takes_at (bucket_count v.sleepers) c.at-phase.result c.args.call) c.args.call ≡ c.tell.new.event =
+    ap (λ o. told_next o c.args.call) (sym c.next_bucket-bucket.ensures) ∙ sym c.tell.ensures in
     subst (λ (q : PieceView). piece_of q.view.program (parts q) c.args.t
-    ≡ (let o : Outcome = Ok (parts (record { view = v'; phases = c.put.new.self }), c.told.result) in o)) c.self.view_is
-    (taken_next v v' ph c.args.t c.args.call c.at-phase.result c.in-Next.next c.self.invariant m
+    ≡ (let o : Outcome = Ok (parts (record { view = v'; phases = c.put.new.self }), c.tell.new.event) in o)) c.self.view_is
+    (taken_next v v' ph c.args.t c.args.call c.at-phase.result c.in-Next.next
+    c.take_piece.new.event c.self.invariant m
     c.if-not-has_words.ensures awake at e.order (e.piece (phase_in ph) m.thread at m.stands)
     ∙ (λ i. Ok (parts (record { view = v'; phases = sym c.put.ensures i }), told i)))
 
@@ -114,9 +116,9 @@ invariant_of-self-in-Done c =
     let at = sym c.at-phase.ensures in
     let e = c.in-Done.ensures in
     subst (λ (phs : List FutexPhase). IsKept v' phs) (sym c.put-in-Done.ensures)
-    (kept_step v v' ph (slice_set ph c.args.t First) c.args.t c.in-Done.event c.self.invariant e.program
+    (kept_step v v' ph (slice_set ph c.args.t First) c.args.t c.take_piece.new.event c.self.invariant e.program
     (length-set ph c.args.t First)
-    (taken_done v v' ph c.args.t c.args.call c.at-phase.result c.in-Done.event c.self.invariant m
+    (taken_done v v' ph c.args.t c.args.call c.at-phase.result c.take_piece.new.event c.self.invariant m
     c.if-not-has_words.ensures awake at (subst (λ (p : Program). IsWellFormed p (concrete v')) e.program e.holds) e.order
     (e.piece (phase_in ph) m.thread at m.stands)))
 
@@ -131,9 +133,9 @@ returns-in-Done-clause-done c =
     let at = sym c.at-phase.ensures in
     let e = c.in-Done.ensures in
     subst (λ (q : PieceView). piece_of q.view.program (parts q) c.args.t
-    ≡ (let o : Outcome = Ok (parts (record { view = v'; phases = c.put-in-Done.new.self }), c.in-Done.event)
+    ≡ (let o : Outcome = Ok (parts (record { view = v'; phases = c.put-in-Done.new.self }), c.take_piece.new.event)
     in o)) c.self.view_is
-    (taken_done v v' ph c.args.t c.args.call c.at-phase.result c.in-Done.event c.self.invariant m
+    (taken_done v v' ph c.args.t c.args.call c.at-phase.result c.take_piece.new.event c.self.invariant m
     c.if-not-has_words.ensures awake at (subst (λ (p : Program). IsWellFormed p (concrete v')) e.program e.holds) e.order
     (e.piece (phase_in ph) m.thread at m.stands)
-    ∙ (λ i. Ok (parts (record { view = v'; phases = sym c.put-in-Done.ensures i }), c.in-Done.event)))
+    ∙ (λ i. Ok (parts (record { view = v'; phases = sym c.put-in-Done.ensures i }), c.take_piece.new.event)))

@@ -19,9 +19,9 @@ invariant_of-self-2 c =
     let v' = c.kill.new.self in
     let ph = c.self.inside.phases in
     let t = c.args.t in
-    let event = c.in_ok-event.event in
+    let event = c.kill.new.event in
     let gave = c.give_up.ensures in
-    let e = c.in_ok-event.ensures in
+    let e = c.in_ok-kill.ensures in
     let calls = subst (λ (q : PieceView). c.call_at-call.result ≡ called q.view.program t (thread_of (concrete q.view) t))
     (sym c.self.view_is) c.call_at-call.ensures in
     let k = parts (record { view = v; phases = ph }) in
@@ -42,9 +42,9 @@ returns-clause-done c =
     let v' = c.kill.new.self in
     let ph = c.self.inside.phases in
     let t = c.args.t in
-    let event = c.in_ok-event.event in
+    let event = c.kill.new.event in
     let gave = c.give_up.ensures in
-    let e = c.in_ok-event.ensures in
+    let e = c.in_ok-kill.ensures in
     let calls = subst (λ (q : PieceView). c.call_at-call.result ≡ called q.view.program t (thread_of (concrete q.view) t))
     (sym c.self.view_is) c.call_at-call.ensures in
     let k = parts (record { view = v; phases = ph }) in

@@ -13,32 +13,32 @@ invariant_of-self-2 c =
     let v = c.self.inside.machine in
     let v' = c.stray.new.self in
     let ph = c.self.inside.phases in
-    let e = c.in_ok-event.ensures in
+    let e = c.in_ok-stray.ensures in
     let k = parts (record { view = v; phases = ph }) in
-    let r = stray_done v.program k (concrete v') c.args.t c.in_ok-event.event (kept_fit v ph c.self.invariant) e.done in
-    let s : Strays v.program (pieces_at k) c.args.t c.in_ok-event.event (pieces (record { view = v'; phases = ph })) =
-    subst (λ (q : PieceConcrete). Strays v.program (pieces_at k) c.args.t c.in_ok-event.event (pieces_at q))
+    let r = stray_done v.program k (concrete v') c.args.t c.stray.new.event (kept_fit v ph c.self.invariant) e.done in
+    let s : Strays v.program (pieces_at k) c.args.t c.stray.new.event (pieces (record { view = v'; phases = ph })) =
+    subst (λ (q : PieceConcrete). Strays v.program (pieces_at k) c.args.t c.stray.new.event (pieces_at q))
     (sym (same_parts v v' ph e.holders)) r.0 in
-    kept_by v v' ph ph (stray_step c.args.t c.in_ok-event.event.value) c.self.invariant e.program e.holds refl s.step
+    kept_by v v' ph ph (stray_step c.args.t c.stray.new.event.value) c.self.invariant e.program e.holds refl s.step
 
 pub returns-clause-done : goal.returns-clause-done
 returns-clause-done c =
     let v = c.self.inside.machine in
     let v' = c.stray.new.self in
     let ph = c.self.inside.phases in
-    let e = c.in_ok-event.ensures in
+    let e = c.in_ok-stray.ensures in
     let k = parts (record { view = v; phases = ph }) in
     subst (λ (q : PieceView). stray_piece (parts q) c.args.t
-    ≡ (let o : Outcome = Ok (parts (record { view = v'; phases = ph }), c.in_ok-event.event) in o))
+    ≡ (let o : Outcome = Ok (parts (record { view = v'; phases = ph }), c.stray.new.event) in o))
     c.self.view_is
-    (ap (whole_at k) e.done ∙ (λ i. Ok (sym (same_parts v v' ph e.holders) i, c.in_ok-event.event)))
+    (ap (whole_at k) e.done ∙ (λ i. Ok (sym (same_parts v v' ph e.holders) i, c.stray.new.event)))
 
-pub returns-in_err-event-clause-err : goal.returns-in_err-event-clause-err
-returns-in_err-event-clause-err c =
+pub returns-in_err-stray-clause-err : goal.returns-in_err-stray-clause-err
+returns-in_err-stray-clause-err c =
     let v = c.self.inside.machine in
     let ph = c.self.inside.phases in
-    let f = c.in_err-event.field-0.0 in
-    let err = c.in_err-event.ensures.err in
+    let f = c.in_err-stray.field-0.0 in
+    let err = c.in_err-stray.ensures.err in
     hand_on c.from_residual.result f _ c.from_residual.ensures.1 (
       subst (λ (q : PieceView). stray_piece (parts q) c.args.t ≡ (let o : Outcome = Err f in o)) c.self.view_is
           (ap (whole_at (parts (record { view = v; phases = ph }))) err.0),

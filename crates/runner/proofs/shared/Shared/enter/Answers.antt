@@ -1,13 +1,18 @@
-use Rattle.std.proofs.Common.{◌≡◌, [], ◌∷◌, length, length-append, sym, subst, ap, ◌∙◌, arith}
+use Rattle.std.proofs.Common.{◌≡◌, Bool, true, false, is_some, refl, [], ◌∷◌, length, length-append, sym, subst, ap, ◌∙◌, arith}
 use mir.Val.{bool_byte}
 use Rattle.locals.specs.Looks.{look}
 use Rattle.locals.specs.Requests.{next_step_of}
 use Rattle.machine.specs.Views.{View}
 use Rattle.piece_machine.specs.PieceViews.{parts}
 use Rattle.runner.specs.Views.{PieceView, LogState, SharedView, log_state}
-use Rattle.runner.specs.Entries.{IsFine}
+use Rattle.machine.specs.declared.event.Event.{Event}
+use Rattle.runner.specs.Entries.{IsFine, event_if}
 use Rattle.runner.proofs.Growing.{entry, keeps}
 use Rattle.runner.proofs.shared.Shared.enter.Goals as goal
+
+is_shared : (shared : Bool) (event : Event) → bool_byte shared ≡ bool_byte (is_some (event_if shared event))
+is_shared true event = refl
+is_shared false event = refl
 
 pub refusal-requires : goal.refusal-requires
 refusal-requires g c =
@@ -35,13 +40,13 @@ invariant_of-self-2 g c =
     subst (λ (x : PieceView). IsFine p limit h c.args.t x) (sym c.piece.view_is)
     (subst (λ (x : SharedView). IsFine p limit (log_state x) c.args.t c.args.piece.now)
     (sym c.self.view_is) c.in_default.ensures.none) in
-    let event = c.in-Ok.event in
+    let event = event_if c.in-Ok.shared c.enter.new.event in
     let counted = c.self.invariant.1 in
     let grows = ap length c.in-Ok.ensures.log in (
       keeps p g.J.RunName.outside s.machine.view.program c.enter.new.machine.view.program limit h c.enter.new.log.items
           (parts c.enter.new.machine) a c.args.t s.steps s.limit s.kills c.from.result event
           c.in-Ok.ensures.program c.self.invariant.0 c.piece.invariant.0 fine c.in-Ok.ensures.gives
-          c.in-Ok.ensures.log (c.from.ensures ∙ ap bool_byte c.is_some.ensures),
+          c.in-Ok.ensures.log (c.from.ensures ∙ is_shared c.in-Ok.shared c.enter.new.event),
       record {
         total = omega (
           arith,
@@ -69,6 +74,6 @@ returns-clause-legal g c =
     (subst (λ (x : SharedView). IsFine p limit (log_state x) c.args.t c.args.piece.now)
     (sym c.self.view_is) c.in_default.ensures.none) in
     (keeps p g.J.RunName.outside s.machine.view.program c.enter.new.machine.view.program limit h c.enter.new.log.items
-    (parts c.enter.new.machine) a c.args.t s.steps s.limit s.kills c.from.result c.in-Ok.event
+    (parts c.enter.new.machine) a c.args.t s.steps s.limit s.kills c.from.result (event_if c.in-Ok.shared c.enter.new.event)
     c.in-Ok.ensures.program c.self.invariant.0 c.piece.invariant.0 fine c.in-Ok.ensures.gives
-    c.in-Ok.ensures.log (c.from.ensures ∙ ap bool_byte c.is_some.ensures)).legal
+    c.in-Ok.ensures.log (c.from.ensures ∙ is_shared c.in-Ok.shared c.enter.new.event)).legal

@@ -20,19 +20,19 @@ invariant_of-self-2 g c =
     let fewer = subst (λ (x : SharedView). kills_in x.log < g.J.RunName.outside.kills) (sym c.self.view_is)
     c.requires.kills in
     let has = only_kill s.machine.view.program (parts s.machine) (parts e.new.machine) g.J.RunName.outside s.log.items e.new.log.items
-    (entry c.args.t 0 (Some took.0)) took.0 fewer refl took.1 took.2 c.self.invariant.0.own in
+    (entry c.args.t 0 (Some e.new.event)) e.new.event fewer refl took.1 took.2 c.self.invariant.0.own in
     let grows = ap length took.2 in (
       keeps_outside g.J.RunName.program g.J.RunName.outside s.machine.view.program e.new.machine.view.program g.J.RunName.limit
           (parts s.machine) (parts e.new.machine) s.log.items e.new.log.items c.args.t s.steps s.limit s.kills
-          (s.kills + 1) took.0 c.self.invariant.0 e.ensures.program (λ e. c.if-self.false (sym e)) (inr took.1) took.2
-          (omega (arith, one_kill s.machine.view.program (parts s.machine) (parts e.new.machine) c.args.t took.0 took.1)) has,
+          (s.kills + 1) e.new.event c.self.invariant.0 e.ensures.program (λ e. c.if-self.false (sym e)) (inr took.1) took.2
+          (omega (arith, one_kill s.machine.view.program (parts s.machine) (parts e.new.machine) c.args.t e.new.event took.1)) has,
       record {
         total = omega (
           arith,
           c.count_one.ensures.total,
           counted.total,
           grows,
-          length-append s.log.items (entry c.args.t 0 (Some took.0) ∷ []),
+          length-append s.log.items (entry c.args.t 0 (Some e.new.event) ∷ []),
         );
         whole = counted.whole;
         unused = counted.unused;
@@ -49,11 +49,11 @@ returns-clause-legal g c =
     let fewer = subst (λ (x : SharedView). kills_in x.log < g.J.RunName.outside.kills) (sym c.self.view_is)
     c.requires.kills in
     let has = only_kill s.machine.view.program (parts s.machine) (parts e.new.machine) g.J.RunName.outside s.log.items e.new.log.items
-    (entry c.args.t 0 (Some took.0)) took.0 fewer refl took.1 took.2 c.self.invariant.0.own in
+    (entry c.args.t 0 (Some e.new.event)) e.new.event fewer refl took.1 took.2 c.self.invariant.0.own in
     (keeps_outside g.J.RunName.program g.J.RunName.outside s.machine.view.program e.new.machine.view.program g.J.RunName.limit
     (parts s.machine) (parts e.new.machine) s.log.items e.new.log.items c.args.t s.steps s.limit s.kills
-    (s.kills + 1) took.0 c.self.invariant.0 e.ensures.program (λ e. c.if-self.false (sym e)) (inr took.1) took.2
-    (omega (arith, one_kill s.machine.view.program (parts s.machine) (parts e.new.machine) c.args.t took.0 took.1)) has).legal
+    (s.kills + 1) e.new.event c.self.invariant.0 e.ensures.program (λ e. c.if-self.false (sym e)) (inr took.1) took.2
+    (omega (arith, one_kill s.machine.view.program (parts s.machine) (parts e.new.machine) c.args.t e.new.event took.1)) has).legal
 
 pub returns-clause-ok : goal.returns-clause-ok
 returns-clause-ok g c =
@@ -66,9 +66,9 @@ returns-clause-ok g c =
     e.ensures.log in
     let new : LogState = record { log = e.new.log.items; concrete = parts e.new.machine } in
     let more : cost e.new.log.items ≡ cost s.log.items + 1 =
-    ap cost took.2 ∙ cost_more s.log.items c.args.t 0 (Some took.0) in
+    ap cost took.2 ∙ cost_more s.log.items c.args.t 0 (Some e.new.event) in
     subst (λ (x : SharedView). TakesKill p limit (log_state x) c.args.t new) c.self.view_is (record {
-      event = took.0;
+      event = e.new.event;
       gives = ap (λ (q : Program). kill_piece q (parts s.machine) c.args.t) (sym v.program) ∙ took.1;
       log = took.2;
       within = omega (arith, more, v.counted, v.within, v.limit_is, c.if-self.false);

@@ -13,19 +13,19 @@ invariant_of-self-2 g c =
     let took = entered _ _ e.result c.is_err.result c.is_err.ensures.value c.if-is_err.false e.ensures.gives
     e.ensures.log in
     let has = only_stray (parts s.machine) (parts e.new.machine) g.J.RunName.outside s.log.items e.new.log.items
-    (entry c.args.t 0 (Some took.0)) took.0 c.requires.strays refl took.1 took.2 c.self.invariant.0.own in
+    (entry c.args.t 0 (Some e.new.event)) e.new.event c.requires.strays refl took.1 took.2 c.self.invariant.0.own in
     let grows = ap length took.2 in (
       keeps_outside g.J.RunName.program g.J.RunName.outside s.machine.view.program e.new.machine.view.program g.J.RunName.limit
           (parts s.machine) (parts e.new.machine) s.log.items e.new.log.items c.args.t s.steps s.limit s.kills
-          s.kills took.0 c.self.invariant.0 e.ensures.program c.if-self.false (inl took.1) took.2
-          (omega (arith, stray_kills (parts s.machine) (parts e.new.machine) c.args.t took.0 took.1)) has,
+          s.kills e.new.event c.self.invariant.0 e.ensures.program c.if-self.false (inl took.1) took.2
+          (omega (arith, stray_kills (parts s.machine) (parts e.new.machine) c.args.t e.new.event took.1)) has,
       record {
         total = omega (
           arith,
           c.count_one.ensures.total,
           counted.total,
           grows,
-          length-append s.log.items (entry c.args.t 0 (Some took.0) ∷ []),
+          length-append s.log.items (entry c.args.t 0 (Some e.new.event) ∷ []),
         );
         whole = counted.whole;
         unused = counted.unused;
@@ -40,8 +40,8 @@ returns-clause-legal g c =
     let took = entered _ _ e.result c.is_err.result c.is_err.ensures.value c.if-is_err.false e.ensures.gives
     e.ensures.log in
     let has = only_stray (parts s.machine) (parts e.new.machine) g.J.RunName.outside s.log.items e.new.log.items
-    (entry c.args.t 0 (Some took.0)) took.0 c.requires.strays refl took.1 took.2 c.self.invariant.0.own in
+    (entry c.args.t 0 (Some e.new.event)) e.new.event c.requires.strays refl took.1 took.2 c.self.invariant.0.own in
     (keeps_outside g.J.RunName.program g.J.RunName.outside s.machine.view.program e.new.machine.view.program g.J.RunName.limit
     (parts s.machine) (parts e.new.machine) s.log.items e.new.log.items c.args.t s.steps s.limit s.kills
-    s.kills took.0 c.self.invariant.0 e.ensures.program c.if-self.false (inl took.1) took.2
-    (omega (arith, stray_kills (parts s.machine) (parts e.new.machine) c.args.t took.0 took.1)) has).legal
+    s.kills e.new.event c.self.invariant.0 e.ensures.program c.if-self.false (inl took.1) took.2
+    (omega (arith, stray_kills (parts s.machine) (parts e.new.machine) c.args.t e.new.event took.1)) has).legal

@@ -2,7 +2,8 @@
 use Rattle.std.proofs.Common.{◌≡◌, true, ◌≤◌, ◌+◌, [], ◌∷◌, length, length-append, ap, sym, subst, ◌∙◌, arith}
 use mir.Val.{bool_byte}
 use Rattle.piece_machine.specs.PieceViews.{parts}
-use Rattle.runner.specs.Logs.{cost}
+use Rattle.machine.specs.declared.event.Entry.{Entry}
+use Rattle.runner.specs.Logs.{EntersOwn, cost}
 use Rattle.machine.specs.ConcreteSteps.{can_move}
 use Rattle.runner.specs.Views.{SharedView, log_state}
 use Rattle.runner.specs.Reports.{CanFail}
@@ -15,17 +16,23 @@ invariant_of-self-2 g c =
     let s = c.self.inside in
     let m = c.make_room in
     let e = c.take_if_free in
-    let taken = c.in-Some.taken in
+    let made = c.in-Some.made in
     let limit = g.J.RunName.limit in
     let room = subst (λ (x : SharedView). cost x.log + 257 ≤ limit) (sym c.self.view_is) c.requires.room in
     let counted = c.self.invariant.1 in
-    let grows = ap length c.push_reserved.ensures.entries in (
+    let grows = ap length c.push_reserved.ensures.entries in
+    let entry = c.taken_entry-entry.result in
+    let enters : EntersOwn m.new.machine.view.program (parts m.new.machine) entry (parts e.new.machine) =
+    subst (λ (x : Entry). EntersOwn m.new.machine.view.program (parts m.new.machine) x (parts e.new.machine))
+    (sym c.taken_entry-entry.ensures) c.in-Some.ensures.enters in
+    let turn : entry.local ≤ 256 =
+    subst (λ (x : Entry). x.local ≤ 256) (sym c.taken_entry-entry.ensures) c.in-Some.ensures.turn in (
       keeps_entry g.J.RunName.program g.J.RunName.outside s.machine.view.program m.new.machine.view.program
           e.new.machine.view.program limit (parts s.machine) (parts m.new.machine)
-          (parts e.new.machine) s.log.items m.new.log.items c.push_reserved.new.self.items taken.0 s.steps
+          (parts e.new.machine) s.log.items m.new.log.items c.push_reserved.new.self.items entry s.steps
           s.limit s.kills c.from.result
-          c.self.invariant.0 room m.ensures.program m.ensures.same.0 m.ensures.same.1 c.in-Some.ensures.program c.in-Some.ensures.enters
-          c.in-Some.ensures.turn c.push_reserved.ensures.entries (c.from.ensures ∙ ap bool_byte c.is_some.ensures),
+          c.self.invariant.0 room m.ensures.program m.ensures.same.0 m.ensures.same.1 c.in-Some.ensures.program enters
+          turn c.push_reserved.ensures.entries (c.from.ensures ∙ ap bool_byte c.is_some.ensures),
       record {
         total = omega (
           arith,
@@ -33,7 +40,7 @@ invariant_of-self-2 g c =
           counted.total,
           grows,
           ap length m.ensures.same.1,
-          length-append m.new.log.items (taken.0 ∷ []),
+          length-append m.new.log.items (entry ∷ []),
         );
         whole = counted.whole;
         unused = counted.unused;
@@ -46,12 +53,12 @@ returns-clause-err g c =
     let s = c.self.inside in
     let m = c.make_room in
     let e = c.take_if_free in
-    let taken = c.in-Some.taken in
+    let made = c.in-Some.made in
     let moves = subst (λ (x : SharedView). can_move (log_state x).concrete.concrete c.args.t ≡ true) (sym c.self.view_is)
     c.requires.thread in
-    and_err (λ fault. CanFail g.J.RunName.program g.J.RunName.outside g.J.RunName.limit fault) taken.1 true c.and.result
+    and_err (λ fault. CanFail g.J.RunName.program g.J.RunName.outside g.J.RunName.limit fault) made.1 true c.and.result
     c.and.ensures
     (breaks_can g.J.RunName.program g.J.RunName.outside s.machine.view.program m.new.machine.view.program
     g.J.RunName.limit (parts s.machine) (parts m.new.machine) s.log.items s.steps s.limit s.kills c.args.t
-    taken.0.local taken.1 c.self.invariant.0 m.ensures.program m.ensures.same.0 moves c.in-Some.ensures.turn
+    made.0.local made.1 c.self.invariant.0 m.ensures.program m.ensures.same.0 moves c.in-Some.ensures.turn
     c.in-Some.ensures.breaks)
