@@ -11,6 +11,7 @@ ghost use Rattle.source_reaching.specs.Covered.{IsFollowable};
 ghost use Rattle.source_reaching.specs.Followed.{IsFollowedAmong, IsReached};
 
 use crate::own::own_actions;
+use crate::trail::Trail;
 use program::{Checked, Role, Statement, Target};
 use source_offers::{Frame, Process, Stage, upcoming};
 use source_states::{Action, ActionKind, SourceState};
@@ -160,12 +161,12 @@ pub fn is_lost(followed: &Followed) -> bool
 }
 
 // Lets a process do what it may, where all of that is calm, and it is one action; and notes the action.
-fn go_calmly<'a>(
+fn go_calmly<'a, T: Trail>(
     alloc: Global,
     checked: &'a Checked,
     state: &mut SourceState<'a>,
     process: u64,
-    trail: &mut Vec<Action>,
+    trail: &mut T,
 ) -> Result<Followed, AllocError>
     ensures { IfOk result (λ f. IsFollowedAmong (program_of checked.now.tree) process (state_of state.old)
         (state_of state.new) f) }
@@ -180,17 +181,19 @@ fn go_calmly<'a>(
     if !state.advance(alloc, checked.program(), &listed[0])? {
         return Ok(Followed::Lost);
     }
-    trail.append(&mut actions)?;
+    if let Some(action) = actions.pop() {
+        trail.note(action)?;
+    }
     Ok(Followed::Went)
 }
 
 // Lets a process take its internal action, and notes it.
-fn go_alone<'a>(
+fn go_alone<'a, T: Trail>(
     alloc: Global,
     checked: &'a Checked,
     state: &mut SourceState<'a>,
     process: u64,
-    trail: &mut Vec<Action>,
+    trail: &mut T,
 ) -> Result<Followed, AllocError>
     ensures { IfOk result (λ f. IsFollowedAmong (program_of checked.now.tree) process (state_of state.old)
         (state_of state.new) f) }
@@ -201,17 +204,17 @@ fn go_alone<'a>(
     if !is_calm(&kind) {
         return Ok(Followed::Lost);
     }
-    trail.push(Action { process, kind })?;
+    trail.note(Action { process, kind })?;
     Ok(Followed::Went)
 }
 
 // Follows the next action of a process, where it is calm, and notes it.
-fn follow_one<'a>(
+fn follow_one<'a, T: Trail>(
     alloc: Global,
     checked: &'a Checked,
     state: &mut SourceState<'a>,
     process: u64,
-    trail: &mut Vec<Action>,
+    trail: &mut T,
 ) -> Result<Followed, AllocError>
     ensures { IfOk result (λ f. IsFollowedAmong (program_of checked.now.tree) process (state_of state.old)
         (state_of state.new) f) }
@@ -226,12 +229,12 @@ fn follow_one<'a>(
 /// Follows the actions of a process, as long as the next one is calm and there is no choice, and notes them; a
 /// thousand at most. Answers the choices, where there are several. Whatever the other processes are, where the state that
 /// is come to is covered, so is the one before.
-pub fn follow_own<'a>(
+pub fn follow_own<'a, T: Trail>(
     alloc: Global,
     checked: &'a Checked,
     state: &mut SourceState<'a>,
     process: u64,
-    trail: &mut Vec<Action>,
+    trail: &mut T,
 ) -> Result<Followed, AllocError>
     ensures { IfOk result (λ f. IsFollowedAmong (program_of checked.now.tree) process (state_of state.old)
         (state_of state.new) f) }

@@ -6,9 +6,11 @@ mod follow;
 mod next;
 mod own;
 mod reaching;
+mod trail;
 
 pub use each_set::sets;
 pub use follow::{Followed, follow_own, is_lost, looks_calm};
 pub use next::next_state;
 pub use own::own_actions;
 pub use reaching::{End, ends};
+pub use trail::{Trail, Unread};

@@ -11,9 +11,9 @@ ghost use Rattle.source_reaching.specs.Ends.{IsLonger, IsReachedBy, LeadsTo, end
 use crate::follow::{Followed, follow_own, is_lost};
 use crate::next::{next_of, next_state};
 use crate::own::own_actions;
+use crate::trail::Unread;
 use program::Checked;
 use source_states::{Action, SourceState};
-use sourcemeaning::can_move;
 use std::alloc::{AllocError, Global};
 
 /// A state that a process reaches by an action of its own, and by calm ones behind it.
@@ -50,8 +50,7 @@ fn behind<'a>(
     let Some(mut after) = next else {
         return Ok(None);
     };
-    let mut trail = Vec::new(alloc);
-    let followed = follow_own(alloc, checked, &mut after, process, &mut trail)?;
+    let followed = follow_own(alloc, checked, &mut after, process, &mut Unread)?;
     Ok(Some(Reached {
         state: after,
         followed,
@@ -278,9 +277,6 @@ pub fn ends<'a>(
         (ends_in v.items))) }
 {
     let mut ends = Vec::new(alloc);
-    if !can_move(&state, checked, process) {
-        return Ok(Some(ends));
-    }
     let Some(actions) = own_actions(alloc, checked, &state, process)? else {
         return Ok(None);
     };

@@ -33,18 +33,35 @@ get_beside [] x (suc j) ne = refl
 get_beside (y ∷ ys) x zero ne = refl
 get_beside (y ∷ ys) x (suc j) ne = get_beside ys x j (λ e. ne (ap suc e))
 
-get_set : {X : Type 0} (xs : List X) (i : ℕ) (x : X) → i < length xs → slice_get (slice_set xs i x) i ≡ Some x
+pub get_set : {X : Type 0} (xs : List X) (i : ℕ) (x : X) → i < length xs → slice_get (slice_set xs i x) i ≡ Some x
 get_set [] i x l = absurd (omega (arith, l))
 get_set (y ∷ ys) zero x l = refl
 get_set (y ∷ ys) (suc i) x l = get_set ys i x (omega (arith, l))
 
-get_set_other : {X : Type 0} (xs : List X) (i j : ℕ) (x : X) → (j ≡ i → ⊥)
+pub get_set_other : {X : Type 0} (xs : List X) (i j : ℕ) (x : X) → (j ≡ i → ⊥)
     → slice_get (slice_set xs i x) j ≡ slice_get xs j
 get_set_other [] i j x ne = refl
 get_set_other (y ∷ ys) zero zero x ne = absurd (ne refl)
 get_set_other (y ∷ ys) zero (suc j) x ne = refl
 get_set_other (y ∷ ys) (suc i) zero x ne = refl
 get_set_other (y ∷ ys) (suc i) (suc j) x ne = get_set_other ys i j x (λ e. ne (ap suc e))
+
+pub set_length : (xs : List ℕ) (i x : ℕ) → length (slice_set xs i x) ≡ length xs
+set_length [] i x = refl
+set_length (y ∷ ys) zero x = refl
+set_length (y ∷ ys) (suc i) x = ap suc (set_length ys i x)
+
+-- lists of one length with the same elements
+pub same_list : (xs ys : List ℕ) → length xs ≡ length ys
+    → ((j : ℕ) → j < length xs → slice_get xs j ≡ slice_get ys j) → xs ≡ ys
+same_list [] [] e same = refl
+same_list [] (y ∷ ys) e same = absurd (omega (arith, e))
+same_list (x ∷ xs) [] e same = absurd (omega (arith, e))
+same_list (x ∷ xs) (y ∷ ys) e same =
+    let first : Some x ≡ Some y = same 0 (omega arith) in
+    let one : x ≡ y = cc in
+    let rest : xs ≡ ys = same_list xs ys (omega (arith, e)) (λ j l. same (suc j) (omega (arith, l))) in
+    λ i. one i ∷ rest i
 
 -- a process that is put at its place
 module _ (ids ids' : List ℕ) (place part : ℕ) (here : slice_get ids' place ≡ Some part)

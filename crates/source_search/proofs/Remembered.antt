@@ -12,6 +12,8 @@ use Rattle.meaning.specs.Processes.{Process}
 use Rattle.meaning.specs.Runs.{CanMove}
 use Rattle.meaning.specs.States.{SourceState}
 use Rattle.proof_exploration.specs.Exploring.{IsLike}
+use Rattle.proof_exploration.specs.Searching.{IsKept}
+use Rattle.proof_exploration.proofs.Alike.{like_self}
 use Rattle.proof_exploration.proofs.Representing.{like_covered}
 use Rattle.source_offers.specs.Stages.{process_of}
 use Rattle.source_offers.specs.Stores.{variables_of}
@@ -21,9 +23,11 @@ use Rattle.source_reaching.specs.Ends.{ends_in}
 use Rattle.source_reaching.specs.declared.reaching.End.{End}
 use Rattle.source_reaching.proofs.Among.{like_among}
 use Rattle.source_reaching.proofs.Arriving.{ends_none}
+use Rattle.source_reaching.proofs.Subsets.{contains_map}
 use Rattle.source_states.specs.States.{state_of}
 use Rattle.source_search.specs.Known.{AreAlike, AreKnown, AreNumbered, AreWithin, IsKnown, IsKnownAt, IsMovedTo}
-use Rattle.source_search.specs.Known.{IsNumbered, alone_at, spot_at}
+use Rattle.source_search.specs.Known.{HasMoved, IsNumbered, alone_at, spot_at}
+use Rattle.source_search.specs.Kept.{states_in}
 use Rattle.source_search.specs.Packed.{IsGrown, IsWithin, process_in, some_table, some_variables, table_in}
 use Rattle.source_search.specs.Packed.{unpacked, variables_in}
 use Rattle.source_search.specs.Spots.{IsAlone, IsSpotOf, IsSpotWithin, alone}
@@ -144,6 +148,24 @@ module _ (parts : PartsOf) (x y : PackedOf) (place : ℕ) (o : OutcomeOf) (is : 
           (process_in parts.processes.items o.part) q (λ u v. u ≡ or_else v ((unpacked parts x).process q))
           (λ e. sym (some_over (process_in parts.processes.items o.part) stands ((unpacked parts x).process q)))
           (λ ne. refl)
+
+-- a state of a process behind an outcome that is kept
+pub kept_moved : (parts : PartsOf) (xs : List PackedOf) (x : PackedOf) (place : ℕ) (o : OutcomeOf)
+    → IsSpotWithin parts (spot_at (suc place) o) → HasMoved xs x place o
+    → IsKept (states_in parts xs) (among (unpacked parts x).process (alone parts (spot_at (suc place) o)))
+kept_moved parts xs x place o there (y, c, moved) = (
+  unpacked parts y,
+  contains_map (unpacked parts) xs y c,
+  subst (IsLike (unpacked parts y)) (moved_same parts x y place o moved there) (like_self (unpacked parts y)),
+)
+
+pub has_moved : (xs : List PackedOf) (i : ℕ) (y x : PackedOf) (place : ℕ) (o : OutcomeOf) → slice_get xs i ≡ Some y
+    → IsMovedTo x place o y → HasMoved xs x place o
+has_moved xs i y x place o is moved = (
+  y,
+  subst (Contains xs) (get_or_from_slice_get xs i y y is) (Contains-get_or xs i y (slice_get_within xs i y is)),
+  moved,
+)
 
 -- a state of one process, in numbers
 module _ (a b d : PartsOf) (g : IsGrown a b) (h : IsGrown b d) (spot : SpotOf) (s : SourceState) (numbers : List ℕ)

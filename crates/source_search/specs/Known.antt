@@ -1,5 +1,5 @@
 -- What is remembered of processes: what each comes to by its own actions.
-use Rattle.std.specs.Prelude.{ℕ, suc, ◌<◌, ◌≡◌, All, List, length, map, ⊤, [], ◌∷◌}
+use Rattle.std.specs.Prelude.{ℕ, suc, ◌<◌, ◌≡◌, All, Contains, List, length, map, ⊤, [], ◌∷◌}
 use Rattle.program.specs.Trees.{Program}
 use Rattle.meaning.specs.Runs.{CanMove}
 use Rattle.meaning.specs.States.{SourceState}
@@ -41,6 +41,10 @@ pub record IsMovedTo (x : PackedOf) (place : ℕ) (o : OutcomeOf) (y : PackedOf)
   pub table : y.table ≡ o.table
   pub variables : y.variables ≡ o.variables
   pub processes : IsPutAt x.processes.items (suc place) o.part y.processes.items
+
+-- one of these is a kept state with the process at this place, the table and the variables as an outcome has them
+abbrev pub HasMoved : List PackedOf → PackedOf → ℕ → OutcomeOf → Type 0
+HasMoved states x place o = (y : PackedOf) × Contains states y × IsMovedTo x place o y
 
 -- the state of the process alone, in numbers of parts, but for what was printed
 pub record IsNumbered (parts : PartsOf) (t : ℕ) (s : SourceState) (spot : SpotOf) : Type 0 where

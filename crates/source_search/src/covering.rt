@@ -4,8 +4,8 @@ use crate::packed::Packed;
 use crate::parts::Parts;
 use crate::replay::OPENING;
 use program::Checked;
-use source_reaching::{End, follow_own, is_lost, looks_calm};
-use source_states::{Action, SourceState};
+use source_reaching::{End, Trail, Unread, follow_own, is_lost, looks_calm};
+use source_states::SourceState;
 use std::alloc::{AllocError, Global};
 
 // How many times a process is followed at most before a state is kept.
@@ -31,13 +31,13 @@ impl<'a> Parts<'a> {
 
     // What the calm actions of the process at this place lead to from a kept state, and notes them; None where nothing is
     // known of it.
-    fn follow_at(
+    fn follow_at<T: Trail>(
         &mut self,
         alloc: Global,
         checked: &'a Checked,
         packed: &Packed,
         place: usize,
-        trail: &mut Vec<Action>,
+        trail: &mut T,
     ) -> Result<Option<Packed>, AllocError>
         ensures grown { OnOk result (IsGrown self.old self.new) }
         ensures ahead { IsWithin self.old packed.now → IfOk result (λ o. IfSome o
@@ -59,12 +59,12 @@ impl<'a> Parts<'a> {
 
     /// What calm actions of one process at a time lead to from a kept state, and notes them; None where nothing is known
     /// of it. Where it is covered, the state itself is.
-    pub fn settle(
+    pub fn settle<T: Trail>(
         &mut self,
         alloc: Global,
         checked: &'a Checked,
         packed: Packed,
-        trail: &mut Vec<Action>,
+        trail: &mut T,
     ) -> Result<Option<Packed>, AllocError>
         ensures grown { OnOk result (IsGrown self.old self.new) }
         ensures ahead { IsWithin self.old packed → IfOk result (λ o. IfSome o
@@ -114,11 +114,10 @@ impl<'a> Kept<'a> {
         ensures covered { IfOk result (λ kept. kept ≡ true → IsCoveredSo (program_of checked.now.tree)
             (states_of self.new) (unpacked self.old.parts packed)) }
     {
-        let mut trail = Vec::new(alloc);
-        let Some(settled) = self.parts.settle(alloc, checked, packed, &mut trail)? else {
+        let Some(settled) = self.parts.settle(alloc, checked, packed, &mut Unread)? else {
             return Ok(false);
         };
-        let kept = self.keep_packed(settled, way)?;
+        let kept = self.keep_packed(alloc, settled, way)?;
         Ok(kept)
     }
 
@@ -138,7 +137,7 @@ impl<'a> Kept<'a> {
         if outside.is_any() {
             return self.keep(alloc, checked, state, OPENING);
         }
-        let Some(packed) = self.parts.pack(alloc, checked.program(), &state, 0)? else {
+        let Some(packed) = self.parts.pack(alloc, checked.program(), &state, 0, 0)? else {
             return Ok(false);
         };
         self.cover(alloc, checked, packed, OPENING)

@@ -1,3 +1,4 @@
+use crate::memo::Outcome;
 use crate::packed::Packed;
 use program::{Member, Program, Statement, Target};
 use source_offers::{End, Frame, Process, Stage, Variables};
@@ -6,21 +7,30 @@ use source_table::Hold;
 use std::hash::{FoldHasher, Hasher};
 use words::Cause;
 
-// A number that is mixed of others.
+// What spreads numbers.
+const SPREAD: u64 = 0x9E37_79B9_7F4A_7C15;
+
+// A number that is mixed of others, each at its place: it isn't 0 at first, so that no zeros are lost.
 #[derive(Drop)]
 struct Mixer {
     number: u64,
 }
 
+// A number of which each bit depends on those of this one.
+fn mixed(number: u64) -> u64 {
+    let half = number.wrapping_mul(SPREAD);
+    (half ^ (half >> 32)).wrapping_mul(0xC2B2_AE3D_27D4_EB4F)
+}
+
 impl Mixer {
     fn new() -> Mixer {
-        Mixer { number: 0 }
+        Mixer { number: SPREAD }
     }
 
     // Mixes in a number.
     fn feed(&mut self, number: u64) {
         self.number = (self.number ^ number)
-            .wrapping_mul(0x9E37_79B9_7F4A_7C15)
+            .wrapping_mul(SPREAD)
             .rotate_left(31);
     }
 
@@ -139,7 +149,7 @@ fn feed_holds(program: &Program, state: &SourceState, digest: &mut Mixer) {
 pub(crate) fn digest_process(process: &Process) -> u64 {
     let mut digest = Mixer::new();
     feed_process(process, &mut digest);
-    digest.number
+    mixed(digest.number)
 }
 
 /// The digest of the table of a state in which so many processes were made.
@@ -157,7 +167,7 @@ pub(crate) fn digest_table(program: &Program, state: &SourceState, made: u64) ->
         digest.feed(u64::from(state.claimed(number)));
     }
     feed_holds(program, state, &mut digest);
-    digest.number
+    mixed(digest.number)
 }
 
 /// The digest of the values of variables.
@@ -167,14 +177,37 @@ pub(crate) fn digest_variables(variables: &Variables) -> u64 {
     hasher.finish()
 }
 
-/// A number that is mostly another where the state is another. Nothing is promised of it: it decides how fast a kept
-/// state is found, and no more.
+// What a part at a place adds to the digest of a kept state.
+fn part_digest(place: u64, part: u32) -> u64 {
+    mixed(place.wrapping_mul(SPREAD) ^ u64::from(part))
+}
+
+// The place of the table, past those of all processes; that of the variables is the next one.
+const TABLE: u64 = 1 << 31;
+
+/// A number that is mostly another where the state is another: a sum, so that a move changes it by what it changes of the
+/// state. Nothing is promised of it: it decides how fast a kept state is found, and no more.
 pub(crate) fn digest_packed(packed: &Packed) -> u64 {
-    let mut digest = Mixer::new();
-    digest.feed(u64::from(packed.table));
-    digest.feed(u64::from(packed.variables));
-    for part in packed.processes.as_slice() {
-        digest.feed(u64::from(*part));
+    let mut digest = part_digest(TABLE, packed.table);
+    digest = digest.wrapping_add(part_digest(TABLE + 1, packed.variables));
+    for place in 0..packed.processes.len() {
+        digest = digest.wrapping_add(part_digest(place as u64, packed.processes[place]));
     }
-    digest.number
+    digest
+}
+
+/// The digest of a kept state of this digest, with the process at this place, the table and the variables as an outcome
+/// has them.
+pub(crate) fn digest_moved(packed: &Packed, digest: u64, place: usize, outcome: Outcome) -> u64 {
+    let Some(part) = packed.processes.get(place).copied() else {
+        return digest;
+    };
+    let at = place as u64;
+    digest
+        .wrapping_sub(part_digest(TABLE, packed.table))
+        .wrapping_sub(part_digest(TABLE + 1, packed.variables))
+        .wrapping_sub(part_digest(at, part))
+        .wrapping_add(part_digest(TABLE, outcome.table))
+        .wrapping_add(part_digest(TABLE + 1, outcome.variables))
+        .wrapping_add(part_digest(at, outcome.part))
 }

@@ -2,15 +2,17 @@ ghost use Rattle.std.specs.Prelude.{◌≡◌, IfOk, IfSome, OnOk, Some, true};
 ghost use Rattle.std.specs.List.{slice_get};
 ghost use Rattle.proof_exploration.specs.Searching.{IsKept as IsKeptIn};
 ghost use Rattle.source_states.specs.States.{state_of};
+ghost use Rattle.source_search.specs.Known.{HasMoved};
 ghost use Rattle.source_search.specs.Packed.{HasKey};
 
 use crate::digest::digest_packed;
+use crate::memo::Outcome;
+use crate::numbers::Numbers;
 use crate::packed::Packed;
-use crate::parts::{Parts, TRIES, note};
+use crate::parts::{Parts, TRIES};
 use program::Checked;
 use source_states::SourceState;
 use std::alloc::{AllocError, Global};
-use std::collections::HashMap;
 
 /// How a kept state was come to: from which, by which process, and by which of its choices.
 #[derive(Clone, Copy, Debug)]
@@ -51,6 +53,22 @@ impl Way {
     }
 }
 
+/// The kept state that is looked at.
+#[derive(Clone, Copy, Debug)]
+pub(crate) struct Origin {
+    /// Its place.
+    pub place: usize,
+    /// Its digest.
+    pub digest: u64,
+}
+
+impl Origin {
+    /// The way from there by the process of this number.
+    pub fn way(self, process: u64) -> Way {
+        Way::new(self.place, process, 0)
+    }
+}
+
 /// The states that a search keeps, in the order in which they were come to.
 #[derive(Drop)]
 pub(crate) struct Kept<'a> {
@@ -60,26 +78,56 @@ pub(crate) struct Kept<'a> {
     pub parts: Parts<'a>,
     /// How each was come to.
     pub ways: Vec<Way>,
-    // The place of each digest, or of one shortly before it.
-    places: HashMap<u64, u32>,
+    // The place of each, by its digest.
+    places: Numbers,
     // How many states may be kept.
     most: usize,
 }
 
-/// Whether a state of these parts, whose digest is `first`, is kept at the place of that digest or of one shortly after.
-fn is_kept(states: &[Packed], places: &HashMap<u64, u32>, first: u64, packed: &Packed) -> bool
+// Whether a state of these parts, of this digest, is kept.
+fn is_kept(states: &[Packed], places: &Numbers, digest: u64, packed: &Packed) -> bool
     ensures { result ≡ true → HasKey states.now packed.now }
 {
-    for tries in 0..TRIES {
-        let Some(place) = places.get(&first.wrapping_add(tries)) else {
+    let mut tried = 0;
+    for _ in 0..TRIES {
+        let Some(found) = places.next(digest, tried) else {
             return false;
         };
-        let Some(kept) = states.get(*place as usize) else {
+        let Some(kept) = states.get(found.number as usize) else {
             return false;
         };
         if kept.is_same(packed) {
             return true;
         }
+        tried = found.tries.wrapping_add(1);
+    }
+    false
+}
+
+// Whether the state of this digest that is another with the process at this place, the table and the variables as an
+// outcome has them, is kept.
+fn is_moved_kept(
+    states: &[Packed],
+    places: &Numbers,
+    digest: u64,
+    other: &Packed,
+    place: usize,
+    outcome: Outcome,
+) -> bool
+    ensures { result ≡ true → HasMoved states.now other.now place outcome }
+{
+    let mut tried = 0;
+    for _ in 0..TRIES {
+        let Some(found) = places.next(digest, tried) else {
+            return false;
+        };
+        let Some(kept) = states.get(found.number as usize) else {
+            return false;
+        };
+        if kept.is_moved(other, place, outcome) {
+            return true;
+        }
+        tried = found.tries.wrapping_add(1);
     }
     false
 }
@@ -97,7 +145,7 @@ impl<'a> Kept<'a> {
             states: Vec::new(alloc),
             parts: Parts::new(alloc),
             ways: Vec::new(alloc),
-            places: HashMap::new(alloc),
+            places: Numbers::new(alloc),
             most,
         }
     }
@@ -128,16 +176,30 @@ impl<'a> Kept<'a> {
         Ok(Some(copied))
     }
 
-    // The number of the values of the variables of the state that is kept at a place.
-    fn variables_at(&self, place: usize) -> u32 {
+    // The numbers of the table and of the values of the variables of the state that is kept at a place.
+    fn common_at(&self, place: usize) -> (u32, u32) {
         match self.states.get(place) {
-            None => 0,
-            Some(packed) => packed.variables,
+            None => (0, 0),
+            Some(packed) => (packed.table, packed.variables),
         }
     }
 
-    /// Keeps a state of these parts, unless it is kept; false, where no more can be kept.
-    pub fn keep_packed(&mut self, packed: Packed, way: Way) -> Result<bool, AllocError>
+    /// Whether the state of this digest that is another with the process at this place, the table and the variables as an
+    /// outcome has them, is kept.
+    pub fn has_moved(&self, digest: u64, other: &Packed, place: usize, outcome: Outcome) -> bool
+        ensures { result ≡ true → HasMoved self.now.states.items other.now place outcome }
+    {
+        is_moved_kept(self.states.as_slice(), &self.places, digest, other, place, outcome)
+    }
+
+    /// Keeps a state of these parts, of this digest, that isn't kept; false, where no more can be kept.
+    pub fn add(
+        &mut self,
+        alloc: Global,
+        packed: Packed,
+        digest: u64,
+        way: Way,
+    ) -> Result<bool, AllocError>
         requires sound { IsSound self.old }
         requires within { IsWithin self.old.parts packed }
         ensures sound { OnOk result (IsSound self.new) }
@@ -146,20 +208,38 @@ impl<'a> Kept<'a> {
         ensures kept { IfOk result (λ kept. kept ≡ true
             → IsKeptIn (states_of self.new) (unpacked self.old.parts packed)) }
     {
-        let first = digest_packed(&packed);
-        if is_kept(self.states.as_slice(), &self.places, first, &packed) {
-            return Ok(true);
-        }
         if self.states.len() >= self.most {
             return Ok(false);
         }
         let Ok(place) = u32::try_from(self.states.len()) else {
             return Ok(false);
         };
-        note(&mut self.places, first, place)?;
+        self.places.note(alloc, digest, place)?;
         self.ways.push(way)?;
         self.states.push(packed)?;
         Ok(true)
+    }
+
+    /// Keeps a state of these parts, unless it is kept; false, where no more can be kept.
+    pub fn keep_packed(
+        &mut self,
+        alloc: Global,
+        packed: Packed,
+        way: Way,
+    ) -> Result<bool, AllocError>
+        requires sound { IsSound self.old }
+        requires within { IsWithin self.old.parts packed }
+        ensures sound { OnOk result (IsSound self.new) }
+        ensures parts { OnOk result (self.new.parts ≡ self.old.parts) }
+        ensures longer { OnOk result (IsLonger (states_of self.old) (states_of self.new)) }
+        ensures kept { IfOk result (λ kept. kept ≡ true
+            → IsKeptIn (states_of self.new) (unpacked self.old.parts packed)) }
+    {
+        let digest = digest_packed(&packed);
+        if is_kept(self.states.as_slice(), &self.places, digest, &packed) {
+            return Ok(true);
+        }
+        self.add(alloc, packed, digest, way)
     }
 
     /// Keeps a state, unless one like it is kept; false, where no more can be kept.
@@ -176,11 +256,12 @@ impl<'a> Kept<'a> {
         ensures kept { IfOk result (λ kept. kept ≡ true
             → IsKeptIn (states_of self.new) (state_of state.entry)) }
     {
-        let before = self.variables_at(way.before as usize);
-        let Some(packed) = self.parts.pack(alloc, checked.program(), &state, before)? else {
+        let (table, variables) = self.common_at(way.before as usize);
+        let program = checked.program();
+        let Some(packed) = self.parts.pack(alloc, program, &state, table, variables)? else {
             return Ok(false);
         };
-        let kept = self.keep_packed(packed, way)?;
+        let kept = self.keep_packed(alloc, packed, way)?;
         Ok(kept)
     }
 }

@@ -10,6 +10,7 @@ mod killing;
 mod learning;
 mod memo;
 mod merging;
+mod numbers;
 mod outside;
 mod packed;
 mod parts;

@@ -2,7 +2,6 @@ ghost use Rattle.std.specs.Prelude.{◌≡◌, ◌<◌, All, IfOk, IfSome, OnOk,
 ghost use Rattle.source_states.specs.States.{state_of};
 ghost use Rattle.source_search.specs.Spots.{IsPutAt};
 
-use crate::digest::digest_table;
 use crate::packed::Packed;
 use crate::parts::Parts;
 use crate::spot::Spot;
@@ -101,11 +100,12 @@ impl<'a> Parts<'a> {
         let Some(processes) = self.merge_processes(alloc, own, state, numbers)? else {
             return Ok(None);
         };
-        let digest = digest_table(program, state, processes.len() as u64);
-        let Some(table) = self.table_number(state.table(), digest)? else {
+        let made = processes.len() as u64;
+        let Some(table) = self.table_number(alloc, program, state, made, packed.table)? else {
             return Ok(None);
         };
-        let Some(variables) = self.variables_number(state.variables(), packed.variables)? else {
+        let values = state.variables();
+        let Some(variables) = self.variables_number(alloc, values, packed.variables)? else {
             return Ok(None);
         };
         Ok(Some(Packed {
@@ -139,11 +139,12 @@ impl<'a> Parts<'a> {
         let Some(part) = self.process_number(alloc, process)? else {
             return Ok(None);
         };
-        let digest = digest_table(program, state, made as u64);
-        let Some(table) = self.table_number(state.table(), digest)? else {
+        let made = made as u64;
+        let Some(table) = self.table_number(alloc, program, state, made, spot.table)? else {
             return Ok(None);
         };
-        let Some(variables) = self.variables_number(state.variables(), spot.variables)? else {
+        let values = state.variables();
+        let Some(variables) = self.variables_number(alloc, values, spot.variables)? else {
             return Ok(None);
         };
         Ok(Some(Spot {

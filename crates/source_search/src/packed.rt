@@ -1,7 +1,8 @@
-ghost use Rattle.std.specs.Prelude.{◌≡◌, IfOk, IfSome, true};
+ghost use Rattle.std.specs.Prelude.{◌≡◌, ◌<◌, IfOk, IfSome, Some, length, suc, true};
+ghost use Rattle.std.specs.List.{slice_get, slice_set};
 ghost use Rattle.source_search.specs.Known.{IsMovedTo};
 ghost use Rattle.source_search.specs.Packed.{IsSameKey};
-ghost use Rattle.source_search.specs.Spots.{IsSpotOf};
+ghost use Rattle.source_search.specs.Spots.{IsPutAt, IsSpotOf};
 
 use crate::memo::Outcome;
 use crate::spot::Spot;
@@ -18,6 +19,35 @@ pub(crate) struct Packed {
     pub processes: Vec<u32>,
 }
 
+// The number at a place of these with this part at another.
+fn number_at(others: &[u32], place: usize, part: u32, at: usize) -> u32
+    requires { at < length others.now }
+    ensures { slice_get (slice_set others.now place part) at ≡ Some result }
+{
+    if at == place {
+        return part;
+    }
+    others[at]
+}
+
+// Whether these numbers are others with this part at a place.
+fn are_but_at(numbers: &[u32], others: &[u32], place: usize, part: u32) -> bool
+    ensures { result ≡ true → IsPutAt others.now (suc place) part numbers.now }
+{
+    if numbers.len() != others.len() {
+        return false;
+    }
+    if place >= others.len() {
+        return false;
+    }
+    for k in 0..numbers.len() {
+        if numbers[k] != number_at(others, place, part, k) {
+            return false;
+        }
+    }
+    true
+}
+
 impl Packed {
     /// Whether two kept states are of the same parts.
     pub fn is_same(&self, other: &Packed) -> bool
@@ -30,6 +60,20 @@ impl Packed {
             return false;
         }
         self.processes == other.processes
+    }
+
+    /// Whether it is another with the process at this place, the table and the variables as an outcome has them.
+    pub fn is_moved(&self, other: &Packed, place: usize, outcome: Outcome) -> bool
+        ensures { result ≡ true → IsMovedTo other.now place outcome self.now }
+    {
+        if self.table != outcome.table {
+            return false;
+        }
+        if self.variables != outcome.variables {
+            return false;
+        }
+        let numbers = self.processes.as_slice();
+        are_but_at(numbers, other.processes.as_slice(), place, outcome.part)
     }
 
     /// The same once more.

@@ -5,6 +5,7 @@ ghost use Rattle.source_table.specs.Tables.{table_of};
 ghost use Rattle.source_states.specs.States.{state_of};
 
 use crate::digest::{digest_process, digest_table, digest_variables};
+use crate::numbers::Numbers;
 use crate::packed::Packed;
 use program::Program;
 use source_offers::{Process, Variables};
@@ -12,14 +13,9 @@ use source_sameness::same_process;
 use source_states::SourceState;
 use source_table::Table;
 use std::alloc::{AllocError, Global};
-use std::collections::HashMap;
 
-/// How many places are tried for a digest. Values of variables have one digest whether a variable is 0 since it was
-/// assigned or since it wasn't, so that there may be many of one.
+/// How many numbers of one digest are looked at.
 pub(crate) const TRIES: u64 = 1 << 20;
-
-// What spreads numbers over all digests.
-const SPREAD: u64 = 0x9E37_79B9_7F4A_7C15;
 
 /// The parts of kept states, each once, by their numbers, and these by their digests. None is ever given up.
 #[derive(Drop)]
@@ -31,29 +27,11 @@ pub(crate) struct Parts<'a> {
     /// The processes.
     pub processes: Vec<Process<'a>>,
     // The numbers of the tables.
-    table_numbers: HashMap<u64, u32>,
+    table_numbers: Numbers,
     // Those of the values of variables.
-    variables_numbers: HashMap<u64, u32>,
-    // The same, by their digest and the number of those of the state before.
-    variables_behind: HashMap<u64, u32>,
+    variables_numbers: Numbers,
     // Those of the processes.
-    process_numbers: HashMap<u64, u32>,
-}
-
-/// Notes a number by the first digest from this one on that is free; where none of a few is, it isn't noted.
-pub(crate) fn note(
-    numbers: &mut HashMap<u64, u32>,
-    digest: u64,
-    number: u32,
-) -> Result<(), AllocError> {
-    for tries in 0..TRIES {
-        let key = digest.wrapping_add(tries);
-        if !numbers.contains_key(&key) {
-            let _none = numbers.insert(key, number)?;
-            return Ok(());
-        }
-    }
-    Ok(())
+    process_numbers: Numbers,
 }
 
 impl<'a> Parts<'a> {
@@ -66,10 +44,9 @@ impl<'a> Parts<'a> {
             tables: Vec::new(alloc),
             variables: Vec::new(alloc),
             processes: Vec::new(alloc),
-            table_numbers: HashMap::new(alloc),
-            variables_numbers: HashMap::new(alloc),
-            variables_behind: HashMap::new(alloc),
-            process_numbers: HashMap::new(alloc),
+            table_numbers: Numbers::new(alloc),
+            variables_numbers: Numbers::new(alloc),
+            process_numbers: Numbers::new(alloc),
         }
     }
 
@@ -87,31 +64,45 @@ impl<'a> Parts<'a> {
     fn find_table(&self, table: &Table, digest: u64) -> Option<u32>
         ensures { IfSome result (λ n. table_in self.now.tables.items n ≡ Some (table_of table.now)) }
     {
-        for tries in 0..TRIES {
-            let Some(number) = self.table_numbers.get(&digest.wrapping_add(tries)) else {
+        let mut tried = 0;
+        for _ in 0..TRIES {
+            let Some(found) = self.table_numbers.next(digest, tried) else {
                 return None;
             };
-            let number = *number;
-            if self.has_table(number, table) {
-                return Some(number);
+            if self.has_table(found.number, table) {
+                return Some(found.number);
             }
+            tried = found.tries.wrapping_add(1);
         }
         None
     }
 
-    /// The number of a table, which is a part from now on; None where there are too many.
-    pub fn table_number(&mut self, table: &Table, digest: u64) -> Result<Option<u32>, AllocError>
+    /// The number of the table of a state in which so many processes were made, which is a part from now on; None where
+    /// there are too many. Often it is the one of the state before, which has this number.
+    pub fn table_number(
+        &mut self,
+        alloc: Global,
+        program: &Program,
+        state: &SourceState<'a>,
+        made: u64,
+        before: u32,
+    ) -> Result<Option<u32>, AllocError>
         ensures grown { OnOk result (IsGrown self.old self.new) }
         ensures there { IfOk result (λ o. IfSome o
-            (λ n. table_in self.new.tables.items n ≡ Some (table_of table.now))) }
+            (λ n. table_in self.new.tables.items n ≡ Some (state_of state.now).table)) }
     {
+        let table = state.table();
+        if self.has_table(before, table) {
+            return Ok(Some(before));
+        }
+        let digest = digest_table(program, state, made);
         if let Some(number) = self.find_table(table, digest) {
             return Ok(Some(number));
         }
         let Ok(number) = u32::try_from(self.tables.len()) else {
             return Ok(None);
         };
-        note(&mut self.table_numbers, digest, number)?;
+        self.table_numbers.note(alloc, digest, number)?;
         self.tables.push(table.copy()?)?;
         Ok(Some(number))
     }
@@ -132,34 +123,24 @@ impl<'a> Parts<'a> {
         ensures { IfSome result
             (λ n. variables_in self.now.variables.items n ≡ Some (variables_of variables.now)) }
     {
-        for tries in 0..TRIES {
-            let Some(number) = self.variables_numbers.get(&digest.wrapping_add(tries)) else {
+        let mut tried = 0;
+        for _ in 0..TRIES {
+            let Some(found) = self.variables_numbers.next(digest, tried) else {
                 return None;
             };
-            let number = *number;
-            if self.has_variables(number, variables) {
-                return Some(number);
+            if self.has_variables(found.number, variables) {
+                return Some(found.number);
             }
+            tried = found.tries.wrapping_add(1);
         }
         None
     }
 
-    // The number of the values of variables, where it is noted beside that of the state before.
-    fn find_behind(&self, variables: &Variables, behind: u64) -> Option<u32>
-        ensures { IfSome result
-            (λ n. variables_in self.now.variables.items n ≡ Some (variables_of variables.now)) }
-    {
-        let number = *self.variables_behind.get(&behind)?;
-        if self.has_variables(number, variables) {
-            return Some(number);
-        }
-        None
-    }
-
-    /// The number of the values of variables, which are a part from now on; None where there are too many. Those of
-    /// the state before have this number.
+    /// The number of the values of variables, which are a part from now on; None where there are too many. Often they
+    /// are those of the state before, which have this number.
     pub fn variables_number(
         &mut self,
+        alloc: Global,
         variables: &Variables,
         before: u32,
     ) -> Result<Option<u32>, AllocError>
@@ -167,19 +148,17 @@ impl<'a> Parts<'a> {
         ensures there { IfOk result (λ o. IfSome o
             (λ n. variables_in self.new.variables.items n ≡ Some (variables_of variables.now))) }
     {
-        let digest = digest_variables(variables);
-        let behind = digest.wrapping_add(u64::from(before).wrapping_mul(SPREAD));
-        if let Some(number) = self.find_behind(variables, behind) {
-            return Ok(Some(number));
+        if self.has_variables(before, variables) {
+            return Ok(Some(before));
         }
+        let digest = digest_variables(variables);
         if let Some(number) = self.find_variables(variables, digest) {
-            let _other = self.variables_behind.insert(behind, number)?;
             return Ok(Some(number));
         }
         let Ok(number) = u32::try_from(self.variables.len()) else {
             return Ok(None);
         };
-        note(&mut self.variables_numbers, digest, number)?;
+        self.variables_numbers.note(alloc, digest, number)?;
         self.variables.push(variables.copy()?)?;
         Ok(Some(number))
     }
@@ -198,14 +177,15 @@ impl<'a> Parts<'a> {
     fn find_process(&self, process: &Process, digest: u64) -> Option<u32>
         ensures { IfSome result (λ n. process_in self.now.processes.items n ≡ Some (process_of process.now)) }
     {
-        for tries in 0..TRIES {
-            let Some(number) = self.process_numbers.get(&digest.wrapping_add(tries)) else {
+        let mut tried = 0;
+        for _ in 0..TRIES {
+            let Some(found) = self.process_numbers.next(digest, tried) else {
                 return None;
             };
-            let number = *number;
-            if self.has_process(number, process) {
-                return Some(number);
+            if self.has_process(found.number, process) {
+                return Some(found.number);
             }
+            tried = found.tries.wrapping_add(1);
         }
         None
     }
@@ -227,7 +207,7 @@ impl<'a> Parts<'a> {
         let Ok(number) = u32::try_from(self.processes.len()) else {
             return Ok(None);
         };
-        note(&mut self.process_numbers, digest, number)?;
+        self.process_numbers.note(alloc, digest, number)?;
         self.processes.push(process.copy(alloc)?)?;
         Ok(Some(number))
     }
@@ -261,14 +241,15 @@ impl<'a> Parts<'a> {
         Ok(Some(parts))
     }
 
-    /// A state, packed; None where there are too many parts. The values of the variables of the state before have this
-    /// number.
+    /// A state, packed; None where there are too many parts. The table and the values of the variables are often those of
+    /// the state before, which have these numbers.
     pub fn pack(
         &mut self,
         alloc: Global,
         program: &Program,
         state: &SourceState<'a>,
-        before: u32,
+        table: u32,
+        variables: u32,
     ) -> Result<Option<Packed>, AllocError>
         ensures grown { OnOk result (IsGrown self.old self.new) }
         ensures packed { IfOk result (λ o. IfSome o (λ x. IsPackedOf self.new x (state_of state.now))) }
@@ -278,11 +259,12 @@ impl<'a> Parts<'a> {
         let Some(processes) = self.pack_processes(alloc, state, numbers)? else {
             return Ok(None);
         };
-        let digest = digest_table(program, state, numbers.len() as u64);
-        let Some(table) = self.table_number(state.table(), digest)? else {
+        let made = numbers.len() as u64;
+        let Some(table) = self.table_number(alloc, program, state, made, table)? else {
             return Ok(None);
         };
-        let Some(variables) = self.variables_number(state.variables(), before)? else {
+        let values = state.variables();
+        let Some(variables) = self.variables_number(alloc, values, variables)? else {
             return Ok(None);
         };
         Ok(Some(Packed {

@@ -1,4 +1,5 @@
-use crate::kept::{Kept, Way};
+use crate::digest::digest_moved;
+use crate::kept::{Kept, Origin, Way};
 use crate::memo::{Known, Memo, Outcome, resting};
 use crate::packed::Packed;
 use crate::spot::Spot;
@@ -11,6 +12,7 @@ impl<'a> Kept<'a> {
     ghost use Rattle.std.specs.Prelude.{◌≡◌, IfOk, IfSome, OnOk, suc, true, ℕ};
     ghost use Rattle.program.specs.Views.{program_of};
     ghost use Rattle.meaning.specs.Runs.{CanMove};
+    ghost use Rattle.proof_exploration.specs.Searching.{IsKept};
     ghost use Rattle.source_reaching.specs.Among.{AreCovered, AreEnds, among};
     ghost use Rattle.source_reaching.specs.Ends.{ends_in};
     ghost use Rattle.source_search.specs.Covered.{IsCoveredSo, IsFollowedOwn};
@@ -18,6 +20,37 @@ impl<'a> Kept<'a> {
     ghost use Rattle.source_search.specs.Known.{AreKnown, AreWithin, IsKnownAt, alone_at, spot_at};
     ghost use Rattle.source_search.specs.Packed.{IsGrown, IsWithin, unpacked};
     ghost use Rattle.source_search.specs.Spots.{IsSpotOf, IsSpotWithin, alone};
+
+    // Keeps the state in which the process at this place of a kept one stands behind an outcome, unless it is kept; false
+    // where no more can be kept.
+    fn keep_moved(
+        &mut self,
+        alloc: Global,
+        packed: &Packed,
+        place: usize,
+        outcome: Outcome,
+        origin: Origin,
+        way: Way,
+    ) -> Result<bool, AllocError>
+        requires sound { IsSound self.old }
+        requires within { IsWithin self.old.parts packed.now }
+        requires there { IsSpotWithin self.old.parts (spot_at (suc place) outcome) }
+        ensures sound { OnOk result (IsSound self.new) }
+        ensures parts { OnOk result (self.new.parts ≡ self.old.parts) }
+        ensures longer { OnOk result (IsLonger (states_of self.old) (states_of self.new)) }
+        ensures kept { IfOk result (λ kept. kept ≡ true → IsKept (states_of self.new)
+            (among (unpacked self.old.parts packed.now).process (alone self.old.parts (spot_at (suc place) outcome)))) }
+    {
+        let digest = digest_moved(packed, origin.digest, place, outcome);
+        if self.has_moved(digest, packed, place, outcome) {
+            return Ok(true);
+        }
+        let Some(next) = packed.moved(alloc, place, outcome)? else {
+            return Ok(false);
+        };
+        let kept = self.add(alloc, next, digest, way)?;
+        Ok(kept)
+    }
 
     // Covers the state in which the process at this place of a kept one stands behind an outcome; false where no more can
     // be kept.
@@ -29,7 +62,7 @@ impl<'a> Kept<'a> {
         place: usize,
         outcome: Outcome,
         quiet: bool,
-        way: Way,
+        origin: Origin,
     ) -> Result<bool, AllocError>
         requires sound { IsSound self.old }
         requires within { IsWithin self.old.parts packed.now }
@@ -41,15 +74,19 @@ impl<'a> Kept<'a> {
             → IsCoveredSo (program_of checked.now.tree) (states_of self.new)
             (among (unpacked self.old.parts packed.now).process (alone self.old.parts (spot_at (suc place) outcome)))) }
     {
+        let process = (place as u64).saturating_add(1);
+        let way = origin
+            .way(process)
+            .with(usize::from(outcome.choice), usize::from(outcome.later));
+        if quiet {
+            let kept = self.keep_moved(alloc, packed, place, outcome, origin, way)?;
+            return Ok(kept);
+        }
         let Some(next) = packed.moved(alloc, place, outcome)? else {
             return Ok(false);
         };
-        let way = way.with(usize::from(outcome.choice), usize::from(outcome.later));
-        if !quiet {
-            return self.cover(alloc, checked, next, way);
-        }
-        let kept = self.keep_packed(next, way)?;
-        Ok(kept)
+        let covered = self.cover(alloc, checked, next, way)?;
+        Ok(covered)
     }
 
     // The same of each outcome.
@@ -60,7 +97,7 @@ impl<'a> Kept<'a> {
         packed: &Packed,
         place: usize,
         known: &Known,
-        way: Way,
+        origin: Origin,
     ) -> Result<bool, AllocError>
         requires sound { IsSound self.old }
         requires within { IsWithin self.old.parts packed.now }
@@ -74,7 +111,7 @@ impl<'a> Kept<'a> {
     {
         for k in 0..known.outcomes.len() {
             let outcome = known.outcomes[k];
-            if !self.cover_outcome(alloc, checked, packed, place, outcome, known.quiet, way)? {
+            if !self.cover_outcome(alloc, checked, packed, place, outcome, known.quiet, origin)? {
                 return Ok(false);
             }
         }
@@ -88,7 +125,7 @@ impl<'a> Kept<'a> {
         alloc: Global,
         checked: &'a Checked,
         packed: &Packed,
-        before: usize,
+        origin: Origin,
         place: usize,
         spot: Spot,
         known: &Known,
@@ -105,8 +142,7 @@ impl<'a> Kept<'a> {
         ensures moves { IfOk result (λ o. IfSome o (λ moves. moves ≡ true
             → CanMove (program_of checked.now.tree) (unpacked self.old.parts packed.now) (suc place))) }
     {
-        let way = Way::new(before, u64::from(spot.process), 0);
-        if !self.cover_known(alloc, checked, packed, place, known, way)? {
+        if !self.cover_known(alloc, checked, packed, place, known, origin)? {
             return Ok(None);
         }
         Ok(Some(known.outcomes.len() > 0))
@@ -119,7 +155,7 @@ impl<'a> Kept<'a> {
         checked: &'a Checked,
         memo: &mut Memo,
         packed: &Packed,
-        before: usize,
+        origin: Origin,
         place: usize,
         spot: Spot,
         ends: &[End<'a>],
@@ -139,7 +175,7 @@ impl<'a> Kept<'a> {
             (states_of self.new) (unpacked self.old.parts packed.now) (suc place)) }
     {
         let made = packed.processes.len();
-        let way = Way::new(before, u64::from(spot.process), 0);
+        let way = origin.way(u64::from(spot.process));
         let Some(known) = self
             .parts
             .learn(alloc, checked.program(), spot, made, ends)?
@@ -147,7 +183,7 @@ impl<'a> Kept<'a> {
             let covered = self.cover_ends(alloc, checked, packed, ends, way)?;
             return Ok(covered);
         };
-        let kept = self.cover_known(alloc, checked, packed, place, &known, way)?;
+        let kept = self.cover_known(alloc, checked, packed, place, &known, origin)?;
         memo.keep(known);
         Ok(kept)
     }
@@ -159,7 +195,7 @@ impl<'a> Kept<'a> {
         checked: &'a Checked,
         memo: &mut Memo,
         packed: &Packed,
-        before: usize,
+        origin: Origin,
         place: usize,
         spot: Spot,
     ) -> Result<Option<bool>, AllocError>
@@ -188,7 +224,7 @@ impl<'a> Kept<'a> {
             return Ok(None);
         };
         let listed = ends.as_slice();
-        if !self.follow_ends(alloc, checked, memo, packed, before, place, spot, listed)? {
+        if !self.follow_ends(alloc, checked, memo, packed, origin, place, spot, listed)? {
             return Ok(None);
         }
         Ok(Some(true))
@@ -202,7 +238,7 @@ impl<'a> Kept<'a> {
         checked: &'a Checked,
         memo: &mut Memo,
         packed: &Packed,
-        before: usize,
+        origin: Origin,
         place: usize,
     ) -> Result<Option<bool>, AllocError>
         requires sound { IsSound self.old }
@@ -221,9 +257,9 @@ impl<'a> Kept<'a> {
             return Ok(None);
         };
         let Some(known) = memo.find(spot) else {
-            return self.follow_new(alloc, checked, memo, packed, before, place, spot);
+            return self.follow_new(alloc, checked, memo, packed, origin, place, spot);
         };
-        let moves = self.follow_known(alloc, checked, packed, before, place, spot, known)?;
+        let moves = self.follow_known(alloc, checked, packed, origin, place, spot, known)?;
         Ok(moves)
     }
 }

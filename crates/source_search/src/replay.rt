@@ -117,7 +117,8 @@ fn followed_to<'a>(
     let back = places_back(alloc, kept.ways.as_slice(), place)?;
     let mut actions = Vec::new(alloc);
     let opening = SourceState::opening(alloc, checked)?;
-    if let Some(packed) = kept.parts.pack(alloc, checked.program(), &opening, 0)? {
+    let program = checked.program();
+    if let Some(packed) = kept.parts.pack(alloc, program, &opening, 0, 0)? {
         let _settled = kept.parts.settle(alloc, checked, packed, &mut actions)?;
     }
     for at in back.as_slice().iter().rev() {

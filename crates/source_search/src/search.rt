@@ -10,8 +10,9 @@ ghost use Rattle.source_search.specs.Kept.{IsExpanded, IsLonger, IsSound, NoneIs
 ghost use Rattle.source_search.specs.Known.{AreKnown};
 
 use crate::choices::choices;
+use crate::digest::digest_packed;
 use crate::ends::{has_failed, is_stuck, some_part_failed};
-use crate::kept::{Kept, Way};
+use crate::kept::{Kept, Origin, Way};
 use crate::memo::Memo;
 use crate::outside::Outside;
 use crate::packed::Packed;
@@ -226,9 +227,13 @@ impl<'a> Kept<'a> {
         ensures moves { IfOk result (λ o. IfSome o (λ moves. moves ≡ true
             → (t : ℕ) × CanMove (program_of checked.now.tree) (unpacked self.old.parts packed.now) t)) }
     {
+        let origin = Origin {
+            place: before,
+            digest: digest_packed(packed),
+        };
         let mut moves = false;
         for place in 0..packed.processes.len() {
-            let Some(able) = self.follow_spot(alloc, checked, memo, packed, before, place)? else {
+            let Some(able) = self.follow_spot(alloc, checked, memo, packed, origin, place)? else {
                 return Ok(None);
             };
             moves = either(moves, able);

@@ -5,10 +5,10 @@ use Rattle.source_reaching.proofs.Following.{ahead_among_none, ahead_among_then,
 use Rattle.source_reaching.proofs.follow.follow_own.Goals as goal
 
 pub loop-init : goal.loop-init
-loop-init c = ahead_among_none (program_of c.args.checked.now.tree) c.args.process (state_of c.args.state.now)
+loop-init g c = ahead_among_none (program_of c.args.checked.now.tree) c.args.process (state_of c.args.state.now)
 
 pub loop-preserved : goal.loop-preserved
-loop-preserved c =
+loop-preserved g c =
     let p = program_of c.args.checked.now.tree in
     let s = state_of c.loop.state in
     let next = state_of c.follow_one.new.state in
@@ -16,7 +16,7 @@ loop-preserved c =
     ahead_among_then p c.args.process (state_of c.args.state.now) s next c.loop.invariant second
 
 pub returns-in_default : goal.returns-in_default
-returns-in_default c =
+returns-in_default g c =
     followed_among_then (program_of c.args.checked.now.tree) c.args.process (state_of c.args.state.now)
     (state_of c.loop.state) (state_of c.follow_one.new.state) c.in_ok-followed.followed c.loop.invariant
     c.in_ok-followed.ensures

@@ -7,7 +7,7 @@ use Rattle.source_reaching.proofs.Following.{internal_among}
 use Rattle.source_reaching.proofs.follow.go_alone.Goals as goal
 
 pub returns : goal.returns
-returns c =
+returns g c =
     let s = state_of c.args.state.now in
     let s' = state_of c.take_internal.new.self in
     let kind = kind_of c.in-Some.kind in

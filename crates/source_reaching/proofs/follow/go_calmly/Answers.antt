@@ -10,18 +10,18 @@ use Rattle.source_reaching.proofs.Following.{ahead_among_none, ahead_among_one, 
 use Rattle.source_reaching.proofs.follow.go_calmly.Goals as goal
 
 pub returns-in_default : goal.returns-in_default
-returns-in_default c =
+returns-in_default g c =
     ahead_among_none (program_of c.args.checked.now.tree) c.args.process (state_of c.args.state.now)
 
 pub returns-then-listed-ne1 : goal.returns-then-listed-ne1
-returns-then-listed-ne1 c = (
+returns-then-listed-ne1 g c = (
   ahead_among_none (program_of c.args.checked.now.tree) c.args.process (state_of c.args.state.now),
   choices_among (program_of c.args.checked.now.tree) c.args.process (state_of c.args.state.now)
       (map action_of c.in-Some.actions.items) (rw c.in-Some.is at c.in_ok-actions.ensures),
 )
 
 pub returns : goal.returns
-returns c =
+returns g c =
     let p = program_of c.args.checked.now.tree in
     let s = state_of c.args.state.now in
     let a = action_of c.index-listed-0.result in

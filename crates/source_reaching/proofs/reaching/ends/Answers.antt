@@ -6,13 +6,8 @@ use Rattle.source_states.specs.declared.action.Action.{Action as ActionOf}
 use Rattle.source_reaching.specs.Among.{LeadsToEnds}
 use Rattle.source_reaching.specs.Choices.{AreOwnChoices}
 use Rattle.source_reaching.specs.Ends.{ends_in}
-use Rattle.source_reaching.proofs.Arriving.{ends_none, own_ends}
+use Rattle.source_reaching.proofs.Arriving.{own_ends}
 use Rattle.source_reaching.proofs.reaching.ends.Goals as goal
-
-pub returns-then-not-can_move : goal.returns-then-not-can_move
-returns-then-not-can_move c =
-    ends_none (program_of c.args.checked.now.tree) c.args.process (state_of c.args.state)
-    (ends_in c.new-ends.result.items) (rw c.if-not-can_move.true at c.can_move.ensures)
 
 pub returns : goal.returns
 returns c =

@@ -1,5 +1,4 @@
 use Rattle.std.proofs.Common.{subst, sym}
-use Rattle.std.proofs.lemmas.Result.{IfOk-weaker}
 use Rattle.program.specs.Views.{program_of}
 use Rattle.source_search.specs.Covered.{IsCoveredSo}
 use Rattle.source_search.specs.Kept.{states_of}
@@ -9,6 +8,13 @@ use Rattle.source_search.proofs.Packing.{grown_none}
 use Rattle.source_search.proofs.Remembered.{moved_same, moved_within}
 use Rattle.source_search.proofs.kept.Kept.cover_outcome.Goals as goal
 
+pub returns-then-quiet-clause-grown : goal.returns-then-quiet-clause-grown
+returns-then-quiet-clause-grown c = subst (IsGrown c.args.self.now.parts) (sym c.in_ok-kept.ensures.parts)
+    (grown_none c.args.self.now.parts)
+
+pub returns-then-quiet-clause-covered : goal.returns-then-quiet-clause-covered
+returns-then-quiet-clause-covered c = λ e. (0, c.in_ok-kept.ensures.kept e)
+
 pub cover-requires-clause-within : goal.cover-requires-clause-within
 cover-requires-clause-within c =
     let moved : IsMovedTo c.args.packed.now c.args.place c.args.outcome c.in-Some.next =
@@ -16,31 +22,10 @@ cover-requires-clause-within c =
     moved_within c.args.self.now.parts c.args.packed.now c.in-Some.next c.args.place c.args.outcome moved
     c.requires.there c.requires.within
 
-pub returns-then-not-quiet-clause-covered : goal.returns-then-not-quiet-clause-covered
-returns-then-not-quiet-clause-covered c =
-    let moved : IsMovedTo c.args.packed.now c.args.place c.args.outcome c.in-Some.next =
-    rw c.in-Some.is at c.in_ok-next.ensures in
-    IfOk-weaker c.cover.result _ _ (λ b h e.
-    subst (IsCoveredSo (program_of c.args.checked.now.tree) (states_of c.cover.new.self))
-    (moved_same c.args.self.now.parts c.args.packed.now c.in-Some.next c.args.place c.args.outcome moved c.requires.there)
-    (h e))
-    c.cover.ensures.covered
-
-pub keep_packed-requires-clause-within : goal.keep_packed-requires-clause-within
-keep_packed-requires-clause-within c =
-    let moved : IsMovedTo c.args.packed.now c.args.place c.args.outcome c.in-Some.next =
-    rw c.in-Some.is at c.in_ok-next.ensures in
-    moved_within c.args.self.now.parts c.args.packed.now c.in-Some.next c.args.place c.args.outcome moved
-    c.requires.there c.requires.within
-
-pub returns-clause-grown : goal.returns-clause-grown
-returns-clause-grown c = subst (IsGrown c.args.self.now.parts) (sym c.in_ok-kept.ensures.parts)
-    (grown_none c.args.self.now.parts)
-
 pub returns-clause-covered : goal.returns-clause-covered
 returns-clause-covered c = λ e.
     let moved : IsMovedTo c.args.packed.now c.args.place c.args.outcome c.in-Some.next =
     rw c.in-Some.is at c.in_ok-next.ensures in
-    subst (IsCoveredSo (program_of c.args.checked.now.tree) (states_of c.keep_packed.new.self))
+    subst (IsCoveredSo (program_of c.args.checked.now.tree) (states_of c.cover.new.self))
     (moved_same c.args.self.now.parts c.args.packed.now c.in-Some.next c.args.place c.args.outcome moved c.requires.there)
-    (0, c.in_ok-kept.ensures.kept e)
+    (c.in_ok-covered.ensures.covered e)

@@ -9,7 +9,7 @@ use Rattle.source_search.proofs.Coverage.{ahead_merged}
 use Rattle.source_search.proofs.parts.Parts.follow_at.Goals as goal
 
 pub returns-clause-ahead : goal.returns-clause-ahead
-returns-clause-ahead c = λ within.
+returns-clause-ahead g c = λ within.
     let p = program_of c.args.checked.now.tree in
     let parts = c.args.self.now in
     let spot = c.in-Some.spot in

@@ -2,7 +2,6 @@ use Rattle.std.proofs.Common.{◌≡◌, ◌<◌, ◌∙◌, ◌↔◌, ℕ, All
 use Rattle.std.specs.Prelude.{IsSome}
 use Rattle.source_offers.specs.Stores.{variables_of}
 use Rattle.source_states.specs.States.{state_of}
-use Rattle.source_table.specs.Tables.{table_of}
 use Rattle.source_search.specs.Packed.{table_in, variables_in}
 use Rattle.source_search.specs.Spots.{IsMergedTo}
 use Rattle.source_search.proofs.Merged.{merged_all}
@@ -21,9 +20,9 @@ returns-clause-merged c = λ within.
     c.in-Some.processes.items =
     rw c.in-Some.is at (c.in_ok-processes.ensures.merged
     (subst (All (λ n. n < length o.processes.items)) (sym c.as_slice-own.ensures.value) within.processes)) in
-    let t : table_in b.tables.items c.in-Some-2.table ≡ Some (table_of c.table.result.now) =
+    let t : table_in b.tables.items c.in-Some-2.table ≡ Some s.table =
     rw c.in-Some-2.is at c.in_ok-table.ensures.there in
-    let v : variables_in d.variables.items c.in-Some-3.variables ≡ Some (variables_of c.variables.result.now) =
+    let v : variables_in d.variables.items c.in-Some-3.variables ≡ Some (variables_of c.variables-values.result.now) =
     rw c.in-Some-3.is at c.in_ok-variables.ensures.there in
     merged_all o a b d c.in_ok-table.ensures.grown c.in_ok-variables.ensures.grown x
     (record { table = c.in-Some-2.table; variables = c.in-Some-3.variables; processes = c.in-Some.processes }) s
@@ -32,4 +31,4 @@ returns-clause-merged c = λ within.
     c.in-Some.processes.items) c.as_slice-own.ensures.value are)
     (subst (λ (xs : List ℕ). (q : ℕ) → Contains xs q ↔ IsSome (s.process q)) (sym c.as_slice-numbers.ensures.value)
     c.in_ok-all.ensures.all)
-    (t ∙ ap Some c.table.ensures) (v ∙ ap Some c.variables.ensures)
+    t (v ∙ ap Some c.variables-values.ensures)

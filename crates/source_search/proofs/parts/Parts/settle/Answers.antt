@@ -5,13 +5,13 @@ use Rattle.source_search.proofs.Packing.{grown_none, grown_twice}
 use Rattle.source_search.proofs.parts.Parts.settle.Goals as goal
 
 pub loop-init : goal.loop-init
-loop-init c = record {
+loop-init g c = record {
   grown = grown_none c.args.self.now;
   ahead = λ within. ahead_of_itself (program_of c.args.checked.now.tree) c.args.self.now c.args.packed within;
 }
 
 pub loop-preserved : goal.loop-preserved
-loop-preserved c =
+loop-preserved g c =
     let p = program_of c.args.checked.now.tree in
     record {
       grown = grown_twice c.args.self.now c.loop.self c.follow_at.new.self c.loop.invariant.grown
@@ -25,6 +25,6 @@ loop-preserved c =
     }
 
 pub returns-then-is_same-clause-ahead : goal.returns-then-is_same-clause-ahead
-returns-then-is_same-clause-ahead c = λ within.
+returns-then-is_same-clause-ahead g c = λ within.
     ahead_of_still (program_of c.args.checked.now.tree) c.args.self.now c.loop.self c.follow_at.new.self c.args.packed
     c.loop.settled c.in_ok-next.ensures.grown (c.loop.invariant.ahead within)

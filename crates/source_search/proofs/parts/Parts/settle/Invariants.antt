@@ -4,7 +4,7 @@ use Rattle.source_search.specs.Packed.{IsGrown, IsWithin}
 use Rattle.source_search.proofs.parts.Parts.settle.Given as goal
 
 abbrev pub invariant-loop : goal.invariant-loop
-invariant-loop l = record {
+invariant-loop g l = record {
   grown : IsGrown l.fn.self l.self;
   ahead : IsWithin l.fn.self l.fn.packed → IsAheadOf (program_of l.checked.tree) l.fn.self l.self l.fn.packed l.settled;
 }
