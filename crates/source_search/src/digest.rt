@@ -29,9 +29,7 @@ impl Mixer {
 
     // Mixes in a number.
     fn feed(&mut self, number: u64) {
-        self.number = (self.number ^ number)
-            .wrapping_mul(SPREAD)
-            .rotate_left(31);
+        self.number = (self.number ^ number).wrapping_mul(SPREAD).rotate_left(31);
     }
 
     // Mixes in a number of one kind among several.

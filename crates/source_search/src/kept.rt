@@ -189,7 +189,14 @@ impl<'a> Kept<'a> {
     pub fn has_moved(&self, digest: u64, other: &Packed, place: usize, outcome: Outcome) -> bool
         ensures { result ≡ true → HasMoved self.now.states.items other.now place outcome }
     {
-        is_moved_kept(self.states.as_slice(), &self.places, digest, other, place, outcome)
+        is_moved_kept(
+            self.states.as_slice(),
+            &self.places,
+            digest,
+            other,
+            place,
+            outcome,
+        )
     }
 
     /// Keeps a state of these parts, of this digest, that isn't kept; false, where no more can be kept.
