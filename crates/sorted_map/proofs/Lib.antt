@@ -1,2 +1,3 @@
 mod Finding
 mod Changing
+pub mod Entries

@@ -1,10 +1,11 @@
 -- A value that is put into a variable.
-use Rattle.std.proofs.Common.{◌≡◌, ℕ, ℤ, Bool, true, false, cond, ◌&&◌, ◌==◌, Option, Some, refl, ap, ◌∙◌, arith}
+use Rattle.std.proofs.Common.{◌≡◌, ℕ, ℤ, Bool, true, false, cond, ◌&&◌, ◌==◌, Option, Some, List, refl, ap, ◌∙◌, arith}
 use Rattle.std.proofs.lemmas.Grind.{common_steps}
 use Rattle.std.specs.Ordering.{nat_cmp, ordering_then, is_eq}
 use Rattle.std.specs.declared.cmp.Ordering.{Ordering}
 use Rattle.std.specs.declared.cmp.Ordering.TheVariants.{Less, Equal, Greater}
-use Rattle.std.specs.BTreeMap.{BTreeMap, get, is_at}
+use Rattle.std.specs.BTreeMap.{is_at}
+use Rattle.sorted_map.specs.Maps.{Updates, get}
 use Rattle.meaning.specs.Values.{with_variable, or_zero}
 use Rattle.source_offers.specs.declared.variables.Place.{Place}
 use Rattle.source_offers.specs.Stores.{place_cmp, variables_in}
@@ -35,8 +36,8 @@ is_at-place p m n k =
     ∙ and_assoc (m == p.monitor) (n == p.member) (k == p.index)
 
 -- the map with a value at a place, as the value of each variable
-pub put_variable : (before after : BTreeMap Place ℤ) (p : Place) (z : ℤ)
-    → ((q : Place) → get place_cmp after q ≡ cond (is_at (place_cmp p) q) (Some z) (get place_cmp before q))
+pub put_variable : (before after : List (Place × ℤ)) (p : Place) (z : ℤ)
+    → Updates place_cmp before after p (Some z)
     → variables_in after ≡ with_variable (variables_in before) p.monitor p.member p.index z
 put_variable before after p z at = λ i m n k. (
     ap or_zero (at (record { monitor = m; member = n; index = k }))

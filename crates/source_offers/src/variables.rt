@@ -1,8 +1,8 @@
 ghost use Rattle.std.specs.Prelude.{◌≡◌, IfOk, OnErr, OnOk, pos, true};
 ghost use Rattle.meaning.specs.Values.{with_variable};
 
+use sorted_map::SortedMap;
 use std::alloc::{AllocError, Global};
-use std::collections::BTreeMap;
 use std::hash::{FoldHasher, Hasher};
 
 /// Where a variable stands: its monitor, its member, and in an array its index (0 where the member is no array).
@@ -20,7 +20,7 @@ pub struct Place {
 #[derive(Drop)]
 pub struct Variables {
     // What was assigned; every other variable is 0.
-    values: BTreeMap<Place, i64>,
+    values: SortedMap<Place, i64>,
 }
 
 impl Variables {
@@ -31,7 +31,7 @@ impl Variables {
         ensures { variables_of result ≡ (λ m n i. pos 0) }
     {
         Variables {
-            values: BTreeMap::new(alloc),
+            values: SortedMap::new(alloc),
         }
     }
 
@@ -39,9 +39,9 @@ impl Variables {
     pub fn get(&self, place: Place) -> i64
         ensures { result ≡ variables_of self.now place.monitor place.member place.index }
     {
-        match self.values.get(&place) {
+        match self.values.get(place) {
             None => 0,
-            Some(value) => *value,
+            Some(value) => value,
         }
     }
 
@@ -51,15 +51,15 @@ impl Variables {
             ≡ with_variable (variables_of self.old) place.monitor place.member place.index value) }
         ensures err { OnErr result (variables_of self.new ≡ variables_of self.old) }
     {
-        let _old = self.values.insert(place, value)?;
-        Ok(())
+        self.values.insert(place, value)
     }
+
     /// The same values once more.
     pub fn copy(&self) -> Result<Variables, AllocError>
         ensures { IfOk result (λ v. variables_of v ≡ variables_of self.now) }
     {
         Ok(Variables {
-            values: self.values.clone()?,
+            values: self.values.copy()?,
         })
     }
 
@@ -72,7 +72,7 @@ impl Variables {
 
     /// Writes the values to a hasher, each with its place; zeros count for nothing.
     pub fn feed(&self, hasher: &mut FoldHasher) {
-        for (place, value) in self.values.iter() {
+        for (place, value) in self.values.entries() {
             if *value != 0 {
                 hasher.write_u32(place.monitor);
                 hasher.write_u32(place.member);
