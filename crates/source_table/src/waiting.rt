@@ -155,7 +155,7 @@ impl Table {
         if !self.waits_on(process, condition) {
             return false;
         }
-        let _was = self.waits.remove(&process);
+        self.waits.remove(process);
         true
     }
 
@@ -169,7 +169,7 @@ impl Table {
             return false;
         }
         self.let_go(resumed);
-        let _was = self.waits.remove(&process);
+        self.waits.remove(process);
         true
     }
 }
