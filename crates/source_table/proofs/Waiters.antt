@@ -88,3 +88,11 @@ pub rest-not : (m : List (ℕ × Member)) (c w : Member) (resumed : List ℕ) (p
     → ((q : ℕ) → waits_in m q ≡ Some c → Contains resumed q) → ⊥
 rest-not m c w resumed p es later rest split same n all =
     n (all p (rest.0 p (subst (λ xs. Contains xs (p, c)) (sym split) (0, omega arith, λ i. (p, same i)))))
+
+pub rest-end : (m : List (ℕ × Member)) (c : Member) (resumed : List ℕ) (es : List (ℕ × Member)) → IsRest m c resumed es
+    → es ≡ [] → (q : ℕ) → waits_in m q ≡ Some c → Contains resumed q
+rest-end m c resumed es rest empty q waits =
+    rest.1 q waits (λ h. none (subst (λ xs. Contains xs (q, c)) empty h))
+  where
+    none : Contains [] (q, c) → Contains resumed q
+    none (k, l, e) = absurd (omega (arith, l))
