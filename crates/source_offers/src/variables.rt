@@ -19,7 +19,7 @@ pub struct Place {
 /// The value of each variable. `variables_of` makes it those of the meaning.
 #[derive(Drop)]
 pub struct Variables {
-    // What was assigned; every other variable is 0.
+    // What isn't 0, so that the lists are the same where the values are.
     values: SortedMap<Place, i64>,
 }
 
@@ -51,6 +51,10 @@ impl Variables {
             ≡ with_variable (variables_of self.old) place.monitor place.member place.index value) }
         ensures err { OnErr result (variables_of self.new ≡ variables_of self.old) }
     {
+        if value == 0 {
+            self.values.remove(place);
+            return Ok(());
+        }
         self.values.insert(place, value)
     }
 
@@ -63,22 +67,20 @@ impl Variables {
         })
     }
 
-    /// Whether the same was assigned to the same variables, so that all values are the same.
+    /// Whether all values are the same.
     pub fn is_same(&self, other: &Variables) -> bool
         ensures { result ≡ true → variables_of self.now ≡ variables_of other.now }
     {
         self.values == other.values
     }
 
-    /// Writes the values to a hasher, each with its place; zeros count for nothing.
+    /// Writes the values that aren't 0 to a hasher, each with its place.
     pub fn feed(&self, hasher: &mut FoldHasher) {
         for (place, value) in self.values.entries() {
-            if *value != 0 {
-                hasher.write_u32(place.monitor);
-                hasher.write_u32(place.member);
-                hasher.write_u32(place.index);
-                hasher.write_i64(*value);
-            }
+            hasher.write_u32(place.monitor);
+            hasher.write_u32(place.member);
+            hasher.write_u32(place.index);
+            hasher.write_i64(*value);
         }
     }
 }

@@ -8,4 +8,4 @@ returns g c =
     let facts = c.binary_search_by_key.ensures in
     let by_key = facts.position (λ e. e.0) (answers_always _ _ _ (λ f a r g called. search rules)) in
     rw (← c.self.view_is, ← c.deref.ensures.value)
-    (searched g.met.K.Ord.total c.args.key _ _ (rw c.deref.ensures.value c.self.invariant) facts.bound by_key)
+    (searched g.met.K.Ord.total c.args.key c.deref.result.now c.binary_search_by_key.result (rw c.deref.ensures.value c.self.invariant) facts.bound by_key)
