@@ -1,5 +1,5 @@
 -- What `==` says of the parts of a table.
-use Rattle.std.proofs.Common.{◌≡◌, ◌&&◌, ◌==◌, ◌∷◌, List, [], Bool, true, false, refl, ap, rules}
+use Rattle.std.proofs.Common.{◌≡◌, ◌&&◌, ◌==◌, Bool, true, false, refl, ap, rules}
 use Rattle.std.proofs.lemmas.Bool.Decides.{Decides-eqb, Decides-int_eq}
 use Rattle.words.specs.declared.outcome.Fault.{Fault}
 use Rattle.words.specs.contracts.outcome.FaultPartialEq as fault
@@ -21,7 +21,6 @@ use Rattle.source_table.specs.declared.table.Table.{Table as TableOf}
 use Rattle.source_table.specs.contracts.table.TablePartialEq as table
 use Rattle.source_table.specs.Tables.{table_of, or_free}
 use Rattle.source_offers.specs.Stages.{end_of}
-use Rattle.program.specs.contracts.kinds.MemberPartialEq as member
 use Rattle.std.specs.BTreeMap.{is_at}
 use Rattle.std.specs.Map.{lookup}
 use Rattle.std.specs.Ordering.{nat_cmp}

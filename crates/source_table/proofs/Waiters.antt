@@ -1,7 +1,6 @@
 -- Processes that wait, and wait no longer.
 use Rattle.std.proofs.Common.{◌≡◌, ◌↔◌, ℕ, zero, suc, Bool, true, false, cond, ◌==◌, ◌+◌, drop, sym, Option, Some}
 use Rattle.std.proofs.Common.{None, List, [], ◌∷◌, Contains, refl, ap, subst, ◌∙◌, arith}
-use Rattle.std.proofs.lemmas.Grind.{common_steps}
 use Rattle.std.proofs.lemmas.Cmp.{nat_cmp_total}
 use Rattle.std.specs.Ordering.{nat_cmp}
 use Rattle.std.proofs.lemmas.Map.Lookups.{exact_unsigned}
@@ -94,5 +93,5 @@ pub rest-end : (m : List (ℕ × Member)) (c : Member) (resumed : List ℕ) (es 
 rest-end m c resumed es rest empty q waits =
     rest.1 q waits (λ h. none (subst (λ xs. Contains xs (q, c)) empty h))
   where
-    none : Contains [] (q, c) → Contains resumed q
+    none : Contains {X = ℕ × Member} [] (q, c) → Contains resumed q
     none (k, l, e) = absurd (omega (arith, l))
