@@ -121,7 +121,7 @@ mod tests {
         assert_eq!(rt; map.get(7), Some(3));
         assert_eq!(rt; map.get(9), None);
         let other = map.copy()?;
-        assert!(map == other);
+        assert!(rt; map == other);
         Ok(())
     }
 }
