@@ -104,8 +104,8 @@ impl Event {
     {
         self.name = name;
         self.value = value;
-        self.woken = ThreadSet::Nobody;
-        self.moved = ThreadSet::Nobody;
+        self.woken.clear();
+        self.moved.clear();
     }
 
     /// Becomes an event that wakes and moves these threads.

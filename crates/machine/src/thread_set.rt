@@ -37,12 +37,21 @@ impl ThreadSet {
         set
     }
 
-    // Becomes the set of these threads, which are from 1 to 1,000. Only of two threads or more it writes all words.
+    // Becomes the set of no thread. A set is written whole, so one of no thread is left as it is.
+    pub(crate) fn clear(&mut self)
+        ensures { self.new ≡ set_of [] }
+    {
+        if !self.is_empty() {
+            *self = ThreadSet::Nobody;
+        }
+    }
+
+    // Becomes the set of these threads, which are from 1 to 1,000.
     pub(crate) fn put(&mut self, threads: &[u32])
         requires { All IsMember threads.now }
         ensures { self.new ≡ set_of threads.now }
     {
-        *self = ThreadSet::Nobody;
+        self.clear();
         for t in threads {
             self.insert(*t);
         }
