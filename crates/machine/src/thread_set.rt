@@ -37,8 +37,8 @@ impl ThreadSet {
         set
     }
 
-    // Becomes the set of no thread. A set is written whole, so one of no thread is left as it is.
-    pub(crate) fn clear(&mut self)
+    /// Becomes the set of no thread. A set is written whole, so one of no thread is left as it is.
+    pub fn clear(&mut self)
         ensures { self.new ≡ set_of [] }
     {
         if !self.is_empty() {
@@ -46,8 +46,8 @@ impl ThreadSet {
         }
     }
 
-    // Becomes the set of these threads, which are from 1 to 1,000.
-    pub(crate) fn put(&mut self, threads: &[u32])
+    /// Becomes the set of these threads, which are from 1 to 1,000.
+    pub fn put(&mut self, threads: &[u32])
         requires { All IsMember threads.now }
         ensures { self.new ≡ set_of threads.now }
     {
