@@ -14,7 +14,9 @@ ghost use Rattle.machine.specs.ConcretePieces.{call_name, woken_in, moved_in, Te
 use crate::call_step::CallProgress;
 use crate::common::Common;
 use crate::event::{Event, EventName};
-use futexcalls::{FutexAnswer, FutexCall, FutexLists, FutexPhase, FutexProgress, futex_step, next_bucket};
+use futexcalls::{
+    FutexAnswer, FutexCall, FutexLists, FutexPhase, FutexProgress, futex_step, next_bucket,
+};
 
 // How a call that is over is told.
 fn name_of(call: FutexCall) -> EventName

@@ -49,7 +49,13 @@ impl Common {
         ensures holders { self.new.sleepers.holders ≡ self.old.sleepers.holders }
     {
         let address = address_at(&self.words, t, phase);
-        let next = exit_step(&mut self.words, &mut self.buckets, t, phase, &mut self.lists.woken);
+        let next = exit_step(
+            &mut self.words,
+            &mut self.buckets,
+            t,
+            phase,
+            &mut self.lists.woken,
+        );
         let woken = self.lists.woken.as_slice();
         let value = match phase {
             ExitPhase::LastWake => woken.len() as u32,

@@ -88,6 +88,7 @@ pub fn step_parts(
     requires room { length shared.old.output < shared.old.capacity }
     requires thread { (0 < t) × (t ≤ vec_len threads.old) }
     requires few { vec_len threads.old ≤ thread_count shared.old.sleepers }
+    requires fits { thread_count shared.old.sleepers ≤ most_threads }
     requires awake { place_of shared.old.sleepers t ≡ None }
     requires next { (x : Thread) → thread_at threads.old.items t ≡ Some x
         → next ≡ next_step_of (look image.now t x) }
@@ -144,6 +145,7 @@ fn fork_parts(
 ) -> Result<(), StepFault>
     requires thread { (0 < t) × (t ≤ vec_len threads.old) }
     requires few { vec_len threads.old ≤ thread_count shared.old.sleepers }
+    requires fits { thread_count shared.old.sleepers ≤ most_threads }
     requires awake { place_of shared.old.sleepers t ≡ None }
     requires asks { (x : Thread) → thread_at threads.old.items t ≡ Some x
         → AsksFork (look image.now t x) has_room }

@@ -4,6 +4,7 @@ use Rattle.words.specs.Process.{process_word}
 use Rattle.robustexit.specs.declared.phase.ExitPhase.{ExitPhase}
 use Rattle.robustexit.specs.declared.phase.ExitPhase.TheVariants.{Entry, Pending, ClearId, LastWake, Ended}
 use Rattle.robustexit.specs.Fronts.{wake_word}
+use Rattle.buckets.specs.Sleepers.{thread_count}
 use Rattle.futexcalls.specs.Answers.{word_of}
 use Rattle.machine.specs.ConcreteServing.{event_of}
 use Rattle.machine.specs.ConcreteExits.{leave}
@@ -33,12 +34,14 @@ pub returns-clause-gives : goal.returns-clause-gives
 returns-clause-gives c =
     let o = c.self.inside.output.items in
     let x = c.exit_step-next.ensures in
+    let most : thread_count c.self.inside.buckets ≡ thread_count c.args.self.now.sleepers =
+    ap (λ v. thread_count v.sleepers) c.self.view_is in
     let within : process_word c.args.t 5 < length c.self.inside.words =
-    omega (arith, c.requires.thread.1, c.self.invariant.wide) in
+    omega (arith, c.requires.thread.1, most, c.self.invariant.wide) in
     let value : c.match-phase.value
     ≡ value_of c.args.t c.args.phase c.self.inside.words c.exit_step-next.new.woken =
     elim c.match-phase.branch [
-      | in-LastWake w ↦ w.value-is ∙ w.len.ensures
+      | in-LastWake w ↦ w.value-is ∙ ap length c.as_slice-woken.ensures
           ∙ sym (ap (λ p. value_of c.args.t p c.self.inside.words c.exit_step-next.new.woken) w.in-LastWake.is)
       | in_default w ↦ w.value-is ∙ c.address_at-address.ensures
           ∙ other_value c.args.t c.args.phase c.self.inside.words c.exit_step-next.new.woken
