@@ -34,8 +34,8 @@ fn tell(call: FutexCall, answer: FutexAnswer, lists: &FutexLists, event: &mut Ev
     requires woken { All IsThread (woken_in (answered answer lists.now)) }
     requires moved { All IsThread (moved_in (answered answer lists.now)) }
     ensures answer { result ≡ answer_of call (answered answer lists.now) }
-    ensures event { event.new
-        ≡ event_of (call_name call) (answer_of call (answered answer lists.now)) (woken_in (answered answer lists.now)) (moved_in (answered answer lists.now)) }
+    ensures event { let told = answered answer lists.now in event.new
+        ≡ event_of (call_name call) (answer_of call told) (woken_in told) (moved_in told) }
 {
     let value = answer.value(call, lists);
     match answer {
