@@ -1,25 +1,19 @@
 -- What calm actions of one process lead to, and how far what is kept covers.
-use Rattle.std.proofs.Common.{◌≡◌, ◌+◌, ℕ, zero, suc, Bool, true, false, List, [], ◌∷◌, None, Option, Some, refl}
-use Rattle.std.proofs.Common.{All, Contains, sym, ap, ◌∙◌, subst, arith, inl, inr}
-use Rattle.std.specs.Prelude.{if◌then◌else◌, nat_le, option_map}
+use Rattle.std.proofs.Common.{◌≡◌, ◌+◌, ℕ, zero, suc, List, [], ◌∷◌, Some, refl}
+use Rattle.std.proofs.Common.{All, Contains, sym, ◌∙◌, subst, arith, inl, inr}
+use Rattle.std.specs.Prelude.{if◌then◌else◌}
 use Rattle.std.proofs.lemmas.List.Elements.{All-contains}
 use Rattle.program.specs.Trees.{Program}
-use Rattle.meaning.specs.Labels.{Action, FindsClaimed, FindsFull, Kind, kind_of}
-use Rattle.meaning.specs.Offers.{ClaimsOne, Does, JoinsOne, MakesOne, NotifiesAll, NotifiesSome, Offer, Rests, Takes}
-use Rattle.meaning.specs.Offers.{offer}
-use Rattle.meaning.specs.Processes.{Process}
-use Rattle.meaning.specs.Table.{Table}
+use Rattle.meaning.specs.Labels.{Action, Kind}
 use Rattle.meaning.specs.Runs.{CanMove, IsAction, IsStep}
 use Rattle.meaning.specs.States.{SourceState}
 use Rattle.meaning.proofs.Unique.{step_once}
-use Rattle.proof_commutation.specs.Deferring.{is_internal}
-use Rattle.proof_exploration.specs.Exploring.{IsCalmKind, IsFromOutside}
+use Rattle.proof_exploration.specs.Exploring.{IsCalmKind}
 use Rattle.proof_exploration.specs.Searching.{IsCovered}
 use Rattle.proof_exploration.proofs.Representing.{calm_named}
-use Rattle.source_states.specs.Internal.{IsInternalTaken, internal_from, internal_kind}
+use Rattle.source_states.specs.Own.{IsOwnTaken}
 use Rattle.source_reaching.specs.Choices.{AreOwnChoices, by}
 use Rattle.source_reaching.specs.Covered.{IsAhead, IsFollowable}
-use Rattle.source_reaching.proofs.Tried.{HasName, are_choices, one_tried}
 
 -- more actions are room for what fewer are
 module _ (p : Program) (kept : List SourceState) where
@@ -94,41 +88,14 @@ module _ (p : Program) where
       ),
     )
 
-some_if : {A : Type 0} (b : Bool) (x y : A) → (if b then Some x else None) ≡ Some y → x ≡ y
-some_if true x y e = cc
-some_if false x y e = absurd (cc)
-
--- an internal action that is calm is all that its process may do
-internal_named : (n : ℕ) (o : Offer) (t : Table) (kind : Kind) → internal_kind o t ≡ Some kind → IsCalmKind kind
-    → HasName n o t kind
-internal_named n Rests t kind is calm = absurd (let no : None ≡ Some kind = is in cc)
-internal_named n (Does l e q) t kind is calm = λ label effect after t' takes allows.
-    ap kind_of takes.0 ∙ some_if (is_internal l) (kind_of l) kind is
-internal_named n (Takes k free abandoned) t kind is calm = absurd (let no : None ≡ Some kind = is in cc)
-internal_named n (MakesOne child q full) t kind is calm = absurd
-    (subst IsCalmKind (sym (some_if (nat_le t.most t.made) (kind_of FindsFull) kind is)) calm)
-internal_named n (ClaimsOne child q refused) t kind is calm = absurd
-    (subst IsCalmKind (sym (some_if (t.claimed child) (kind_of (FindsClaimed child)) kind is)) calm)
-internal_named n (JoinsOne child q) t kind is calm = absurd (let no : None ≡ Some kind = is in cc)
-internal_named n (NotifiesSome c q) t kind is calm = absurd (let no : None ≡ Some kind = is in cc)
-internal_named n (NotifiesAll c q) t kind is calm = absurd (let no : None ≡ Some kind = is in cc)
-
--- a process took its internal action, which is calm
-module _ (p : Program) (s s' : SourceState) (n : ℕ) (kind : Kind) (is : IsInternalTaken p n (Some kind) s s')
-    (calm : IsCalmKind kind) (own : IsFromOutside kind → ⊥) where
-  acts : IsStep p s (by n kind) s' → IsAction p s (by n kind) s'
-  acts (inl x) = x
-  acts (inr (inl x)) = absurd (own (subst IsFromOutside (sym x.1) tt))
-  acts (inr (inr x)) = absurd (own (subst IsFromOutside (sym x.2) tt))
-
-  alone : (o : Option Process) → s.process n ≡ o → IsFollowable p s n (by n kind ∷ [])
-  alone None e = absurd (let no : None ≡ Some kind = sym (ap (internal_from p s) e) ∙ is.0 in cc)
-  alone (Some q) e = record {
-    calm = calm_named p s n kind s' (acts is.1) calm;
-    choices = are_choices p s n (offer p s.variable q) (by n kind ∷ []) (sym (ap (option_map (offer p s.variable)) e))
-        (one_tried n (offer p s.variable q) s.table kind (by n kind ∷ []) refl
-        (internal_named n (offer p s.variable q) s.table kind (sym (ap (internal_from p s) e) ∙ is.0) calm));
-  }
-
-  pub internal_followable : IsFollowable p s n (by n kind ∷ [])
-  internal_followable = alone (s.process n) refl
+-- a process took its next action, which is the only one, and calm
+pub own_followable : (p : Program) (s s' : SourceState) (n : ℕ) (kind : Kind) → IsOwnTaken p n (Some kind) s s'
+    → IsCalmKind kind → IsFollowable p s n (by n kind ∷ [])
+own_followable p s s' n kind is calm = record {
+  calm = calm_named p s n kind s' is.0 calm;
+  choices = λ other u x. (
+    kind,
+    (zero, omega arith, refl),
+    subst (λ k. IsAction p s (by n k) u) (is.1 other u x) x,
+  );
+}

@@ -1,20 +1,20 @@
 -- Calm actions of a process that are followed, whatever the other processes are.
-use Rattle.std.proofs.Common.{ℕ, List, [], ◌∷◌, Option, Some}
+use Rattle.std.proofs.Common.{ℕ, List, [], ◌∷◌, Option, Some, inl}
 use Rattle.std.specs.Prelude.{IsSome}
 use Rattle.program.specs.Trees.{Program}
 use Rattle.meaning.specs.Labels.{Action, Kind}
 use Rattle.meaning.specs.Processes.{Process}
 use Rattle.meaning.specs.Runs.{IsStep}
 use Rattle.meaning.specs.States.{SourceState}
-use Rattle.proof_exploration.specs.Exploring.{IsCalmKind, IsFromOutside}
-use Rattle.source_states.specs.Internal.{IsInternalTaken}
+use Rattle.proof_exploration.specs.Exploring.{IsCalmKind}
+use Rattle.source_states.specs.Own.{IsOwnTaken}
 use Rattle.source_reaching.specs.Among.{IsAheadAmong, among}
 use Rattle.source_reaching.specs.Choices.{by}
 use Rattle.source_reaching.specs.Covered.{IsFollowable}
 use Rattle.source_reaching.specs.Followed.{IsFollowedAmong}
 use Rattle.source_reaching.specs.declared.follow.Followed.{Followed}
 use Rattle.source_reaching.specs.declared.follow.Followed.TheVariants.{Stopped, Went, Choices, Lost}
-use Rattle.source_reaching.proofs.Ahead.{ahead_none, ahead_one, ahead_then, internal_followable}
+use Rattle.source_reaching.proofs.Ahead.{ahead_none, ahead_one, ahead_then, own_followable}
 use Rattle.source_reaching.proofs.Among.{followable_among, stands_on, step_up}
 
 module _ (p : Program) (t : ℕ) where
@@ -44,10 +44,10 @@ module _ (p : Program) (t : ℕ) where
         (step_up others p s a s' step),
   )
 
-  pub internal_among : (s s' : SourceState) (kind : Kind) → IsInternalTaken p t (Some kind) s s' → IsCalmKind kind
-      → (IsFromOutside kind → ⊥) → IsAheadAmong p t s s'
-  internal_among s s' kind is calm own =
-      ahead_among_one s (by t kind) s' (internal_followable p s s' t kind is calm own) is.1
+  pub own_among : (s s' : SourceState) (kind : Kind) → IsOwnTaken p t (Some kind) s s' → IsCalmKind kind
+      → IsAheadAmong p t s s'
+  own_among s s' kind is calm =
+      ahead_among_one s (by t kind) s' (own_followable p s s' t kind is calm) (inl is.0)
 
   pub choices_among : (s : SourceState) (actions : List Action) → IsFollowable p s t actions → IsSome (s.process t)
       → (others : ℕ → Option Process) → IsFollowable p (among others s) t actions

@@ -12,7 +12,7 @@ ghost use Rattle.source_reaching.specs.Followed.{IsFollowedAmong, IsReached};
 
 use crate::own::own_actions;
 use crate::trail::Trail;
-use program::{Checked, Role, Statement, Target};
+use program::{Checked, Statement};
 use source_offers::{Frame, Process, Stage, upcoming};
 use source_states::{Action, ActionKind, SourceState};
 use source_table::Table;
@@ -55,59 +55,32 @@ fn are_calm(actions: &[Action]) -> bool
     true
 }
 
-// How the next action of a process looks.
-#[derive(Clone, Copy, PartialEq, Eq, Debug)]
-enum Looks {
-    // As one for which processes race, or none.
-    Racing,
-    // As a calm one that no other process sees.
-    Internal,
-    // As another that is calm.
-    Calm,
-}
-
-// How what comes next in a procedure looks.
-fn looks_within(frame: &Frame) -> Looks {
+// Whether what comes next in a procedure looks calm.
+fn looks_calm_within(frame: &Frame) -> bool {
     match upcoming(frame.rest.as_slice()) {
-        Some(Statement::Fork { .. }) | Some(Statement::Join { .. }) => Looks::Racing,
-        Some(Statement::Assign(Target::Local(_), _)) => Looks::Internal,
-        Some(Statement::If { .. }) | Some(Statement::While { .. }) => Looks::Internal,
-        Some(Statement::Call { .. }) | Some(Statement::Abort) => Looks::Internal,
-        None | Some(Statement::Return(_)) => match frame.role {
-            Role::Internal(_) | Role::External => Looks::Internal,
-            _ => Looks::Calm,
-        },
-        Some(_) => Looks::Calm,
-    }
-}
-
-// How the next action of a process looks, from where the process stands. Nothing is promised of it: it spares asking
-// what the process may do.
-fn looks_by(process: &Process, table: &Table) -> Looks {
-    match &process.stage {
-        Stage::Entering(_) | Stage::Suspended(_) | Stage::Over(_) => Looks::Racing,
-        Stage::Joining { child, .. } => match table.over(*child) {
-            None => Looks::Racing,
-            Some(_) => Looks::Calm,
-        },
-        Stage::Before(_) => looks_within(&process.frame),
-        Stage::Returning(_) | Stage::Failing(_, _) => Looks::Internal,
-        Stage::Dying(_, _) | Stage::Leaving(_) => Looks::Calm,
-    }
-}
-
-// The same, of a process of a state; as one for which processes race, where there is none.
-fn looks_next(state: &SourceState, number: u64) -> Looks {
-    match state.process(number) {
-        None => Looks::Racing,
-        Some(process) => looks_by(process, state.table()),
+        Some(Statement::Fork { .. }) | Some(Statement::Join { .. }) => false,
+        _ => true,
     }
 }
 
 /// Whether the next action of a process looks calm, by where the process stands and by the table. Nothing is promised of
 /// it: it spares asking what the process may do.
 pub fn looks_calm(process: &Process, table: &Table) -> bool {
-    looks_by(process, table) != Looks::Racing
+    match &process.stage {
+        Stage::Entering(_) | Stage::Suspended(_) | Stage::Over(_) => false,
+        Stage::Joining { child, .. } => table.over(*child).is_some(),
+        Stage::Before(_) => looks_calm_within(&process.frame),
+        Stage::Returning(_) | Stage::Failing(_, _) => true,
+        Stage::Dying(_, _) | Stage::Leaving(_) => true,
+    }
+}
+
+// The same, of a process of a state; false where there is none.
+fn looks_calm_in(state: &SourceState, number: u64) -> bool {
+    match state.process(number) {
+        None => false,
+        Some(process) => looks_calm(process, state.table()),
+    }
 }
 
 // What a process may do next, where it can move and all of that is calm.
@@ -161,7 +134,7 @@ pub fn is_lost(followed: &Followed) -> bool
 }
 
 // Lets a process do what it may, where all of that is calm, and it is one action; and notes the action.
-fn go_calmly<'a, T: Trail>(
+fn go_by_choices<'a, T: Trail>(
     alloc: Global,
     checked: &'a Checked,
     state: &mut SourceState<'a>,
@@ -187,8 +160,9 @@ fn go_calmly<'a, T: Trail>(
     Ok(Followed::Went)
 }
 
-// Lets a process take its internal action, and notes it.
-fn go_alone<'a, T: Trail>(
+// Lets a process take its next action, where it is calm, and notes it. Mostly it is seen beforehand that it is the only
+// one, and it is taken where the process stands.
+fn go_calmly<'a, T: Trail>(
     alloc: Global,
     checked: &'a Checked,
     state: &mut SourceState<'a>,
@@ -198,8 +172,8 @@ fn go_alone<'a, T: Trail>(
     ensures { IfOk result (λ f. IsFollowedAmong (program_of checked.now.tree) process (state_of state.old)
         (state_of state.new) f) }
 {
-    let Some(kind) = state.take_internal(alloc, checked.program(), process)? else {
-        return Ok(Followed::Lost);
+    let Some(kind) = state.take_own(alloc, checked.program(), process)? else {
+        return go_by_choices(alloc, checked, state, process, trail);
     };
     if !is_calm(&kind) {
         return Ok(Followed::Lost);
@@ -219,11 +193,10 @@ fn follow_one<'a, T: Trail>(
     ensures { IfOk result (λ f. IsFollowedAmong (program_of checked.now.tree) process (state_of state.old)
         (state_of state.new) f) }
 {
-    match looks_next(state, process) {
-        Looks::Racing => Ok(Followed::Stopped),
-        Looks::Internal => go_alone(alloc, checked, state, process, trail),
-        Looks::Calm => go_calmly(alloc, checked, state, process, trail),
+    if !looks_calm_in(state, process) {
+        return Ok(Followed::Stopped);
     }
+    go_calmly(alloc, checked, state, process, trail)
 }
 
 /// Follows the actions of a process, as long as the next one is calm and there is no choice, and notes them; a
