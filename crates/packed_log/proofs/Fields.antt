@@ -67,7 +67,7 @@ second_set : (first second : ThreadSet) (more : List ℕ) → IsWhole first → 
     → set_at (form_of second) ((kept first ++ kept second) ++ more) (words_of (form_of first)) ≡ second
 second_set first second more whole whole' =
     ap (λ ws. set_at (form_of second) ws (words_of (form_of first))) (append_assoc (kept first) (kept second) more)
-    ∙ ap (set_at (form_of second) (kept first ++ kept second ++ more)) (sym (kept_length first whole))
+    ∙ ap (set_at (form_of second) (kept first ++ (kept second ++ more))) (sym (kept_length first whole))
     ∙ behind (form_of second) (kept first) (kept second ++ more) ∙ first_set second more whole'
 
 -- the parts of a step's head

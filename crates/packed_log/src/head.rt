@@ -80,16 +80,28 @@ pub fn widen(head: u64) -> WideHead
     }
 }
 
-// The form of a set.
+// The form of a set. What it holds is looked at, so that callers learn what its type says of it.
 fn form_of(set: &ThreadSet) -> u64
     ensures form { result ≡ form_in set.now }
     ensures whole { IsWhole set.now }
 {
     match set {
         ThreadSet::Nobody => 0,
-        ThreadSet::Single(_) => SINGLE,
-        ThreadSet::Several(_) => SEVERAL,
+        ThreadSet::Single(thread) => {
+            let _thread = *thread;
+            SINGLE
+        }
+        ThreadSet::Several(words) => form_of_several(words),
     }
+}
+
+// The form of a set of several threads.
+fn form_of_several(words: &[u64; WORDS]) -> u64
+    ensures form { result ≡ 2 }
+    ensures whole { length words.now ≡ 16 }
+{
+    let _words = words.len();
+    SEVERAL
 }
 
 /// The entry of a head, where these are the words of its sets and of those that follow.

@@ -4,7 +4,7 @@ use Rattle.packed_log.proofs.head.head_of.Goals as goal
 
 pub returns-in-Some : goal.returns-in-Some
 returns-in-Some c =
-    step_head c.args.entry.now c.in-Some.event.now _ _ c.number_of.result _ _ _
+    step_head c.args.entry.now c.in-Some.event _ _ c.number_of.result _ _ _
     (record {
       step = c.in-Some.is;
       fits = c.requires;
