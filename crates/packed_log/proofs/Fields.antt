@@ -73,7 +73,7 @@ second_set first second more whole whole' =
 -- the parts of a step's head
 pub record Parts (entry : Entry) (event : Event) (k : ℕ) : Type 0 where
   pub step : entry.event ≡ Some event
-  pub fits : HasHead entry
+  pub fits : HasHead entry.thread entry.local
   pub kind : name_of k ≡ Some event.name
   pub small : k < 32
   pub value : event.value < 4294967296

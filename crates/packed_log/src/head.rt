@@ -1,12 +1,12 @@
 //! The head of an entry, as the crate's page has its bits.
-ghost use Rattle.std.specs.Prelude.{◌≡◌, ◌+◌, ◌≤◌, length, take, drop, MatchBool};
+ghost use Rattle.std.specs.Prelude.{◌≡◌, ◌+◌, ◌≤◌, length, take, drop, MatchBool, option_copied};
 ghost use Rattle.packed_log.specs.Packing.{entry_of, event_of, form_of as form_in, kind_in, name_of, set_at as set_in};
 ghost use Rattle.packed_log.specs.Packing.{sets_in, widened, words_of as words_in};
-ghost use Rattle.packed_log.specs.Views.{IsHeadOf, IsWhole, HasHead};
+ghost use Rattle.packed_log.specs.Views.{IsHeadOf, IsWhole, HasHead, Woke};
 
 use crate::names::{name_at, number_of};
 use crate::wide_head::WideHead;
-use machine::{Entry, Event, ThreadSet};
+use machine::{Entry, Event, EventName, ThreadSet};
 
 // The lowest bit of each part but the first.
 const LOCAL: u64 = 1 << 10;
@@ -29,43 +29,40 @@ const SEVERAL: u64 = 2;
 // The words of a set of several threads.
 const WORDS: usize = 16;
 
-/// Whether an entry has a head.
-pub fn has_head(entry: &Entry) -> bool
-    ensures { MatchBool result (HasHead entry.now) (HasHead entry.now → ⊥) }
+/// Whether a thread and its local steps have room in a head.
+pub fn has_head(thread: u32, local: u32) -> bool
+    ensures { MatchBool result (HasHead thread local) (HasHead thread local → ⊥) }
 {
-    u64::from(entry.thread) < LOCAL && u64::from(entry.local) < KIND / LOCAL
+    u64::from(thread) < LOCAL && u64::from(local) < KIND / LOCAL
 }
 
-/// The head of an entry that has one.
-pub fn head_of(entry: &Entry) -> u64
-    requires { HasHead entry.now }
-    ensures { IsHeadOf entry.now (widened result) }
+/// The head of the entry of a thread, its local steps, which have room in one, and its shared step, if it has one.
+pub fn head_of(thread: u32, local: u32, event: Option<&Event>) -> u64
+    requires { HasHead thread local }
+    ensures { IsHeadOf (record { thread = thread; local = local; event = option_copied event.entry }) (widened result) }
 {
-    let turn = u64::from(entry.thread) + u64::from(entry.local) * LOCAL;
-    match &entry.event {
+    let turn = u64::from(thread) + u64::from(local) * LOCAL;
+    match event {
         None => turn,
         Some(event) => {
+            // Read by itself, where its type tells its bound.
+            let value = event.value;
             turn + number_of(event.name) * KIND
                 + form_of(&event.woken) * WOKEN
                 + form_of(&event.moved) * MOVED
-                + u64::from(event.value) * VALUE
+                + u64::from(value) * VALUE
         }
     }
 }
 
 /// The head of any entry, with its thread and its local steps beside it.
-pub fn wide_head_of(entry: &Entry) -> WideHead
-    ensures { IsHeadOf entry.now result }
+pub fn wide_head_of(thread: u32, local: u32, event: Option<&Event>) -> WideHead
+    ensures { IsHeadOf (record { thread = thread; local = local; event = option_copied event.entry }) result }
 {
-    let head = head_of(&Entry {
-        thread: 0,
-        local: 0,
-        event: entry.event,
-    });
     WideHead {
-        thread: entry.thread,
-        local: entry.local,
-        head,
+        thread,
+        local,
+        head: head_of(0, 0, event),
     }
 }
 
@@ -130,6 +127,31 @@ fn event_at(head: u64, sets: &[u64]) -> Option<Event>
         woken: set_at(woken, sets, 0),
         moved: set_at(moved, sets, words_of(woken)),
     })
+}
+
+/// The kind of such an entry's step, where it has one. The threads that it woke are put in their place.
+pub fn woken_at(head: u64, sets: &[u64], woken: &mut ThreadSet) -> Option<EventName>
+    requires { sets_in head ≤ length sets.now }
+    ensures { Woke (event_of (name_of (kind_in head)) head sets.now) result woken.new }
+{
+    let name = name_at(head / KIND % (WOKEN / KIND));
+    if name.is_none() {
+        woken.clear();
+        return None;
+    }
+    put_set(head / WOKEN % (MOVED / WOKEN), sets, woken);
+    name
+}
+
+// Puts the set of this form whose words come first in its place. No more is written than must be.
+fn put_set(form: u64, words: &[u64], set: &mut ThreadSet)
+    requires { words_in form ≤ length words.now }
+    ensures { set.new ≡ set_in form words.now 0 }
+{
+    match form {
+        SINGLE | SEVERAL => *set = set_at(form, words, 0),
+        _ => set.clear(),
+    }
 }
 
 // The set of this form whose words stand at a place.

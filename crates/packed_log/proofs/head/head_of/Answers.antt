@@ -1,12 +1,13 @@
-use Rattle.std.proofs.Common.{rules}
+use Rattle.std.proofs.Common.{option_copied, rules}
 use Rattle.packed_log.proofs.Fields.{step_head}
 use Rattle.packed_log.proofs.head.head_of.Goals as goal
 
 pub returns-in-Some : goal.returns-in-Some
 returns-in-Some c =
-    step_head c.args.entry.now c.in-Some.event _ _ c.number_of.result _ _ _
+    step_head (record { thread = c.args.thread; local = c.args.local; event = option_copied c.args.event })
+    c.in-Some.event.now _ _ c.number_of.result _ _ _
     (record {
-      step = c.in-Some.is;
+      step = search rules;
       fits = c.requires;
       kind = c.number_of.ensures.name;
       small = c.number_of.ensures.small;
