@@ -16,8 +16,8 @@ pub struct PackedLog {
     heads: Vec<u64>,
     // The heads from the first entry on whose thread or local steps have no room in one.
     wide: Vec<WideHead>,
-    // The sets beside all heads, in the order of the entries, of each entry that of the woken threads first.
-    sets: Vec<ThreadSet>,
+    // The words of the sets beside all heads, in the order of the entries, of each entry those of the woken threads first.
+    sets: Vec<u64>,
 }
 
 impl Model for PackedLog {
@@ -92,7 +92,7 @@ impl PackedLog {
         ensures same { self.new.items ≡ self.old.items }
     {
         self.heads.reserve(1)?;
-        self.sets.reserve(2)?;
+        self.sets.reserve(32)?;
         self.wide.reserve(1)
     }
 
@@ -102,11 +102,11 @@ impl PackedLog {
         ensures entries { self.new.items ≡ self.old.items ++ entry ∷ [] }
         ensures room { self.old.room ≤ self.new.room + 1 }
     {
-        push_sets(&mut self.sets, entry.event);
-        if self.wide.is_empty() && has_head(entry) {
-            self.heads.push_reserved(head_of(entry));
+        push_sets(&mut self.sets, &entry.event);
+        if self.wide.is_empty() && has_head(&entry) {
+            self.heads.push_reserved(head_of(&entry));
         } else {
-            self.wide.push_reserved(wide_head_of(entry));
+            self.wide.push_reserved(wide_head_of(&entry));
         }
     }
 
@@ -144,7 +144,7 @@ impl PackedLog {
 }
 
 // The last entry of packed ones.
-fn last_packed(heads: &[u64], wide: &[WideHead], sets: &[ThreadSet]) -> Option<Entry>
+fn last_packed(heads: &[u64], wide: &[WideHead], sets: &[u64]) -> Option<Entry>
     requires { IsPackedIn (heads_of heads.now wide.now) sets.now }
     ensures { let entries = entries_of (heads_of heads.now wide.now) sets.now in
         result ≡ slice_get entries (length entries - 1) }
@@ -165,26 +165,39 @@ fn last_head(heads: &[u64], wide: &[WideHead]) -> Option<WideHead>
     Some(widen(*head))
 }
 
-// Puts the sets of a step at the end.
-fn push_sets(sets: &mut Vec<ThreadSet>, event: Option<Event>)
-    requires { vec_len sets.old + 2 ≤ vec_capacity sets.old }
-    ensures items { sets.new.items ≡ sets.old.items ++ sets_of event }
-    ensures room { (vec_capacity sets.new ≡ vec_capacity sets.old) × (vec_len sets.new ≤ vec_len sets.old + 2) }
+// Puts the words of the sets of a step at the end.
+fn push_sets(sets: &mut Vec<u64>, event: &Option<Event>)
+    requires { vec_len sets.old + 32 ≤ vec_capacity sets.old }
+    ensures items { sets.new.items ≡ sets.old.items ++ sets_of event.now }
+    ensures room { (vec_capacity sets.new ≡ vec_capacity sets.old) × (vec_len sets.new ≤ vec_len sets.old + 32) }
 {
     if let Some(event) = event {
-        push_set(sets, event.woken);
-        push_set(sets, event.moved);
+        push_set(sets, &event.woken);
+        push_set(sets, &event.moved);
     }
 }
 
-// Puts a set at the end where it isn't empty.
-fn push_set(sets: &mut Vec<ThreadSet>, set: ThreadSet)
-    requires { vec_len sets.old < vec_capacity sets.old }
-    ensures items { sets.new.items ≡ sets.old.items ++ kept set }
-    ensures room { (vec_capacity sets.new ≡ vec_capacity sets.old) × (vec_len sets.new ≤ vec_len sets.old + 1) }
+// Puts the words of a set at the end, where it isn't empty.
+fn push_set(sets: &mut Vec<u64>, set: &ThreadSet)
+    requires { vec_len sets.old + 16 ≤ vec_capacity sets.old }
+    ensures items { sets.new.items ≡ sets.old.items ++ kept set.now }
+    ensures room { (vec_capacity sets.new ≡ vec_capacity sets.old) × (vec_len sets.new ≤ vec_len sets.old + 16) }
 {
-    if !set.is_empty() {
-        sets.push_reserved(set);
+    match set {
+        ThreadSet::Nobody => {}
+        ThreadSet::Single(t) => sets.push_reserved(u64::from(*t)),
+        ThreadSet::Several(words) => push_words(sets, words),
+    }
+}
+
+// Puts the words of a set of several threads at the end.
+fn push_words(sets: &mut Vec<u64>, words: &[u64; 16])
+    requires { vec_len sets.old + 16 ≤ vec_capacity sets.old }
+    ensures items { sets.new.items ≡ sets.old.items ++ words.now }
+    ensures room { (vec_capacity sets.new ≡ vec_capacity sets.old) × (vec_len sets.new ≡ vec_len sets.old + 16) }
+{
+    for word in words {
+        sets.push_reserved(*word);
     }
 }
 

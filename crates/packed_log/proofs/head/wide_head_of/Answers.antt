@@ -2,4 +2,4 @@ use Rattle.packed_log.proofs.Fields.{wide_head}
 use Rattle.packed_log.proofs.head.wide_head_of.Goals as goal
 
 pub returns : goal.returns
-returns c = wide_head c.args.entry c.head_of-head.result c.head_of-head.ensures
+returns c = wide_head c.args.entry.now c.head_of-head.result c.head_of-head.ensures
