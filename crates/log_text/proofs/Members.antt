@@ -127,7 +127,7 @@ same_named ts all t = elim (cases_eq t 0) [
 -- nobody new is a member of a set up to a number where the set has nobody from another on
 pub members_kept : (set : ThreadSet) (n k : ℕ) → n ≤ k → ((u : ℕ) → n < u → u ≤ k → has set u ≡ false)
     → members set k ≡ members set n
-members_kept set n zero le none = ap (members set) (omega (arith, le))
+members_kept set n zero le none = let same : 0 ≡ n = omega (arith, le) in ap (members set) same
 members_kept set n (suc k) le none = elim (cases_eq n (suc k)) [
   | inl e ↦ ap (members set) (sym e)
   | inr ne ↦ more set k false (none (suc k) (omega (arith, le, ne)) (omega arith)) ∙ append-nil (members set k)
