@@ -1,5 +1,5 @@
 -- What is well formed is so for an image of each version.
-use Rattle.std.proofs.Common.{◌≡◌, ℕ, List, [], ◌∷◌, Option, Some, None, sym, ap, ◌∙◌}
+use Rattle.std.proofs.Common.{ℕ, List, [], ◌∷◌, Option, Some, None}
 use Rattle.words.specs.declared.version.ImageVersion.{ImageVersion}
 use Rattle.program.specs.declared.kinds.ValueType.{ValueType}
 use Rattle.program.specs.declared.kinds.ValueType.TheVariants.{Integer, Boolean, Process}
@@ -13,12 +13,6 @@ use Rattle.program.specs.Scope.{Scope, scope_of}
 use Rattle.program.specs.Typing.{unary_type, HasType, TargetHasType, ArgumentsFit, ResultFits, ReturnFits, Fits}
 use Rattle.program.specs.Typing.{BlockFits, PartFits}
 use Rattle.program.specs.WellFormed.{RoleFits, IsProper, WellFormed}
-use Rattle.lowering.specs.Layout.{Layout, layout_of}
-
--- a layout of some version is that of its own version
-pub laid_out : (l : Layout) (v : ImageVersion) (p : Program) → l ≡ layout_of (as_version v p)
-    → l ≡ layout_of (as_version l.version p)
-laid_out l v p e = e ∙ sym (ap (λ (k : Layout). layout_of (as_version k.version p)) e)
 
 module _ (v : ImageVersion) (s : Scope) where
   -- the same place in the program for an image of this version
