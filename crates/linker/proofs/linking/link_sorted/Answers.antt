@@ -68,7 +68,7 @@ returns c =
     let made = image_of c.args.layout.now ps in
     c.new.ensures
     ∙ ap (λ v. f v c.in_ok-monitors.monitors.items c.last_of-start.result c.in_ok-code.code.items)
-    (sym c.requires)
+    (sym c.requires.first)
     ∙ ap (λ m. f made.version m c.last_of-start.result c.in_ok-code.code.items) c.in_ok-monitors.ensures
     ∙ ap (λ s. f made.version made.monitors s c.in_ok-code.code.items) begin
     ∙ ap (f made.version made.monitors made.start) code
