@@ -2,6 +2,7 @@ pub mod Arrivals
 pub mod Changes
 pub mod Drops
 pub mod Finds
+pub mod Gathers
 pub mod Holders
 pub mod Links
 pub mod Moves

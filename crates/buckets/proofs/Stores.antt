@@ -5,7 +5,7 @@ use Rattle.std.proofs.Common.{◌∙◌, arith, inl, inr}
 use Rattle.std.specs.List.{All}
 use Rattle.std.proofs.lemmas.Bool.{cases_eq, false_from_ne_true}
 use Rattle.std.proofs.lemmas.List.{get_or-map, get_or-set_same, get_or-set_other, length-map, length-set, ext_get_or}
-use Rattle.std.proofs.lemmas.List.{length_push, length-replicate}
+use Rattle.std.proofs.lemmas.List.{get_or_default, length_push, length-replicate}
 use Rattle.std.proofs.lemmas.List.Elements.{All-replicate}
 use Rattle.std.proofs.lemmas.List.Sums.{sum_by-set, count_by-le-length, length-filter}
 use Rattle.slab.specs.Slab.{Slab, get, slab_len}
@@ -22,7 +22,7 @@ use Rattle.buckets.proofs.Drops.{others}
 use Rattle.buckets.proofs.Once.{home_of, once_of}
 use Rattle.buckets.proofs.Outcomes.{shown, enqueued, dropped, opened, opens, nobody_at, no_holder, no_entry, on-bucket}
 use Rattle.buckets.proofs.Outcomes.{Entered, Dropped, Opened}
-use Rattle.buckets.proofs.Queues.{on}
+use Rattle.buckets.proofs.Queues.{on, length-on}
 use Rattle.buckets.proofs.Rows.{mod_lt, sound}
 use Rattle.buckets.proofs.Segments.{segment_kept, walk_is, walk_short, walk_none}
 
@@ -218,6 +218,26 @@ some_chain nodes chains places holders i = omega (
       chains,
 )
 
+-- a chain of nobody
+abbrev pub nobody_in : Chain
+nobody_in = record { first = None; last = None }
+
+-- no more sleep on an address than threads are
+pub few_in : (nodes : Slab Node) (chains : List Chain) (places : List (Option Addr)) (holders : List (Option ℕ))
+    (a : ℕ) → IsStored nodes chains places holders → length (queue (seen nodes chains places holders) a)
+    ≤ length places - 1
+few_in nodes chains places holders a i =
+    let k = a % length chains in
+    let old = get_or chains k nobody_in in
+    let inside : k < length chains = mod_lt a (length chains) (some_chain nodes chains places holders i) in
+    let is = queue_in nodes chains places holders a k old i refl (get_or_default chains k nobody_in old inside) in
+    omega (
+      arith,
+      ap length is,
+      length-on a (row_of (get nodes) (length places - 1) old),
+      walk_short (get nodes) (length places - 1) (node_at (get nodes) old.first),
+    )
+
 -- who sleeps on an address stands in the chain of its bucket
 pub stands_in : (nodes : Slab Node) (chains : List Chain) (places : List (Option Addr)) (holders : List (Option ℕ))
     (t : ℕ) (a : Addr) (k : ℕ)
@@ -304,10 +324,6 @@ gone nodes nodes' chains places holders t k a old c i inside sleeps ek eo re len
       },
       rw (same, rc.0) d.1,
     )
-
--- chains of nobody
-abbrev pub nobody_in : Chain
-nobody_in = record { first = None; last = None }
 
 rows-nobody : (at : ℕ → Option Node) (most n : ℕ) → rows at most (replicate n nobody_in) ≡ replicate n []
 rows-nobody at most zero = refl

@@ -18,12 +18,11 @@ use words::{Addr, MOST_THREADS};
 
 /// The threads that sleep, in buckets: for each address a list of its sleepers, in the order in which they came to it.
 /// A thread stands in at most one list. A thread can hold a bucket while it goes through a call in pieces; no call here
-/// looks at that. Contracts read the list of an address by `queue`, the address on which a thread sleeps by `place_of`,
-/// and who holds a bucket by `holder_of`. After `new` no call takes memory: what it takes grows with the threads, and
-/// with the buckets by two keys and a number each.
+/// looks at that. A call that answers threads writes them into a list that its caller lends. Contracts read the list of
+/// an address by `queue`, the address on which a thread sleeps by `place_of`, and who holds a bucket by `holder_of`. After
+/// `new` no call takes memory: what it takes grows with the threads, and with the buckets by two keys and a number each.
 #[derive(Drop)]
 pub struct Buckets {
-    alloc: Global,
     // A node for each sleeper, with room for all threads.
     nodes: Slab<Node>,
     // The chain of each bucket's nodes.
@@ -73,7 +72,6 @@ impl Buckets {
         ensures sound { IfOk result IsSound }
     {
         Ok(Buckets {
-            alloc,
             nodes: Slab::with_capacity(alloc, threads as usize)?,
             chains: vec![in alloc; Chain {
                 first: None,
@@ -84,43 +82,45 @@ impl Buckets {
         })
     }
 
-    /// A list of no thread.
-    pub fn nobody(&self) -> ThreadList
-        ensures none { result ≡ [] }
+    /// The greatest number of a thread.
+    pub fn threads(&self) -> u32
+        ensures value { result ≡ thread_count self.now }
         ensures sound { IsSound self.now }
     {
-        ThreadList::new(self.alloc)
+        self.places.len() as u32 - 1
     }
 
-    // The threads that sleep on `a`.
-    fn threads_at(&self, a: Addr) -> ThreadList
-        ensures value { result ≡ queue self.now a.0 }
+    /// Empties a list. Who calls it learns besides that the buckets are sound.
+    pub fn nobody(&self, threads: &mut ThreadList)
+        ensures none { threads.new ≡ [] }
+        ensures sound { IsSound self.now }
+    {
+        let _places = &self.places;
+        threads.clear();
+    }
+
+    // Writes the first `n` threads that sleep on `a` into a list.
+    fn threads_at(&self, a: Addr, n: usize, threads: &mut ThreadList)
+        ensures value { threads.new ≡ take n (queue self.now a.0) }
         ensures sound { IsSound self.now }
     {
         let bucket = bucket_of(a, self.chains.len());
         threads_on(
-            self.alloc,
             &self.nodes,
             self.chains[bucket],
             self.places.len() - 1,
             a,
-        )
+            n,
+            threads,
+        );
     }
 
-    /// How many threads sleep on `a`.
-    pub fn sleepers(&self, a: Addr) -> usize
-        ensures count { result ≡ length (queue self.now a.0) }
+    /// Writes the threads that sleep on `a` into a list, in their order.
+    pub fn sleepers(&self, a: Addr, sleepers: &mut ThreadList)
+        ensures value { sleepers.new ≡ queue self.now a.0 }
         ensures sound { IsSound self.now }
     {
-        self.threads_at(a).len()
-    }
-
-    /// The thread at place `i`, from 0, of the list of `a`, if there are more than `i`.
-    pub fn sleeper(&self, a: Addr, i: usize) -> Option<u32>
-        ensures value { result ≡ slice_get (queue self.now a.0) i }
-        ensures sound { IsSound self.now }
-    {
-        self.threads_at(a).as_slice().get(i).copied()
+        self.threads_at(a, self.places.len() - 1, sleepers);
     }
 
     /// Where the thread sleeps, if it does.
@@ -152,45 +152,44 @@ impl Buckets {
         self.places[t as usize] = Some(a);
     }
 
-    /// Takes the first `n` sleepers out of the list of `a`, all where there are no more, and answers them in order.
-    pub fn take(&mut self, a: Addr, n: u32) -> ThreadList
-        ensures taken { result ≡ take n (queue self.old a.0) }
+    /// Takes the first `n` sleepers out of the list of `a`, all where there are no more, and writes them into `taken`, in
+    /// order.
+    pub fn take(&mut self, a: Addr, n: u32, taken: &mut ThreadList)
+        ensures taken { taken.new ≡ take n (queue self.old a.0) }
         ensures rest { queue self.new a.0 ≡ drop n (queue self.old a.0) }
         ensures others { (b : ℕ) → b ≢ a.0 → queue self.new b ≡ queue self.old b }
-        ensures places { place_of self.new ≡ with_place (place_of self.old) result None }
+        ensures places { place_of self.new ≡ with_place (place_of self.old) taken.new None }
         ensures holders { self.new.holders ≡ self.old.holders }
         ensures threads { thread_count self.new ≡ thread_count self.old }
         ensures sound { IsSound self.old × IsSound self.new }
     {
-        let mut taken = self.threads_at(a);
-        taken.truncate(n as usize);
+        self.threads_at(a, n as usize, taken);
         for t in taken.as_slice() {
             self.drop_out(*t);
         }
-        taken
     }
 
     /// Moves the first `n` sleepers of the list of `a`, all where there are no more, to the end of the list of `b`, and
-    /// answers them in order. Where `a` and `b` are the same nobody moves.
-    pub fn shift(&mut self, a: Addr, b: Addr, n: u32) -> ThreadList
-        ensures moved { result ≡ (if a.0 == b.0 then [] else take n (queue self.old a.0)) }
-        ensures rest { queue self.new a.0 ≡ drop (length result) (queue self.old a.0) }
-        ensures last { queue self.new b.0 ≡ queue self.old b.0 ++ result }
+    /// writes them into `moved`, in order. Where `a` and `b` are the same nobody moves.
+    pub fn shift(&mut self, a: Addr, b: Addr, n: u32, moved: &mut ThreadList)
+        ensures moved { moved.new ≡ (if a.0 == b.0 then [] else take n (queue self.old a.0)) }
+        ensures rest { queue self.new a.0 ≡ drop (length moved.new) (queue self.old a.0) }
+        ensures last { queue self.new b.0 ≡ queue self.old b.0 ++ moved.new }
         ensures others { (d : ℕ) → d ≢ a.0 → d ≢ b.0 → queue self.new d ≡ queue self.old d }
-        ensures places { place_of self.new ≡ with_place (place_of self.old) result (Some b.0) }
+        ensures places { place_of self.new ≡ with_place (place_of self.old) moved.new (Some b.0) }
         ensures same { a.0 ≡ b.0 → self.new ≡ self.old }
         ensures holders { self.new.holders ≡ self.old.holders }
         ensures threads { thread_count self.new ≡ thread_count self.old }
         ensures sound { IsSound self.old × IsSound self.new }
     {
         if a.0 == b.0 {
-            return self.nobody();
+            self.nobody(moved);
+            return;
         }
-        let moved = self.take(a, n);
+        self.take(a, n, moved);
         for t in moved.as_slice() {
             self.enqueue(*t, b);
         }
-        moved
     }
 
     /// Takes a thread out of its list, if it stands in one.

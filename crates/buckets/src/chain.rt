@@ -1,5 +1,5 @@
 ghost use Rattle.std.specs.Prelude.{◌≡◌, List, ◌+◌, ◌%◌, ◌<◌, ◌≤◌, ◌==◌, ◌++◌, ◌∷◌, [], Some, IsTrue, false, not};
-ghost use Rattle.std.specs.Prelude.{IfSome, IfNone};
+ghost use Rattle.std.specs.Prelude.{IfSome, IfNone, take};
 ghost use Rattle.std.specs.List.{filter, filter_map};
 ghost use Rattle.slab.specs.Slab.{get, slab_len, HasRoomFor, ContainsKey, Updates};
 ghost use Rattle.buckets.specs.declared.node.Node.{Node};
@@ -12,7 +12,6 @@ use crate::node::{Chain, Node, NodeKey, Spot};
 use crate::sleeper::Sleeper;
 use crate::thread_list::ThreadList;
 use slab::Slab;
-use std::alloc::Global;
 use words::{Addr, MOST_THREADS};
 
 /// The bucket of an address, of `buckets` many.
@@ -33,27 +32,32 @@ fn node(nodes: &Slab<Node>, key: Option<NodeKey>) -> Option<Node>
     }
 }
 
-/// The threads of a chain of `most` nodes at most that sleep on an address, in their order.
+/// Writes into a list the first `n` threads of a chain of `most` nodes at most that sleep on an address, in their order.
+/// No node behind the last of them is looked at.
 pub fn threads_on(
-    alloc: Global,
     nodes: &Slab<Node>,
     chain: Chain,
     most: usize,
     a: Addr,
-) -> ThreadList
+    n: usize,
+    threads: &mut ThreadList,
+)
     requires { most ≤ MOST_THREADS }
-    ensures { result ≡ filter_map (thread_on a.0) (row_of (get nodes.now) most chain) }
+    ensures { threads.new
+        ≡ take n (filter_map (thread_on a.0) (row_of (get nodes.now) most chain)) }
 {
-    let mut threads = ThreadList::new(alloc);
-    let mut here = node(nodes, chain.first);
+    threads.clear();
+    let mut here = chain.first;
     for _ in 0..most {
-        let Some(at) = here else { return threads };
+        if threads.len() == n {
+            return;
+        }
+        let Some(at) = node(nodes, here) else { return };
         if at.sleeper.address.0 == a.0 {
             threads.push(at.sleeper.thread);
         }
-        here = node(nodes, at.next);
+        here = at.next;
     }
-    threads
 }
 
 /// Where the node of a thread stands in a chain of `most` nodes at most, if it stands there.

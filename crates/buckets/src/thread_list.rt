@@ -1,39 +1,35 @@
-ghost use Rattle.std.specs.Prelude.{◌≡◌, ◌<◌, ◌≤◌, ◌==◌, [], ◌∷◌, ◌++◌, length, take};
+ghost use Rattle.std.specs.Prelude.{◌≡◌, ◌<◌, ◌≤◌, ◌==◌, [], ◌∷◌, ◌++◌, length, IfOk};
 
-use smallvec::SmallVec;
-use std::alloc::Global;
+use std::alloc::{AllocError, Global};
 use std::marker::Model;
 use words::MOST_THREADS;
 
-// How many threads a list has room for.
-const ROOM: usize = MOST_THREADS as usize;
-
-/// A list of threads by their numbers, with room for all threads in the value itself: it never takes memory.
-/// Contracts see the list of the numbers.
+/// A list of threads by their numbers. It is made once, with room for all threads that there can be, and never takes
+/// memory afterwards; who wants to be answered threads lends it. Contracts see the list of the numbers.
 #[derive(Drop, Debug)]
 pub struct ThreadList {
-    threads: SmallVec<u32, ROOM>,
+    threads: Vec<u32>,
 }
 
 impl Model for ThreadList {
-    ghost use Rattle.std.specs.Prelude.{◌≡◌, List, ℕ};
+    ghost use Rattle.std.specs.Prelude.{◌≡◌, List, ℕ, vec_capacity};
     ghost use Rattle.words.specs.Limits.{most_threads};
 
     ghost Value = { List ℕ };
 
     ghost view = { λ l. l.threads.items };
 
-    ghost invariant = { λ l. l.threads.capacity ≡ most_threads };
+    ghost invariant = { λ l. vec_capacity l.threads ≡ most_threads };
 }
 
 impl ThreadList {
     /// A list of no thread.
-    pub fn new(alloc: Global) -> ThreadList
-        ensures { result ≡ [] }
+    pub fn new(alloc: Global) -> Result<ThreadList, AllocError>
+        ensures { IfOk result (λ l. l ≡ []) }
     {
-        ThreadList {
-            threads: SmallVec::new(alloc),
-        }
+        Ok(ThreadList {
+            threads: Vec::with_capacity(alloc, MOST_THREADS as usize)?,
+        })
     }
 
     /// Appends a thread.
@@ -44,11 +40,11 @@ impl ThreadList {
         self.threads.push_reserved(thread);
     }
 
-    /// Keeps the first `n` threads, all where there are no more.
-    pub fn truncate(&mut self, n: usize)
-        ensures { self.new ≡ take n self.old }
+    /// Takes all threads out.
+    pub fn clear(&mut self)
+        ensures { self.new ≡ [] }
     {
-        self.threads.truncate(n);
+        self.threads.clear();
     }
 
     /// How many threads there are.

@@ -7,6 +7,7 @@ use program::Checked;
 use source_states::{Action, ActionKind, SourceState};
 use sourcemeaning::movers;
 use std::alloc::{AllocError, Global};
+use words::ImageVersion;
 
 // Where in its column an action changes what its process does.
 fn side(kind: &ActionKind) -> u64 {
@@ -216,7 +217,7 @@ impl<'c, 'n> Sheet<'c, 'n> {
     /// Draws the run, from its first action that is drawn to its last, and what its processes wait for at its end.
     pub fn draw_run(&mut self, checked: &'c Checked<'n>) -> Result<(), AllocError> {
         self.look_ahead()?;
-        let mut state = SourceState::opening(self.alloc, checked)?;
+        let mut state = SourceState::opening(self.alloc, checked, ImageVersion::One)?;
         self.draw_from(checked, &mut state)
     }
 }

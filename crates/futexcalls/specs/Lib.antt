@@ -1,4 +1,5 @@
 pub mod FutexCalls
 pub mod Answers
 pub mod Pieces
+pub mod Progress
 pub mod PieceResults

@@ -5,14 +5,11 @@ use Rattle.std.specs.Prelude.{take, drop}
 use Rattle.words.specs.Updates.{put}
 use Rattle.buckets.specs.Places.{with_place}
 use Rattle.buckets.specs.Sleepers.{Sleepers, queue, place_of, bucket_count, holder_of}
-use Rattle.futexcalls.specs.declared.progress.FutexAnswer.{FutexAnswer}
-use Rattle.futexcalls.specs.declared.progress.FutexAnswer.TheVariants.{Again, Acted}
 use Rattle.futexcalls.specs.declared.pieces.FutexCall.{FutexCall}
 use Rattle.futexcalls.specs.declared.pieces.FutexCall.TheVariants.{Wait, Wake, Requeue}
 use Rattle.futexcalls.specs.declared.pieces.FutexPhase.{FutexPhase}
 use Rattle.futexcalls.specs.declared.pieces.FutexPhase.TheVariants.{First, Second, Compare, Act}
-use Rattle.futexcalls.specs.declared.progress.FutexProgress.{FutexProgress}
-use Rattle.futexcalls.specs.declared.progress.FutexProgress.TheVariants.{Next, Blocked, Done}
+use Rattle.futexcalls.specs.Progress.{PieceAnswer, Again, Acted, PieceProgress, Next, Blocked, Done}
 use Rattle.futexcalls.specs.Pieces.{buckets_of, takes_at, after_lock, again_of, Acts}
 
 -- the sleepers are as before, in each list, and these threads hold the buckets
@@ -26,7 +23,7 @@ abbrev pub given_up : FutexCall → Sleepers → ℕ → Option ℕ
 given_up call s = with_place (holder_of s) (buckets_of (bucket_count s) call) None
 
 -- t takes a bucket, behind which its call stands before this piece; or another thread holds it
-abbrev pub TakesSo : ℕ → Option ℕ → FutexPhase → Sleepers → FutexProgress → Sleepers → Type 0
+abbrev pub TakesSo : ℕ → Option ℕ → FutexPhase → Sleepers → PieceProgress → Sleepers → Type 0
 TakesSo t None next s progress s' = ⊥
 TakesSo t (Some b) next s (Next phase) s' =
     (phase ≡ next) × (holder_of s b ≡ None) × OnlyHolders s s' (put (holder_of s) b (Some t))
@@ -34,13 +31,13 @@ TakesSo t (Some b) next s Blocked s' = (u : ℕ) × (holder_of s b ≡ Some u) �
 TakesSo t (Some b) next s (Done answer) s' = ⊥
 
 -- the word at a is compared: the call stands before its act, or is over
-abbrev pub ComparesSo : (ℕ → ℕ) → FutexCall → ℕ → ℕ → Sleepers → FutexProgress → Sleepers → Type 0
+abbrev pub ComparesSo : (ℕ → ℕ) → FutexCall → ℕ → ℕ → Sleepers → PieceProgress → Sleepers → Type 0
 ComparesSo word call a expected s (Next phase) s' = (word a ≡ expected) × (phase ≡ Act) × (s' ≡ s)
 ComparesSo word call a expected s (Done Again) s' = (word a ≢ expected) × OnlyHolders s s' (given_up call s)
 ComparesSo word call a expected s (Done (Acted r)) s' = ⊥
 ComparesSo word call a expected s Blocked s' = ⊥
 
-abbrev pub CompareSo : (ℕ → ℕ) → FutexCall → Sleepers → FutexProgress → Sleepers → Type 0
+abbrev pub CompareSo : (ℕ → ℕ) → FutexCall → Sleepers → PieceProgress → Sleepers → Type 0
 CompareSo word (Wait a expected) s progress s' = ComparesSo word (Wait a expected) a.0 expected s progress s'
 CompareSo word (Wake a wakes) s progress s' = ⊥
 CompareSo word (Requeue a b wakes moves expected) s progress s' =
@@ -74,19 +71,19 @@ pub record IsActed (t : ℕ) (call : FutexCall) (s : Sleepers) (woken moved : Li
   pub queues : queue s' ≡ queue_by t call (queue s)
   pub holders : holder_of s' ≡ given_up call s
 
-abbrev pub ActSo : ℕ → FutexCall → Sleepers → FutexProgress → Sleepers → Type 0
+abbrev pub ActSo : ℕ → FutexCall → Sleepers → PieceProgress → Sleepers → Type 0
 ActSo t call s (Next phase) s' = ⊥
 ActSo t call s Blocked s' = ⊥
 ActSo t call s (Done Again) s' = ⊥
 ActSo t call s (Done (Acted r)) s' = IsActed t call s r.woken r.moved s'
 
 -- what the thread of a call is answered
-abbrev pub answer_of : FutexCall → FutexAnswer → ℕ
+abbrev pub answer_of : FutexCall → PieceAnswer → ℕ
 answer_of call Again = again_of call
 answer_of call (Acted r) = length r.woken + length r.moved
 
 -- what comes of the piece in this phase of thread t's call
-abbrev pub PieceSo : (ℕ → ℕ) → ℕ → FutexCall → FutexPhase → Sleepers → FutexProgress → Sleepers → Type 0
+abbrev pub PieceSo : (ℕ → ℕ) → ℕ → FutexCall → FutexPhase → Sleepers → PieceProgress → Sleepers → Type 0
 PieceSo word t call First s progress s' =
     TakesSo t (takes_at (bucket_count s) First call) (after_lock (bucket_count s) First call) s progress s'
 PieceSo word t call Second s progress s' =

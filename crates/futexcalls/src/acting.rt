@@ -3,12 +3,14 @@ ghost use Rattle.buckets.specs.Places.{names};
 ghost use Rattle.buckets.specs.Sleepers.{queue, place_of, thread_count, bucket_count, holder_of, IsSound};
 ghost use Rattle.futexcalls.specs.Answers.{word_of};
 ghost use Rattle.futexcalls.specs.Pieces.{buckets_of, IsPhase, LiesIn, Acts};
+ghost use Rattle.futexcalls.specs.declared.lists.FutexLists.{FutexLists};
+ghost use Rattle.futexcalls.specs.Progress.{progressed};
 ghost use Rattle.futexcalls.specs.PieceResults.{ComparesSo, CompareSo, ActSo, woken_by, moved_by, queue_by};
 
+use crate::lists::FutexLists;
 use crate::locking::give_up;
 use crate::pieces::{FutexCall, FutexPhase};
 use crate::progress::{FutexAnswer, FutexProgress};
-use crate::woken::Requeued;
 use buckets::Buckets;
 use words::{Addr, Mem};
 
@@ -25,8 +27,8 @@ fn compare_word(
     requires held { (k : ℕ) → names (buckets_of (bucket_count buckets.old) call) k ≡ true
         → holder_of buckets.old k ≡ Some t }
     requires sound { IsSound buckets.old }
-    ensures piece { ComparesSo (word_of mem.now) call address.0 expected
-        buckets.old result buckets.new }
+    ensures piece { (lists : FutexLists) → ComparesSo (word_of mem.now) call address.0 expected
+        buckets.old (progressed result lists) buckets.new }
     ensures count { bucket_count buckets.new ≡ bucket_count buckets.old }
     ensures threads { thread_count buckets.new ≡ thread_count buckets.old }
     ensures sound { IsSound buckets.new }
@@ -45,7 +47,8 @@ pub(crate) fn compare(mem: &Mem, buckets: &mut Buckets, t: u32, call: FutexCall)
     requires held { (k : ℕ) → names (buckets_of (bucket_count buckets.old) call) k ≡ true
         → holder_of buckets.old k ≡ Some t }
     requires sound { IsSound buckets.old }
-    ensures piece { CompareSo (word_of mem.now) call buckets.old result buckets.new }
+    ensures piece { (lists : FutexLists) → CompareSo (word_of mem.now) call
+        buckets.old (progressed result lists) buckets.new }
     ensures count { bucket_count buckets.new ≡ bucket_count buckets.old }
     ensures threads { thread_count buckets.new ≡ thread_count buckets.old }
     ensures sound { IsSound buckets.new }
@@ -61,14 +64,14 @@ pub(crate) fn compare(mem: &Mem, buckets: &mut Buckets, t: u32, call: FutexCall)
     }
 }
 
-// What the act of thread `t`'s call does to the sleepers.
-fn act_on_sleepers(buckets: &mut Buckets, t: u32, call: FutexCall) -> Requeued
+// What the act of thread `t`'s call does to the sleepers. Whom it wakes and moves is written into `lists`.
+fn act_on_sleepers(buckets: &mut Buckets, t: u32, call: FutexCall, lists: &mut FutexLists)
     requires thread { (1 ≤ t) × (t ≤ thread_count buckets.old) }
     requires awake { place_of buckets.old t ≡ None }
-    ensures acts { Acts t call (place_of buckets.old) result.woken result.moved
+    ensures acts { Acts t call (place_of buckets.old) lists.new.woken lists.new.moved
         (place_of buckets.new) }
-    ensures woken { result.woken ≡ woken_by call (queue buckets.old) }
-    ensures moved { result.moved ≡ moved_by call (queue buckets.old) }
+    ensures woken { lists.new.woken ≡ woken_by call (queue buckets.old) }
+    ensures moved { lists.new.moved ≡ moved_by call (queue buckets.old) }
     ensures queues { queue buckets.new ≡ queue_by t call (queue buckets.old) }
     ensures holders { buckets.new.holders ≡ buckets.old.holders }
     ensures threads { thread_count buckets.new ≡ thread_count buckets.old }
@@ -77,15 +80,13 @@ fn act_on_sleepers(buckets: &mut Buckets, t: u32, call: FutexCall) -> Requeued
     match call {
         FutexCall::Wait { address, .. } => {
             buckets.enqueue(t, address);
-            Requeued {
-                woken: buckets.nobody(),
-                moved: buckets.nobody(),
-            }
+            lists.woken.clear();
+            lists.moved.clear();
         }
-        FutexCall::Wake { address, wakes } => Requeued {
-            woken: buckets.take(address, wakes),
-            moved: buckets.nobody(),
-        },
+        FutexCall::Wake { address, wakes } => {
+            buckets.take(address, wakes, &mut lists.woken);
+            lists.moved.clear();
+        }
         FutexCall::Requeue {
             address,
             target,
@@ -93,25 +94,29 @@ fn act_on_sleepers(buckets: &mut Buckets, t: u32, call: FutexCall) -> Requeued
             moves,
             ..
         } => {
-            let woken = buckets.take(address, wakes);
-            let moved = buckets.shift(address, target, moves);
-            Requeued { woken, moved }
+            buckets.take(address, wakes, &mut lists.woken);
+            buckets.shift(address, target, moves, &mut lists.moved);
         }
     }
 }
 
-/// Thread `t`'s call acts, and gives up its buckets.
-pub(crate) fn act(buckets: &mut Buckets, t: u32, call: FutexCall) -> FutexProgress
+/// Thread `t`'s call acts, and gives up its buckets. Whom it wakes and moves is written into `lists`.
+pub(crate) fn act(
+    buckets: &mut Buckets,
+    t: u32,
+    call: FutexCall,
+    lists: &mut FutexLists,
+) -> FutexProgress
     requires thread { (1 ≤ t) × (t ≤ thread_count buckets.old) }
     requires awake { place_of buckets.old t ≡ None }
     requires held { (k : ℕ) → names (buckets_of (bucket_count buckets.old) call) k ≡ true
         → holder_of buckets.old k ≡ Some t }
-    ensures piece { ActSo t call buckets.old result buckets.new }
+    ensures piece { ActSo t call buckets.old (progressed result lists.new) buckets.new }
     ensures count { bucket_count buckets.new ≡ bucket_count buckets.old }
     ensures threads { thread_count buckets.new ≡ thread_count buckets.old }
     ensures sound { IsSound buckets.new }
 {
-    let acted = act_on_sleepers(buckets, t, call);
+    act_on_sleepers(buckets, t, call, lists);
     give_up(buckets, t, call);
-    FutexProgress::Done(FutexAnswer::Acted(acted))
+    FutexProgress::Done(FutexAnswer::Acted)
 }

@@ -1,11 +1,11 @@
 ghost use Rattle.std.specs.Prelude.{◌≡◌, ◌≢◌, ℕ, ◌<◌, ◌≤◌, ◌==◌, [], ◌∷◌, ◌++◌, None, if◌then◌else◌, length, take};
-ghost use Rattle.std.specs.Prelude.{drop, IsOk, IfOk, OnOk, OnErr};
+ghost use Rattle.std.specs.Prelude.{drop, IsOk, OnOk, OnErr};
 ghost use Rattle.buckets.specs.Sleepers.{queue, place_of, thread_count, IsSound};
 ghost use Rattle.futexcalls.specs.FutexCalls.{Wakes, Requeues};
 ghost use Rattle.futexcalls.specs.Answers.{word_of, Waits};
 
-use crate::woken::{Requeued, Woken};
-use buckets::Buckets;
+use crate::lists::FutexLists;
+use buckets::{Buckets, ThreadList};
 use words::{Addr, Mem};
 
 /// What a wait answers.
@@ -45,23 +45,23 @@ pub fn wait(mem: &Mem, buckets: &mut Buckets, t: u32, a: Addr, expected: u32) ->
     }
 }
 
-/// Wakes the first `n` sleepers on an address, all where there are no more (futex(2), FUTEX_WAKE).
-pub fn wake(buckets: &mut Buckets, a: Addr, n: u32) -> Woken
-    ensures call { Wakes (place_of buckets.old) a.0 n result.threads (place_of buckets.new) }
-    ensures woken { result.threads ≡ take n (queue buckets.old a.0) }
+/// Wakes the first `n` sleepers on an address, all where there are no more, and writes them into `woken` (futex(2),
+/// FUTEX_WAKE).
+pub fn wake(buckets: &mut Buckets, a: Addr, n: u32, woken: &mut ThreadList)
+    ensures call { Wakes (place_of buckets.old) a.0 n woken.new (place_of buckets.new) }
+    ensures woken { woken.new ≡ take n (queue buckets.old a.0) }
     ensures rest { queue buckets.new a.0 ≡ drop n (queue buckets.old a.0) }
     ensures others { (b : ℕ) → b ≢ a.0 → queue buckets.new b ≡ queue buckets.old b }
     ensures holders { buckets.new.holders ≡ buckets.old.holders }
     ensures threads { thread_count buckets.new ≡ thread_count buckets.old }
     ensures sound { IsSound buckets.old × IsSound buckets.new }
 {
-    Woken {
-        threads: buckets.take(a, n),
-    }
+    buckets.take(a, n, woken);
 }
 
 /// Where the word at `a` is as expected, wakes the first `wake` sleepers on `a`, and moves the first `moves` of the
-/// rest to the end of the list of `b` (futex(2), FUTEX_CMP_REQUEUE). Where `a` and `b` are the same nobody moves.
+/// rest to the end of the list of `b`, and writes both into `lists` (futex(2), FUTEX_CMP_REQUEUE). Where `a` and `b` are
+/// the same nobody moves.
 pub fn cmp_requeue(
     mem: &Mem,
     buckets: &mut Buckets,
@@ -70,23 +70,24 @@ pub fn cmp_requeue(
     wake: u32,
     moves: u32,
     expected: u32,
-) -> Result<Requeued, Again>
+    lists: &mut FutexLists,
+) -> Result<(), Again>
     requires { a.0 < length mem.now }
     ensures equal { word_of mem.now a.0 ≡ expected → IsOk result }
     ensures differs { OnErr result (word_of mem.now a.0 ≢ expected) }
     ensures unchanged { OnErr result (buckets.new ≡ buckets.old) }
-    ensures call { IfOk result
-        (λ r. Requeues (word_of mem.now) (place_of buckets.old) a.0 b.0 wake moves expected
-        r.woken r.moved (place_of buckets.new)) }
+    ensures call { OnOk result
+        (Requeues (word_of mem.now) (place_of buckets.old) a.0 b.0 wake moves expected
+        lists.new.woken lists.new.moved (place_of buckets.new)) }
 
     // Those woken are the front of the first list, and those moved the front of what is left of it.
-    ensures woken { IfOk result (λ r. r.woken ≡ take wake (queue buckets.old a.0)) }
-    ensures moved { IfOk result (λ r. r.moved
+    ensures woken { OnOk result (lists.new.woken ≡ take wake (queue buckets.old a.0)) }
+    ensures moved { OnOk result (lists.new.moved
         ≡ (if a.0 == b.0 then [] else take moves (drop wake (queue buckets.old a.0)))) }
-    ensures rest { IfOk result (λ r. queue buckets.new a.0
-        ≡ drop (length r.moved) (drop wake (queue buckets.old a.0))) }
-    ensures last { IfOk result (λ r. a.0 ≢ b.0
-        → queue buckets.new b.0 ≡ queue buckets.old b.0 ++ r.moved) }
+    ensures rest { OnOk result (queue buckets.new a.0
+        ≡ drop (length lists.new.moved) (drop wake (queue buckets.old a.0))) }
+    ensures last { OnOk result (a.0 ≢ b.0
+        → queue buckets.new b.0 ≡ queue buckets.old b.0 ++ lists.new.moved) }
     ensures others { (d : ℕ) → d ≢ a.0 → d ≢ b.0 → queue buckets.new d ≡ queue buckets.old d }
     ensures holders { buckets.new.holders ≡ buckets.old.holders }
     ensures threads { thread_count buckets.new ≡ thread_count buckets.old }
@@ -95,7 +96,7 @@ pub fn cmp_requeue(
     if mem.load(a) != expected {
         return Err(Again);
     }
-    let woken = buckets.take(a, wake);
-    let moved = buckets.shift(a, b, moves);
-    Ok(Requeued { woken, moved })
+    buckets.take(a, wake, &mut lists.woken);
+    buckets.shift(a, b, moves, &mut lists.moved);
+    Ok(())
 }

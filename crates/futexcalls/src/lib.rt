@@ -3,16 +3,16 @@
 
 mod acting;
 mod calls;
+mod lists;
 mod locking;
 mod pieces;
 mod progress;
 mod stepping;
 mod taking;
-mod woken;
 
 pub use calls::{Again, WaitAnswer, cmp_requeue, wait, wake};
+pub use lists::FutexLists;
 pub use pieces::{FutexCall, FutexPhase};
 pub use progress::{FutexAnswer, FutexProgress};
 pub use stepping::futex_step;
 pub use taking::next_bucket;
-pub use woken::{Requeued, Woken};

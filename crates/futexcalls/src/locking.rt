@@ -2,6 +2,8 @@ ghost use Rattle.std.specs.Prelude.{◌≡◌, ℕ, ◌<◌, ◌==◌, Some, tru
 ghost use Rattle.buckets.specs.Places.{names};
 ghost use Rattle.buckets.specs.Sleepers.{thread_count, bucket_count, holder_of, IsSound};
 ghost use Rattle.futexcalls.specs.Pieces.{buckets_of, takes_at, after_lock, IsPhase};
+ghost use Rattle.futexcalls.specs.declared.lists.FutexLists.{FutexLists};
+ghost use Rattle.futexcalls.specs.Progress.{progressed};
 ghost use Rattle.futexcalls.specs.PieceResults.{OnlyHolders, TakesSo, given_up};
 
 use crate::pieces::{FutexCall, FutexPhase};
@@ -12,7 +14,8 @@ use buckets::Buckets;
 // Thread `t` takes bucket `k`, unless a thread holds it.
 fn lock(buckets: &mut Buckets, t: u32, k: u32, next: FutexPhase) -> FutexProgress
     requires { k < bucket_count buckets.old }
-    ensures piece { TakesSo t (Some k) next buckets.old result buckets.new }
+    ensures piece { (lists : FutexLists)
+        → TakesSo t (Some k) next buckets.old (progressed result lists) buckets.new }
     ensures count { bucket_count buckets.new ≡ bucket_count buckets.old }
     ensures threads { thread_count buckets.new ≡ thread_count buckets.old }
     ensures sound { IsSound buckets.old × IsSound buckets.new }
@@ -37,9 +40,10 @@ fn behind_lesser(a: u32, b: u32) -> FutexPhase
 
 /// Thread `t` takes the bucket of its call, of two the lesser.
 pub(crate) fn lock_first(buckets: &mut Buckets, t: u32, call: FutexCall) -> FutexProgress
-    ensures piece { TakesSo t (takes_at (bucket_count buckets.old) FutexPhase.First call)
+    ensures piece { (lists : FutexLists)
+        → TakesSo t (takes_at (bucket_count buckets.old) FutexPhase.First call)
         (after_lock (bucket_count buckets.old) FutexPhase.First call)
-        buckets.old result buckets.new }
+        buckets.old (progressed result lists) buckets.new }
     ensures count { bucket_count buckets.new ≡ bucket_count buckets.old }
     ensures threads { thread_count buckets.new ≡ thread_count buckets.old }
     ensures sound { IsSound buckets.old × IsSound buckets.new }
@@ -68,9 +72,10 @@ pub(crate) fn lock_first(buckets: &mut Buckets, t: u32, call: FutexCall) -> Fute
 /// Thread `t` takes the greater bucket of its call, which has two.
 pub(crate) fn lock_second(buckets: &mut Buckets, t: u32, call: FutexCall) -> FutexProgress
     requires stands { IsPhase (bucket_count buckets.old) FutexPhase.Second call }
-    ensures piece { TakesSo t (takes_at (bucket_count buckets.old) FutexPhase.Second call)
+    ensures piece { (lists : FutexLists)
+        → TakesSo t (takes_at (bucket_count buckets.old) FutexPhase.Second call)
         (after_lock (bucket_count buckets.old) FutexPhase.Second call)
-        buckets.old result buckets.new }
+        buckets.old (progressed result lists) buckets.new }
     ensures count { bucket_count buckets.new ≡ bucket_count buckets.old }
     ensures threads { thread_count buckets.new ≡ thread_count buckets.old }
     ensures sound { IsSound buckets.old × IsSound buckets.new }

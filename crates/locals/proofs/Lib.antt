@@ -1,2 +1,3 @@
 pub mod Reverses
+pub mod Running
 pub mod Uppermost

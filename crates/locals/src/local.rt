@@ -1,14 +1,14 @@
-ghost use Rattle.std.specs.Prelude.{◌≡◌, ◌≢◌, ◌≤◌, MatchBool, Some, None, is_some, length, reverse};
+ghost use Rattle.std.specs.Prelude.{◌≡◌, ◌≢◌, ◌≤◌, ◌<◌, MatchBool, Some, None, is_some, length, reverse};
 ghost use Rattle.words.specs.declared.outcome.Cause.TheVariants.{Killed};
 ghost use Rattle.robustexit.specs.declared.phase.ExitPhase.TheVariants.{Ended};
 ghost use Rattle.locals.specs.Limits.{most_operands};
 ghost use Rattle.locals.specs.Threads.{Dies, Exits, is_dying, opening_thread, place_in_code};
 ghost use Rattle.locals.specs.Looks.{look};
-ghost use Rattle.locals.specs.Steps.{local_step};
+ghost use Rattle.locals.specs.Steps.{local_after, local_step};
 ghost use Rattle.locals.specs.Requests.{next_step_of, after_answer, fork_child, CanBeAnswered};
 
 use crate::activation::Activation;
-use crate::progress::{Answered, Progress};
+use crate::progress::Answered;
 use crate::request::{NextStep, Request};
 use isa::Image;
 use robustexit::{ExitPhase, phase_at};
@@ -186,22 +186,30 @@ impl Local {
         }
     }
 
+    /// Takes local steps of thread `t` in place until the next one isn't local or the budget is used. Answers how many.
+    pub fn run(&mut self, image: &Image, t: u32, budget: u32) -> u32
+        ensures reached { local_after image.now t result self.old ≡ Some self.new }
+        ensures within { result ≤ budget }
+        ensures whole { result < budget → local_step image.now t self.new ≡ None }
+    {
+        match &mut self.stage {
+            Stage::Running(activation) => {
+                let (count, failed) = activation.run(image, t, budget);
+                if let Some(fault) = failed {
+                    self.stage = Stage::Dying(Cause::Faulted(fault));
+                }
+                count
+            }
+            Stage::Dying(_) | Stage::Exiting(_) => 0,
+        }
+    }
+
     /// Takes a local step of thread `t` where the next one is, and says whether it did. Else it stays as it is.
     pub fn take_step(&mut self, image: &Image, t: u32) -> bool
         ensures { MatchBool result (local_step image.now t self.old ≡ Some self.new)
             ((local_step image.now t self.old ≡ None) × (self.new ≡ self.old)) }
     {
-        match &mut self.stage {
-            Stage::Running(activation) => match activation.take_step(image, t) {
-                Progress::Went => true,
-                Progress::Failed(fault) => {
-                    self.stage = Stage::Dying(Cause::Faulted(fault));
-                    true
-                }
-                Progress::Stayed => false,
-            },
-            Stage::Dying(_) | Stage::Exiting(_) => false,
-        }
+        self.run(image, t, 1) == 1
     }
 
     /// Whether the next step of this state of thread `t` is a local one.

@@ -4,21 +4,6 @@ ghost use Rattle.locals.specs.Steps.{local_step, local_after};
 use crate::local::Local;
 use isa::Image;
 
-impl Local {
-    /// Takes local steps of thread `t` in place until the next one isn't local or the budget is used. Answers how many.
-    pub fn run(&mut self, image: &Image, t: u32, budget: u32) -> u32
-        ensures reached { local_after image.now t result self.old ≡ Some self.new }
-        ensures within { result ≤ budget }
-        ensures whole { result < budget → local_step image.now t self.new ≡ None }
-    {
-        let mut count = 0;
-        while count < budget && self.take_step(image, t) {
-            count += 1;
-        }
-        count
-    }
-}
-
 /// Takes local steps of thread `t` until the next one isn't local or the budget is used. Answers where the thread has
 /// come, and how many steps it took.
 pub fn run_local(image: &Image, t: u32, local: Local, budget: u32) -> (Local, u32)

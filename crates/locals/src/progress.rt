@@ -4,8 +4,8 @@ use words::Fault;
 /// What came of the next step of a thread, taken where it is a local one.
 #[derive(Clone, Copy, PartialEq, Eq, Debug)]
 pub enum Progress {
-    /// The step was taken.
-    Went,
+    /// The step was taken, and the next instruction is at this place. It isn't in the activation yet.
+    Went(u32),
     /// The step was taken, and failed.
     Failed(Fault),
     /// The next step is no local one, so none was taken.

@@ -70,7 +70,7 @@ impl<'a> Follower<'a> {
             alloc,
             checked,
             layout,
-            state: SourceState::opening(alloc, checked)?,
+            state: SourceState::opening(alloc, checked, ImageVersion::One)?,
             actions: Vec::new(alloc),
         })
     }

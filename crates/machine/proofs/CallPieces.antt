@@ -3,6 +3,7 @@ use Rattle.std.proofs.Common.{◌≡◌, ℕ, ◌+◌, ◌-◌, ◌≤◌, ◌==
 use Rattle.std.proofs.Common.{◌∷◌, length, slice_set, refl, sym, ap, subst, ◌∙◌, ◌⊎◌, inl, inr, arith, length-set}
 use Rattle.std.specs.Prelude.{slice_index, if◌then◌else◌}
 use Rattle.std.proofs.lemmas.Bool.{cases_eq, eqb-true, or_cases}
+use Rattle.words.specs.Limits.{most_threads}
 use Rattle.words.specs.Updates.{put}
 use Rattle.buckets.specs.Places.{names, with_place}
 use Rattle.isa.specs.Programs.{Program}
@@ -13,10 +14,7 @@ use Rattle.futexcalls.specs.declared.pieces.FutexCall.{FutexCall}
 use Rattle.futexcalls.specs.declared.pieces.FutexCall.TheVariants.{Wait, Wake, Requeue}
 use Rattle.futexcalls.specs.declared.pieces.FutexPhase.{FutexPhase}
 use Rattle.futexcalls.specs.declared.pieces.FutexPhase.TheVariants.{First, Second, Compare, Act}
-use Rattle.futexcalls.specs.declared.progress.FutexAnswer.{FutexAnswer}
-use Rattle.futexcalls.specs.declared.progress.FutexAnswer.TheVariants.{Again, Acted}
-use Rattle.futexcalls.specs.declared.progress.FutexProgress.{FutexProgress}
-use Rattle.futexcalls.specs.declared.progress.FutexProgress.TheVariants.{Next, Blocked, Done}
+use Rattle.futexcalls.specs.Progress.{PieceAnswer, Again, Acted, PieceProgress, Next, Blocked, Done}
 use Rattle.futexcalls.specs.Pieces.{buckets_of, takes_at, after_lock, again_of, LiesIn, Compares, Acts}
 use Rattle.futexcalls.specs.PieceResults.{PieceSo, TakesSo, CompareSo, ComparesSo, ActSo, answer_of, given_up}
 use Rattle.futexcalls.specs.PieceResults.{woken_by, moved_by}
@@ -43,6 +41,7 @@ pub record Keeps (v v' : View) : Type 0 where
   pub words : v'.words ≡ v.words
   pub output : v'.output ≡ v.output
   pub count : bucket_count v'.sleepers ≡ bucket_count v.sleepers
+  pub most : thread_count v'.sleepers ≡ thread_count v.sleepers
 
 -- the state behind a piece behind which the call goes on
 stays : (v v' : View) (phases : ℕ → FutexPhase) (holder : ℕ → Option ℕ) → Keeps v v' → v'.threads ≡ v.threads
@@ -50,7 +49,7 @@ stays : (v v' : View) (phases : ℕ → FutexPhase) (holder : ℕ → Option ℕ
     → pieces_of v' phases ≡ record (pieces_of v phases) { holder = holder }
 stays v v' phases holder k threads places holders = λ i. record {
   base = record {
-    most = (state_of (concrete v)).most;
+    most = k.most i;
     word = λ a. slice_index (k.words i) a;
     size = length (k.words i);
     made = length (threads i);
@@ -72,7 +71,7 @@ ends : (v v' : View) (phases : ℕ → FutexPhase) (t : ℕ) (x y : Thread) (aft
     (buckets_of (bucket_count v.sleepers) call) y
 ends v v' phases t x y after call k stands threads places holders = λ i. record {
   base = record {
-    most = (state_of (concrete v)).most;
+    most = k.most i;
     word = λ a. slice_index (k.words i) a;
     size = length (k.words i);
     made = (ap length threads ∙ length-set v.threads (t - 1) y) i;
@@ -86,7 +85,7 @@ ends v v' phases t x y after call k stands threads places holders = λ i. record
 }
 
 -- what a piece does
-abbrev pub Does : View → (ℕ → FutexPhase) → ℕ → FutexCall → Thread → FutexProgress → View → Type 0
+abbrev pub Does : View → (ℕ → FutexPhase) → ℕ → FutexCall → Thread → PieceProgress → View → Type 0
 Does v phases t call x (Next phase) v' =
     Piece v.program (pieces_of v phases) t x [] (pieces_of v' (put phases t phase))
 Does v phases t call x Blocked v' = BlocksCall (pieces_of v phases) t (Some call) × (v' ≡ v)
@@ -94,14 +93,14 @@ Does v phases t call x (Done answer) v' =
     Piece v.program (pieces_of v phases) t x (woken_in answer) (pieces_of v' (put phases t First))
 
 -- the threads behind a piece: where the call is over, its thread has gone on with the answer
-abbrev pub threads_behind : View → ℕ → FutexCall → (ℕ → Thread) → FutexProgress → List Thread
+abbrev pub threads_behind : View → ℕ → FutexCall → (ℕ → Thread) → PieceProgress → List Thread
 threads_behind v t call go (Next phase) = v.threads
 threads_behind v t call go Blocked = v.threads
 threads_behind v t call go (Done answer) = slice_set v.threads (t - 1) (go (answer_of call answer))
 
 -- a bucket is taken
 takes : (v v' : View) (phases : ℕ → FutexPhase) (t : ℕ) (call : FutexCall) (x : Thread) (go : ℕ → Thread)
-    (o : Option ℕ) (progress : FutexProgress) → Keeps v v' → thread_of (concrete v) t ≡ Some x
+    (o : Option ℕ) (progress : PieceProgress) → Keeps v v' → thread_of (concrete v) t ≡ Some x
     → look v.program t x ≡ Asks (request_of call) go → LiesIn (length v.words) call
     → takes_at (bucket_count v.sleepers) (phases t) call ≡ o → v'.threads ≡ threads_behind v t call go progress
     → (progress ≡ Blocked → v' ≡ v)
@@ -121,7 +120,7 @@ takes v v' phases t call x go (Some b) (Done answer) k stands asks lies is threa
 
 -- the word is compared
 compares : (v v' : View) (phases : ℕ → FutexPhase) (t : ℕ) (call : FutexCall) (x : Thread) (go : ℕ → Thread)
-    (a expected : ℕ) (progress : FutexProgress) → Keeps v v' → thread_of (concrete v) t ≡ Some x
+    (a expected : ℕ) (progress : PieceProgress) → Keeps v v' → thread_of (concrete v) t ≡ Some x
     → look v.program t x ≡ Asks (request_of call) go → Compares call a expected → phases t ≡ Compare
     → v'.threads ≡ threads_behind v t call go progress
     → ComparesSo (word_of v.words) call a expected v.sleepers progress v'.sleepers
@@ -137,7 +136,7 @@ compares v v' phases t call x go a expected (Done (Acted r)) k stands asks is at
 compares v v' phases t call x go a expected Blocked k stands asks is at threads h = absurd h
 
 compare_any : (v v' : View) (phases : ℕ → FutexPhase) (t : ℕ) (call : FutexCall) (x : Thread) (go : ℕ → Thread)
-    (progress : FutexProgress) → Keeps v v' → thread_of (concrete v) t ≡ Some x
+    (progress : PieceProgress) → Keeps v v' → thread_of (concrete v) t ≡ Some x
     → look v.program t x ≡ Asks (request_of call) go → phases t ≡ Compare
     → v'.threads ≡ threads_behind v t call go progress
     → CompareSo (word_of v.words) call v.sleepers progress v'.sleepers → Does v phases t call x progress v'
@@ -150,7 +149,7 @@ compare_any v v' phases t (Requeue a b wakes moves expected) x go progress k sta
 
 -- the call acts
 acts : (v v' : View) (phases : ℕ → FutexPhase) (t : ℕ) (call : FutexCall) (x : Thread) (go : ℕ → Thread)
-    (progress : FutexProgress) → Keeps v v' → thread_of (concrete v) t ≡ Some x
+    (progress : PieceProgress) → Keeps v v' → thread_of (concrete v) t ≡ Some x
     → look v.program t x ≡ Asks (request_of call) go → phases t ≡ Act
     → v'.threads ≡ threads_behind v t call go progress → ActSo t call v.sleepers progress v'.sleepers
     → Does v phases t call x progress v'
@@ -164,7 +163,7 @@ acts v v' phases t call x go (Done (Acted r)) k stands asks at threads h =
 
 -- each piece
 pub does_piece : (v v' : View) (phases : ℕ → FutexPhase) (t : ℕ) (call : FutexCall) (phase : FutexPhase) (x : Thread)
-    (go : ℕ → Thread) (progress : FutexProgress) → Keeps v v' → thread_of (concrete v) t ≡ Some x
+    (go : ℕ → Thread) (progress : PieceProgress) → Keeps v v' → thread_of (concrete v) t ≡ Some x
     → look v.program t x ≡ Asks (request_of call) go → LiesIn (length v.words) call → phases t ≡ phase
     → v'.threads ≡ threads_behind v t call go progress → (progress ≡ Blocked → v' ≡ v)
     → PieceSo (word_of v.words) t call phase v.sleepers progress v'.sleepers → Does v phases t call x progress v'
@@ -220,7 +219,7 @@ acts_sleep t (Requeue a b wakes moves expected) before woken moved after h =
       | inr ne ↦ inr (a.0, (h.moves.choice ne).slept u y)
     ])))
 
-takes_sleep : (t : ℕ) (o : Option ℕ) (next : FutexPhase) (s s' : Sleepers) (progress : FutexProgress)
+takes_sleep : (t : ℕ) (o : Option ℕ) (next : FutexPhase) (s s' : Sleepers) (progress : PieceProgress)
     → TakesSo t o next s progress s' → OnlySleeps t (place_of s) (place_of s')
 takes_sleep t None next s s' progress h = absurd h
 takes_sleep t (Some b) next s s' (Next phase) h = same_sleep t (place_of s) (place_of s') h.2.places
@@ -228,14 +227,14 @@ takes_sleep t (Some b) next s s' Blocked h = same_sleep t (place_of s) (place_of
 takes_sleep t (Some b) next s s' (Done answer) h = absurd h
 
 compares_sleep : (t : ℕ) (word : ℕ → ℕ) (call : FutexCall) (a expected : ℕ) (s s' : Sleepers)
-    (progress : FutexProgress) → ComparesSo word call a expected s progress s'
+    (progress : PieceProgress) → ComparesSo word call a expected s progress s'
     → OnlySleeps t (place_of s) (place_of s')
 compares_sleep t word call a expected s s' (Next phase) h = same_sleep t (place_of s) (place_of s') (ap place_of h.2)
 compares_sleep t word call a expected s s' (Done Again) h = same_sleep t (place_of s) (place_of s') h.1.places
 compares_sleep t word call a expected s s' (Done (Acted r)) h = absurd h
 compares_sleep t word call a expected s s' Blocked h = absurd h
 
-compare_sleep : (t : ℕ) (word : ℕ → ℕ) (call : FutexCall) (s s' : Sleepers) (progress : FutexProgress)
+compare_sleep : (t : ℕ) (word : ℕ → ℕ) (call : FutexCall) (s s' : Sleepers) (progress : PieceProgress)
     → CompareSo word call s progress s' → OnlySleeps t (place_of s) (place_of s')
 compare_sleep t word (Wait a expected) s s' progress h =
     compares_sleep t word (Wait a expected) a.0 expected s s' progress h
@@ -243,7 +242,7 @@ compare_sleep t word (Wake a wakes) s s' progress h = absurd h
 compare_sleep t word (Requeue a b wakes moves expected) s s' progress h =
     compares_sleep t word (Requeue a b wakes moves expected) a.0 expected s s' progress h
 
-act_sleep : (t : ℕ) (call : FutexCall) (s s' : Sleepers) (progress : FutexProgress) → ActSo t call s progress s'
+act_sleep : (t : ℕ) (call : FutexCall) (s s' : Sleepers) (progress : PieceProgress) → ActSo t call s progress s'
     → OnlySleeps t (place_of s) (place_of s')
 act_sleep t call s s' (Next phase) h = absurd h
 act_sleep t call s s' Blocked h = absurd h
@@ -251,7 +250,7 @@ act_sleep t call s s' (Done Again) h = absurd h
 act_sleep t call s s' (Done (Acted r)) h = acts_sleep t call (place_of s) r.woken r.moved (place_of s') h.acts
 
 pub piece_sleep : (t : ℕ) (word : ℕ → ℕ) (call : FutexCall) (phase : FutexPhase) (s s' : Sleepers)
-    (progress : FutexProgress) → PieceSo word t call phase s progress s' → OnlySleeps t (place_of s) (place_of s')
+    (progress : PieceProgress) → PieceSo word t call phase s progress s' → OnlySleeps t (place_of s) (place_of s')
 piece_sleep t word call First s s' progress h = takes_sleep t _ _ s s' progress h
 piece_sleep t word call Second s s' progress h = takes_sleep t _ _ s s' progress h
 piece_sleep t word call Compare s s' progress h = compare_sleep t word call s s' progress h
@@ -264,9 +263,9 @@ pub piece_well : (p : Program) (v v' : View) (t : ℕ) → IsWellFormed p (concr
 piece_well p v v' t concrete k long some few sound only = record {
   sized = ap length k.words ∙ concrete.sized;
   some = omega (arith, long, concrete.some);
-  most = concrete.most;
-  fits = concrete.fits;
-  few = omega (arith, long, concrete.few);
+  most = k.most ∙ concrete.most;
+  fits = omega (arith, k.most, concrete.fits);
+  few = omega (arith, long, k.most, concrete.few);
   agree = sound.agree;
   made = λ u a e. elim (only u a e) [
     | inl q ↦ (omega (arith, q, some), omega (arith, q, few, long))
@@ -275,28 +274,28 @@ piece_well p v v' t concrete k long some few sound only = record {
 }
 
 -- as many threads are there as before
-pub long_behind : (v : View) (t : ℕ) (call : FutexCall) (go : ℕ → Thread) (progress : FutexProgress)
+pub long_behind : (v : View) (t : ℕ) (call : FutexCall) (go : ℕ → Thread) (progress : PieceProgress)
     → length (threads_behind v t call go progress) ≡ length v.threads
 long_behind v t call go (Next phase) = refl
 long_behind v t call go Blocked = refl
 long_behind v t call go (Done answer) = length-set v.threads (t - 1) (go (answer_of call answer))
 
 -- what those who share the memory are told
-pub next_told : (call : FutexCall) (progress : FutexProgress) (phase : FutexPhase) (event : Event)
+pub next_told : (call : FutexCall) (progress : PieceProgress) (phase : FutexPhase) (event : Event)
     → Tells call progress (common.Next phase) event → progress ≡ Next phase
 next_told call (Next p) phase event h = ap Next h
 next_told call Blocked phase event h = absurd h
 next_told call (Done answer) phase event h = absurd h
 
-pub blocked_told : (call : FutexCall) (progress : FutexProgress) (event : Event)
+pub blocked_told : (call : FutexCall) (progress : PieceProgress) (event : Event)
     → Tells call progress common.Blocked event → progress ≡ Blocked
 blocked_told call (Next p) event h = absurd h
 blocked_told call Blocked event h = refl
 blocked_told call (Done answer) event h = absurd h
 
-pub done_told : (call : FutexCall) (progress : FutexProgress) (value : ℕ) (event : Event)
+pub done_told : (call : FutexCall) (progress : PieceProgress) (value : ℕ) (event : Event)
     → Tells call progress (common.Done value) event
-    → (answer : FutexAnswer) × (progress ≡ Done answer) × (value ≡ answer_of call answer)
+    → (answer : PieceAnswer) × (progress ≡ Done answer) × (value ≡ answer_of call answer)
     × (event ≡ event_of (call_name call) (answer_of call answer) (woken_in answer) (moved_in answer))
 done_told call (Next p) value event h = absurd h
 done_told call Blocked value event h = absurd h
@@ -306,7 +305,7 @@ none_threads : All IsThread []
 none_threads k d l = absurd (omega arith)
 
 -- who is woken or moved is a thread
-front_threads : (s : Sleepers) (call : FutexCall) → IsSound s → thread_count s ≡ 64
+front_threads : (s : Sleepers) (call : FutexCall) → IsSound s → thread_count s ≤ most_threads
     → All IsThread (woken_by call (queue s)) × All IsThread (moved_by call (queue s))
 front_threads s (Wait a expected) ok count = (none_threads, none_threads)
 front_threads s (Wake a wakes) ok count = (sleepers_threads s a.0 wakes ok count, none_threads)
@@ -316,7 +315,7 @@ front_threads s (Requeue a b wakes moves expected) ok count = (
 )
 
 pub answer_threads : (s s' : Sleepers) (word : ℕ → ℕ) (t : ℕ) (call : FutexCall) (phase : FutexPhase)
-    (answer : FutexAnswer) → IsSound s → thread_count s ≡ 64
+    (answer : PieceAnswer) → IsSound s → thread_count s ≤ most_threads
     → PieceSo word t call phase s (Done answer) s' → All IsThread (woken_in answer) × All IsThread (moved_in answer)
 answer_threads s s' word t call phase Again ok count h = (none_threads, none_threads)
 answer_threads s s' word t call Act (Acted r) ok count h =
@@ -356,7 +355,7 @@ blocked_same t word call Act s s' h = absurd h
 -- what those who share the memory were told of a piece
 abbrev pub Told : View → ℕ → FutexCall → FutexPhase → CallProgress → Event → View → Type 0
 Told v t call phase r event v' =
-    (progress : FutexProgress) × PieceSo (word_of v.words) t call phase v.sleepers progress v'.sleepers
+    (progress : PieceProgress) × PieceSo (word_of v.words) t call phase v.sleepers progress v'.sleepers
     × Tells call progress r event
 
 one_thread : (x y : Thread) → Some x ≡ Some y → x ≡ y
@@ -374,7 +373,7 @@ pub next_so : (v v' : View) (t : ℕ) (call : FutexCall) (phase next : FutexPhas
 next_so v v' t call phase next event m lies k threads h phases x at stands =
     does_piece v v' phases t call phase x m.go (Next next) k stands (asks_of v t call x m stands) lies at threads
     (λ e. absurd cc)
-    (subst (λ (q : FutexProgress). PieceSo (word_of v.words) t call phase v.sleepers q v'.sleepers)
+    (subst (λ (q : PieceProgress). PieceSo (word_of v.words) t call phase v.sleepers q v'.sleepers)
     (next_told call h.0 next event h.2) h.1)
 
 -- a held bucket is in its way
@@ -384,7 +383,7 @@ pub blocked_so : (v v' : View) (t : ℕ) (call : FutexCall) (phase : FutexPhase)
     (x : Thread) → phases t ≡ phase → thread_of (concrete v) t ≡ Some x
     → DoesPiece v phases t call x step.Blocked event v'
 blocked_so v v' t call phase event m lies k threads program same h phases x at stands =
-    let piece = subst (λ (q : FutexProgress). PieceSo (word_of v.words) t call phase v.sleepers q v'.sleepers)
+    let piece = subst (λ (q : PieceProgress). PieceSo (word_of v.words) t call phase v.sleepers q v'.sleepers)
     (blocked_told call h.0 event h.2) h.1 in
     does_piece v v' phases t call phase x m.go Blocked k stands (asks_of v t call x m stands) lies at threads
     (λ e. same (blocked_same t (word_of v.words) call phase v.sleepers v'.sleepers piece)) piece
@@ -397,7 +396,7 @@ pub done_so : (v v' : View) (t : ℕ) (call : FutexCall) (phase : FutexPhase) (a
     → thread_of (concrete v) t ≡ Some x → DoesPiece v phases t call x step.Done event v'
 done_so v v' t call phase answer event m lies k threads h phases x at stands =
     let d = done_told call h.0 answer event h.2 in
-    let piece = subst (λ (q : FutexProgress). PieceSo (word_of v.words) t call phase v.sleepers q v'.sleepers)
+    let piece = subst (λ (q : PieceProgress). PieceSo (word_of v.words) t call phase v.sleepers q v'.sleepers)
     d.1 h.1 in (
       woken_in d.0,
       moved_in d.0,

@@ -9,7 +9,7 @@ use Rattle.std.proofs.lemmas.List.{ext_get_or, take_all}
 use Rattle.words.specs.LockWord.{lock_word, waiters_of}
 use Rattle.words.specs.Process.{process_word}
 use Rattle.buckets.specs.Places.{names, with_place, Agree}
-use Rattle.buckets.specs.Sleepers.{Sleepers, queue, place_of}
+use Rattle.buckets.specs.Sleepers.{Sleepers, queue, place_of, thread_count}
 use Rattle.buckets.proofs.Takes.{names-take}
 use Rattle.buckets.proofs.Moves.{drop-take_length, names-front}
 use Rattle.buckets.proofs.Outcomes.{names-get_or}
@@ -27,7 +27,6 @@ use Rattle.machine.specs.declared.event.EventName.TheVariants as name
 use Rattle.machine.specs.ConcreteServing.{front, wake_front, event_of}
 use Rattle.machine.specs.ConcreteExits.{Left, leave, leave_entry, leave_pending, abandon, abandon_wakes}
 use Rattle.machine.specs.RequestMeanings.{name_at, value_at}
-use Rattle.words.specs.Limits.{most_threads}
 use Rattle.machine.specs.Views.{common_of}
 use Rattle.machine.proofs.Queues.{one_list, no_list}
 use Rattle.machine.proofs.Leaving.{entry_so, entry_test}
@@ -69,12 +68,12 @@ stays_list s s' a woken takes none =
 
 idle_is : (ws ws' : List ℕ) (s s' : Sleepers) (o : List ℤ) (a : ℕ) (woken : List ℕ)
     → IsIdle (shared_view ws s) woken (shared_view ws' s') → TakesFront s s' a woken → length ws' ≡ length ws
-    → common_of ws' s' o ≡ common_of ws s o
-idle_is ws ws' s s' o a woken idle takes long =
+    → thread_count s' ≡ thread_count s → common_of ws' s' o ≡ common_of ws s o
+idle_is ws ws' s s' o a woken idle takes long most =
     let words : ws' ≡ ws = same_words ws ws' long (ap (λ (x : Shared). x.word) idle.same) in
     let places : place_of s' ≡ place_of s = ap (λ (x : Shared). x.asleep) idle.same in
     let queues : queue s' ≡ queue s = stays_list s s' a woken takes idle.nobody in
-    λ i. record { most = most_threads; words = words i; queue = queues i; asleep = places i; output = o }
+    λ i. record { most = most i; words = words i; queue = queues i; asleep = places i; output = o }
 
 no_threads : (xs : List ℕ) → length xs ≤ 0 → xs ≡ []
 no_threads [] h = refl
@@ -87,9 +86,9 @@ record Marks (ws ws' : List ℕ) (s s' : Sleepers) (o : List ℤ) (l : ℕ) (wok
 marks_if : (ws ws' : List ℕ) (s s' : Sleepers) (o : List ℤ) (t l : ℕ) (woken : List ℕ)
     → Agree (queue s) (place_of s) → Abandons t l (shared_view ws s) woken (shared_view ws' s')
     → TakesFront s s' l woken
-    → length ws' ≡ length ws → l < length ws
+    → length ws' ≡ length ws → thread_count s' ≡ thread_count s → l < length ws
     → (w : Bool) → waiters_of (word_of ws l) ≡ w → Marks ws ws' s s' o l woken
-marks_if ws ws' s s' o t l woken ok gone takes long inside true is =
+marks_if ws ws' s s' o t l woken ok gone takes long most inside true is =
     let wakes : Wakes (place_of s) l 1 woken (place_of s') = rw is at gone.wakes in
     let words : ws' ≡ slice_set ws l (lock_word 0 true (waiters_of (word_of ws l))) =
     set_is ws ws' l _ long inside gone.marks in
@@ -99,10 +98,10 @@ marks_if ws ws' s s' o t l woken ok gone takes long inside true is =
     ∙ ap (λ xs. with_place (place_of s) xs None) one in
     record {
       common = cond-true _ _ _ is
-          ∙ (λ i. record { most = most_threads; words = sym words i; queue = sym queues i; asleep = sym places i; output = o });
+          ∙ (λ i. record { most = sym most i; words = sym words i; queue = sym queues i; asleep = sym places i; output = o });
       woke = cond-true _ _ _ is ∙ sym one;
     }
-marks_if ws ws' s s' o t l woken ok gone takes long inside false is =
+marks_if ws ws' s s' o t l woken ok gone takes long most inside false is =
     let wakes : Wakes (place_of s) l 0 woken (place_of s') = rw is at gone.wakes in
     let words : ws' ≡ slice_set ws l (lock_word 0 true (waiters_of (word_of ws l))) =
     set_is ws ws' l _ long inside gone.marks in
@@ -111,17 +110,17 @@ marks_if ws ws' s s' o t l woken ok gone takes long inside false is =
     let places : place_of s' ≡ place_of s = wakes.awake ∙ ap (λ xs. with_place (place_of s) xs None) none in
     record {
       common = cond-false _ _ _ is
-          ∙ (λ i. record { most = most_threads; words = sym words i; queue = sym queues i; asleep = sym places i; output = o });
+          ∙ (λ i. record { most = sym most i; words = sym words i; queue = sym queues i; asleep = sym places i; output = o });
       woke = cond-false _ _ _ is ∙ sym none;
     }
 
 marks : (ws ws' : List ℕ) (s s' : Sleepers) (o : List ℤ) (t l : ℕ) (woken : List ℕ)
     → Agree (queue s) (place_of s) → Abandons t l (shared_view ws s) woken (shared_view ws' s')
     → TakesFront s s' l woken
-    → length ws' ≡ length ws → l < length ws
+    → length ws' ≡ length ws → thread_count s' ≡ thread_count s → l < length ws
     → Marks ws ws' s s' o l woken
-marks ws ws' s s' o t l woken ok gone takes long inside =
-    marks_if ws ws' s s' o t l woken ok gone takes long inside (waiters_of (word_of ws l)) refl
+marks ws ws' s s' o t l woken ok gone takes long most inside =
+    marks_if ws ws' s s' o t l woken ok gone takes long most inside (waiters_of (word_of ws l)) refl
 
 record WakesFront (ws ws' : List ℕ) (s s' : Sleepers) (o : List ℤ) (a : ℕ) (woken : List ℕ) : Type 0 where
   pub common : wake_front (common_of ws s o) a 1 ≡ common_of ws' s' o
@@ -129,8 +128,8 @@ record WakesFront (ws ws' : List ℕ) (s s' : Sleepers) (o : List ℤ) (a : ℕ)
 
 one_woken : (ws ws' : List ℕ) (s s' : Sleepers) (o : List ℤ) (a : ℕ) (woken : List ℕ)
     → Agree (queue s) (place_of s) → WakesOne a (shared_view ws s) woken (shared_view ws' s') → TakesFront s s' a woken
-    → length ws' ≡ length ws → WakesFront ws ws' s s' o a woken
-one_woken ws ws' s s' o a woken ok wakes takes long =
+    → length ws' ≡ length ws → thread_count s' ≡ thread_count s → WakesFront ws ws' s s' o a woken
+one_woken ws ws' s s' o a woken ok wakes takes long most =
     let words : ws' ≡ ws = same_words ws ws' long wakes.same in
     let one : woken ≡ take 1 (queue s a) =
     front_is (queue s) (place_of s) a 1 woken ok wakes.wakes.choice takes.front in
@@ -138,7 +137,7 @@ one_woken ws ws' s s' o a woken ok wakes takes long =
     let places : place_of s' ≡ with_place (place_of s) (take 1 (queue s a)) None = wakes.wakes.awake
     ∙ ap (λ xs. with_place (place_of s) xs None) one in
     record {
-      common = λ i. record { most = most_threads; words = sym words i; queue = sym queues i; asleep = sym places i; output = o };
+      common = λ i. record { most = sym most i; words = sym words i; queue = sym queues i; asleep = sym places i; output = o };
       woke = sym one;
     }
 
@@ -149,50 +148,50 @@ left ws' s' o phase next value woken =
 
 at_entry : (ws ws' : List ℕ) (s s' : Sleepers) (o : List ℤ) (t e seen : ℕ) (next : ExitPhase) (woken : List ℕ)
     → Agree (queue s) (place_of s) → EntryStep (length ws) t e (shared_view ws s) woken (shared_view ws' s')
-    → TakesFront s s' (e + 1) woken → length ws' ≡ length ws
+    → TakesFront s s' (e + 1) woken → length ws' ≡ length ws → thread_count s' ≡ thread_count s
     → IsEntry (length ws) e → next ≡ next_entry (word_of ws e) (seen + 1)
     → leave_entry t e seen (common_of ws s o) ≡ left ws' s' o (Entry (record { 0 = e }) seen) next e woken
-at_entry ws ws' s s' o t e seen next woken ok (IsPending is idle) takes long entry goes =
+at_entry ws ws' s s' o t e seen next woken ok (IsPending is idle) takes long most entry goes =
     cond-false _ _ _ (ap not (entry_test (common_of ws s o) e entry)) ∙ cond-true _ _ _ (or_left _ _ (eq-eqb _ _ is))
     ∙ (λ i. record {
-      common = sym (idle_is ws ws' s s' o (e + 1) woken idle takes long) i;
+      common = sym (idle_is ws ws' s s' o (e + 1) woken idle takes long most) i;
       next =
           sym goes i;
       event = event_of name.Entry e (sym idle.nobody i) [];
     })
-at_entry ws ws' s s' o t e seen next woken ok (IsForeign other idle) takes long entry goes =
+at_entry ws ws' s s' o t e seen next woken ok (IsForeign other idle) takes long most entry goes =
     cond-false _ _ _ (ap not (entry_test (common_of ws s o) e entry))
     ∙ cond-true _ _ _ (or_right _ _ (ap not (ne_eqb _ _ other)))
     ∙ (λ i. record {
-      common = sym (idle_is ws ws' s s' o (e + 1) woken idle takes long) i;
+      common = sym (idle_is ws ws' s s' o (e + 1) woken idle takes long most) i;
       next =
           sym goes i;
       event = event_of name.Entry e (sym idle.nobody i) [];
     })
-at_entry ws ws' s s' o t e seen next woken ok (IsOwned apart gone) takes long entry goes =
-    let m = marks ws ws' s s' o t (e + 1) woken ok gone takes long entry.1 in
+at_entry ws ws' s s' o t e seen next woken ok (IsOwned apart gone) takes long most entry goes =
+    let m = marks ws ws' s s' o t (e + 1) woken ok gone takes long most entry.1 in
     cond-false _ _ _ (ap not (entry_test (common_of ws s o) e entry))
     ∙ cond-false _ _ _ (or_from _ _ (ne_eqb _ _ apart) (ap not (eq-eqb _ _ gone.owned)))
     ∙ (λ i. record { common = m.common i; next = sym goes i; event = event_of name.Entry e (m.woke i) [] })
 
 at_pending : (ws ws' : List ℕ) (s s' : Sleepers) (o : List ℤ) (t e : ℕ) (woken : List ℕ)
     → Agree (queue s) (place_of s) → PendingStep (length ws) t e (shared_view ws s) woken (shared_view ws' s')
-    → TakesFront s s' (e + 1) woken → length ws' ≡ length ws
+    → TakesFront s s' (e + 1) woken → length ws' ≡ length ws → thread_count s' ≡ thread_count s
     → leave_pending t e (common_of ws s o) ≡ left ws' s' o Pending ClearId e woken
-at_pending ws ws' s s' o t e woken ok (NoEntry out idle) takes long =
+at_pending ws ws' s s' o t e woken ok (NoEntry out idle) takes long most =
     cond-true _ _ _ (ap not (false_from_ne_true _ (λ h. out (entry_so (common_of ws s o) e h))))
     ∙ (λ i. record {
-      common = sym (idle_is ws ws' s s' o (e + 1) woken idle takes long) i;
+      common = sym (idle_is ws ws' s s' o (e + 1) woken idle takes long most) i;
       next = ClearId;
       event =
           event_of name.Pending e (sym idle.nobody i) [];
     })
-at_pending ws ws' s s' o t e woken ok (IsForeign entry other wakes) takes long =
-    let m = one_woken ws ws' s s' o (e + 1) woken ok wakes takes long in
+at_pending ws ws' s s' o t e woken ok (IsForeign entry other wakes) takes long most =
+    let m = one_woken ws ws' s s' o (e + 1) woken ok wakes takes long most in
     cond-false _ _ _ (ap not (entry_test (common_of ws s o) e entry)) ∙ cond-false _ _ _ (ne_eqb _ _ other)
     ∙ (λ i. record { common = m.common i; next = ClearId; event = event_of name.Pending e (m.woke i) [] })
-at_pending ws ws' s s' o t e woken ok (IsOwned entry gone) takes long =
-    let m = marks ws ws' s s' o t (e + 1) woken ok gone takes long entry.1 in
+at_pending ws ws' s s' o t e woken ok (IsOwned entry gone) takes long most =
+    let m = marks ws ws' s s' o t (e + 1) woken ok gone takes long most entry.1 in
     cond-false _ _ _ (ap not (entry_test (common_of ws s o) e entry)) ∙ cond-true _ _ _ (eq-eqb _ _ gone.owned)
     ∙ (λ i. record { common = m.common i; next = ClearId; event = event_of name.Pending e (m.woke i) [] })
 
@@ -205,39 +204,39 @@ pub left_is : (ws ws' : List ℕ) (s s' : Sleepers) (o : List ℤ) (t : ℕ) (ph
     → Agree (queue s) (place_of s) → process_word t 5 < length ws
     → ExitStep (length ws) t phase (shared_view ws s) woken (shared_view ws' s') next
     → TakesFront s s' (wake_word t phase (word_of ws)) woken → length ws' ≡ length ws
-    → leave t phase (common_of ws s o) ≡ left ws' s' o phase next (value_of t phase ws woken) woken
-left_is ws ws' s s' o t (Entry e seen) next woken ok block (inl r) takes long =
-    at_entry ws ws' s s' o t e.0 seen next woken ok r.1 takes long r.0 r.2
-left_is ws ws' s s' o t (Entry e seen) next woken ok block (inr r) takes long =
+    → thread_count s' ≡ thread_count s → leave t phase (common_of ws s o) ≡ left ws' s' o phase next (value_of t phase ws woken) woken
+left_is ws ws' s s' o t (Entry e seen) next woken ok block (inl r) takes long most =
+    at_entry ws ws' s s' o t e.0 seen next woken ok r.1 takes long most r.0 r.2
+left_is ws ws' s s' o t (Entry e seen) next woken ok block (inr r) takes long most =
     cond-true _ _ _ (ap not (false_from_ne_true _ (λ h. r.0 (entry_so (common_of ws s o) e.0 h))))
     ∙ (λ i. record {
-      common = sym (idle_is ws ws' s s' o (e.0 + 1) woken r.1 takes long) i;
+      common = sym (idle_is ws ws' s s' o (e.0 + 1) woken r.1 takes long most) i;
       next =
           sym r.2 i;
       event = event_of name.Entry e.0 (sym r.1.nobody i) [];
     })
-left_is ws ws' s s' o t Pending next woken ok block r takes long =
-    at_pending ws ws' s s' o t (word_of ws (process_word t 1)) woken ok r.0 takes long
+left_is ws ws' s s' o t Pending next woken ok block r takes long most =
+    at_pending ws ws' s s' o t (word_of ws (process_word t 1)) woken ok r.0 takes long most
     ∙ (λ i. left ws' s' o Pending (sym r.1 i) (word_of ws (process_word t 1)) woken)
-left_is ws ws' s s' o t ClearId next woken ok block r takes long =
+left_is ws ws' s s' o t ClearId next woken ok block r takes long most =
     let words : ws' ≡ slice_set ws (process_word t 2) 0 =
     set_is ws ws' (process_word t 2) 0 long (omega (arith, block)) (ap (λ (x : Shared). x.word) r.1) in
     let queues : queue s' ≡ queue s = stays_list s s' (process_word t 2) woken takes r.0 in
     let places : place_of s' ≡ place_of s = ap (λ (x : Shared). x.asleep) r.1 in
     λ i. record {
-      common = record { most = most_threads; words = sym words i; queue = sym queues i; asleep = sym places i; output = o };
+      common = record { most = sym most i; words = sym words i; queue = sym queues i; asleep = sym places i; output = o };
       next = sym r.2 i;
       event = event_of name.Clear 0 (sym r.0 i) [];
     }
-left_is ws ws' s s' o t LastWake next woken ok block r takes long =
-    let m = one_woken ws ws' s s' o (process_word t 2) woken ok r.0 takes long in
+left_is ws ws' s s' o t LastWake next woken ok block r takes long most =
+    let m = one_woken ws ws' s s' o (process_word t 2) woken ok r.0 takes long most in
     λ i. record {
       common = m.common i;
       next = sym r.1 i;
       event =
           event_of name.Last (length (m.woke i)) (m.woke i) [];
     }
-left_is ws ws' s s' o t Ended next woken ok block r takes long = absurd r
+left_is ws ws' s s' o t Ended next woken ok block r takes long most = absurd r
 
 -- those woken are threads
 pub left_threads : (s s' : Sleepers) (a : ℕ) (woken : List ℕ) → Agree (queue s) (place_of s)

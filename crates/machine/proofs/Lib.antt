@@ -7,7 +7,8 @@ pub mod Forks
 pub mod Leaving
 pub mod Stepping
 pub mod Refusing
-pub mod Bits
+pub mod Sets
+pub mod Leasts
 pub mod Words
 pub mod Queues
 pub mod Determines

@@ -9,9 +9,7 @@ use Rattle.futexcalls.specs.declared.pieces.FutexCall.{FutexCall}
 use Rattle.futexcalls.specs.declared.pieces.FutexCall.TheVariants.{Wait, Wake, Requeue}
 use Rattle.futexcalls.specs.declared.pieces.FutexPhase.{FutexPhase}
 use Rattle.futexcalls.specs.declared.pieces.FutexPhase.TheVariants.{First, Second, Compare, Act}
-use Rattle.futexcalls.specs.declared.progress.FutexAnswer.TheVariants.{Again, Acted}
-use Rattle.futexcalls.specs.declared.progress.FutexProgress.{FutexProgress}
-use Rattle.futexcalls.specs.declared.progress.FutexProgress.TheVariants.{Next, Blocked, Done}
+use Rattle.futexcalls.specs.Progress.{Again, Acted, PieceProgress, Next, Blocked, Done}
 use Rattle.futexcalls.specs.Pieces.{takes_at, after_lock}
 use Rattle.futexcalls.specs.PieceResults.{PieceSo, TakesSo, ComparesSo, ActSo, answer_of}
 use Rattle.machine.specs.ConcretePieces.{QueuesSo, call_name, woken_in, moved_in}
@@ -22,7 +20,7 @@ use Rattle.machine.specs.Views.{View}
 use Rattle.machine.proofs.CallPieces.{Told, next_told, blocked_told, done_told}
 
 -- the same of what comes of the piece
-abbrev OrderBy : Sleepers → ℕ → FutexCall → FutexPhase → FutexProgress → Sleepers → Type 0
+abbrev OrderBy : Sleepers → ℕ → FutexCall → FutexPhase → PieceProgress → Sleepers → Type 0
 OrderBy s t call phase (Next next) s' = (next ≢ First) × (queue s' ≡ queue s)
 OrderBy s t call phase Blocked s' = queue s' ≡ queue s
 OrderBy s t call phase (Done answer) s' =
@@ -39,21 +37,21 @@ goes_on n (Requeue a b wakes moves expected) = (by_test (a.0 % n == b.0 % n), λ
     by_test true e = cc
     by_test false e = cc
 
-takes_order : (s s' : Sleepers) (t : ℕ) (call : FutexCall) (phase next : FutexPhase) (o : Option ℕ) (progress : FutexProgress)
+takes_order : (s s' : Sleepers) (t : ℕ) (call : FutexCall) (phase next : FutexPhase) (o : Option ℕ) (progress : PieceProgress)
     → next ≢ First → TakesSo t o next s progress s' → OrderBy s t call phase progress s'
 takes_order s s' t call phase next None progress later h = absurd h
 takes_order s s' t call phase next (Some b) (Next n) later h = (λ e. later (sym h.0 ∙ e), h.2.queues)
 takes_order s s' t call phase next (Some b) Blocked later h = ap queue h.2
 takes_order s s' t call phase next (Some b) (Done answer) later h = absurd h
 
-compares_order : (s s' : Sleepers) (t : ℕ) (word : ℕ → ℕ) (call : FutexCall) (a expected : ℕ) (progress : FutexProgress)
+compares_order : (s s' : Sleepers) (t : ℕ) (word : ℕ → ℕ) (call : FutexCall) (a expected : ℕ) (progress : PieceProgress)
     → ComparesSo word call a expected s progress s' → OrderBy s t call Compare progress s'
 compares_order s s' t word call a expected (Next n) h = (λ e. let no : Act ≡ First = sym h.1 ∙ e in cc, ap queue h.2)
 compares_order s s' t word call a expected (Done Again) h = (h.1.queues, refl)
 compares_order s s' t word call a expected (Done (Acted r)) h = absurd h
 compares_order s s' t word call a expected Blocked h = absurd h
 
-acts_order : (s s' : Sleepers) (t : ℕ) (call : FutexCall) (progress : FutexProgress) → ActSo t call s progress s'
+acts_order : (s s' : Sleepers) (t : ℕ) (call : FutexCall) (progress : PieceProgress) → ActSo t call s progress s'
     → OrderBy s t call Act progress s'
 acts_order s s' t call (Next n) h = absurd h
 acts_order s s' t call Blocked h = absurd h
@@ -63,7 +61,7 @@ acts_order s s' t call (Done (Acted r)) h = (
   λ i. event_of (call_name call) (length (h.woken_is i) + length (h.moved_is i)) (h.woken_is i) (h.moved_is i),
 )
 
-piece_order : (s s' : Sleepers) (t : ℕ) (word : ℕ → ℕ) (call : FutexCall) (phase : FutexPhase) (progress : FutexProgress)
+piece_order : (s s' : Sleepers) (t : ℕ) (word : ℕ → ℕ) (call : FutexCall) (phase : FutexPhase) (progress : PieceProgress)
     → PieceSo word t call phase s progress s' → OrderBy s t call phase progress s'
 piece_order s s' t word call First progress h =
     takes_order s s' t call First (after_lock (bucket_count s) First call) (takes_at (bucket_count s) First call)
@@ -83,7 +81,7 @@ pub next_order : (v v' : View) (t : ℕ) (call : FutexCall) (phase next : FutexP
     → QueuesSo v.sleepers t call phase (step.Next next) event v'.sleepers
 next_order v v' t call phase next event h =
     piece_order v.sleepers v'.sleepers t (word_of v.words) call phase (Next next)
-    (subst (λ (q : FutexProgress). PieceSo (word_of v.words) t call phase v.sleepers q v'.sleepers)
+    (subst (λ (q : PieceProgress). PieceSo (word_of v.words) t call phase v.sleepers q v'.sleepers)
     (next_told call h.0 next event h.2) h.1)
 
 pub blocked_order : (v v' : View) (t : ℕ) (call : FutexCall) (phase : FutexPhase) (event : Event)
@@ -91,7 +89,7 @@ pub blocked_order : (v v' : View) (t : ℕ) (call : FutexCall) (phase : FutexPha
     → QueuesSo v.sleepers t call phase step.Blocked event v'.sleepers
 blocked_order v v' t call phase event h =
     piece_order v.sleepers v'.sleepers t (word_of v.words) call phase Blocked
-    (subst (λ (q : FutexProgress). PieceSo (word_of v.words) t call phase v.sleepers q v'.sleepers)
+    (subst (λ (q : PieceProgress). PieceSo (word_of v.words) t call phase v.sleepers q v'.sleepers)
     (blocked_told call h.0 event h.2) h.1)
 
 pub done_order : (v v' : View) (t : ℕ) (call : FutexCall) (phase : FutexPhase) (answer : ℕ) (event : Event)
@@ -101,4 +99,4 @@ done_order v v' t call phase answer event h =
     let d = done_told call h.0 answer event h.2 in
     subst (λ (e : Event). QueuesSo v.sleepers t call phase step.Done e v'.sleepers) (sym d.3)
     (piece_order v.sleepers v'.sleepers t (word_of v.words) call phase (Done d.0)
-    (subst (λ (q : FutexProgress). PieceSo (word_of v.words) t call phase v.sleepers q v'.sleepers) d.1 h.1))
+    (subst (λ (q : PieceProgress). PieceSo (word_of v.words) t call phase v.sleepers q v'.sleepers) d.1 h.1))

@@ -4,10 +4,9 @@ use Rattle.std.proofs.Common.{length, get_or, Some, None, Result, Ok, Err, slice
 use Rattle.std.proofs.Common.{refl, sym, ap, ◌∙◌, arith}
 use Rattle.std.specs.Prelude.{OnOk, OnErr}
 use Rattle.std.proofs.Math.Path.{fun_ext}
-use Rattle.words.specs.declared.version.ImageVersion.TheVariants.{One}
 use Rattle.words.specs.Versions.{most_of}
 use Rattle.isa.specs.Programs.{Program, memory_size}
-use Rattle.buckets.specs.Sleepers.{Sleepers, queue, place_of}
+use Rattle.buckets.specs.Sleepers.{Sleepers, queue, place_of, thread_count}
 use Rattle.robustexit.specs.declared.phase.ExitPhase.TheVariants.{Ended}
 use Rattle.locals.specs.Threads.{Thread, Exits, opening_thread}
 use Rattle.locals.specs.Looks.{look}
@@ -58,13 +57,13 @@ kept_after p k k' t (Err f) e concrete done same = rw same concrete
 pub opened : (p : Program) (words : List ℕ) (s : Sleepers) (threads : List Thread)
     → words ≡ slice_set (replicate (memory_size p) 0) 3 1 → ((a : ℕ) → queue s a ≡ [])
     → ((t : ℕ) → place_of s t ≡ None) → threads ≡ opening_thread p.start [] ∷ []
-    → p.version ≡ One → concrete_of words s threads [] ≡ opening_concrete p
-opened p words s threads w q a t v =
+    → thread_count s ≡ most_of p.version → concrete_of words s threads [] ≡ opening_concrete p
+opened p words s threads w q a t m =
     let queues : queue s ≡ (λ b. []) = fun_ext q in
     let places : place_of s ≡ (λ u. None) = fun_ext a in
     λ i. record {
       common = record {
-        most = most_of (sym v i);
+        most = m i;
         words = w i;
         queue = queues i;
         asleep = places i;

@@ -7,10 +7,8 @@ use Rattle.futexcalls.specs.declared.pieces.FutexCall.{FutexCall}
 use Rattle.futexcalls.specs.declared.pieces.FutexCall.TheVariants.{Wait, Wake, Requeue}
 use Rattle.futexcalls.specs.declared.pieces.FutexPhase.{FutexPhase}
 use Rattle.futexcalls.specs.declared.pieces.FutexPhase.TheVariants.{First, Second, Compare, Act}
-use Rattle.futexcalls.specs.declared.progress.FutexAnswer.{FutexAnswer}
-use Rattle.futexcalls.specs.declared.progress.FutexAnswer.TheVariants.{Again, Acted}
-use Rattle.futexcalls.specs.declared.progress.FutexProgress.{FutexProgress}
-use Rattle.futexcalls.specs.declared.progress.FutexProgress.TheVariants as told
+use Rattle.futexcalls.specs.Progress as told
+use Rattle.futexcalls.specs.Progress.{PieceAnswer, Again, Acted, PieceProgress}
 use Rattle.futexcalls.specs.Pieces.{again_of}
 use Rattle.futexcalls.specs.PieceResults.{answer_of, woken_by, moved_by, queue_by}
 use Rattle.robustexit.specs.declared.phase.ExitPhase.{ExitPhase}
@@ -59,16 +57,16 @@ is_piece name.FutexCompare = true
 is_piece _ = false
 
 -- whom an answered call woke, and whom it moved
-abbrev pub woken_in : FutexAnswer → List ℕ
+abbrev pub woken_in : PieceAnswer → List ℕ
 woken_in Again = []
 woken_in (Acted r) = r.woken
 
-abbrev pub moved_in : FutexAnswer → List ℕ
+abbrev pub moved_in : PieceAnswer → List ℕ
 moved_in Again = []
 moved_in (Acted r) = r.moved
 
 -- what came of a piece, as those who share the memory are told it, with the event of a call that is over
-abbrev pub Tells : FutexCall → FutexProgress → CallProgress → Event → Type 0
+abbrev pub Tells : FutexCall → PieceProgress → CallProgress → Event → Type 0
 Tells call (told.Next phase) (common.Next phase') event = phase ≡ phase'
 Tells call told.Blocked common.Blocked event = Unit {0}
 Tells call (told.Done answer) (common.Done value) event =

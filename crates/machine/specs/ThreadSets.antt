@@ -1,28 +1,64 @@
--- A set of threads, in a form that takes no memory: a bit for each of the 64 numbers.
-use Rattle.std.specs.Prelude.{ℕ, ◌≡◌, ◌-◌, ◌^◌, ◌≤◌, ◌==◌, Bool, false, List, [], ◌∷◌}
+-- A set of threads, in a form that takes no memory: nobody, one thread, or of two and more a bit for each number, in 16
+-- words of 64 bits. Each set has one form.
+use Rattle.std.specs.Prelude.{ℕ, ◌≡◌, ◌-◌, ◌/◌, ◌%◌, ◌^◌, ◌<◌, ◌≤◌, ◌==◌, if◌then◌else◌, Bool, true, false, ⊤, List}
+use Rattle.std.specs.Prelude.{replicate, slice_index, slice_set, Option, Some, None}
+use Rattle.std.specs.List.{All, fold}
 use Rattle.std.specs.Int.{bit_at}
 use Rattle.std.specs.Int.Bits.{bit_or}
 use Rattle.words.specs.Limits.{most_threads}
 use Rattle.buckets.specs.Places.{names}
 use Rattle.machine.specs.declared.thread_set.ThreadSet.{ThreadSet}
+use Rattle.machine.specs.declared.thread_set.ThreadSet.TheVariants.{Nobody, Single, Several}
 
--- the bits of the threads of a list
-abbrev pub bits_of : List ℕ → ℕ
-bits_of [] = 0
-bits_of (t ∷ ts) = bit_or (2 ^ (t - 1)) (bits_of ts)
+-- the greatest number of a thread that a set can have
+abbrev pub most_members : ℕ
+most_members = 1000
+
+-- the words with the bit of a thread set
+abbrev pub with_bit : List ℕ → ℕ → List ℕ
+with_bit words t =
+    slice_set words ((t - 1) / 64) (bit_or (slice_index words ((t - 1) / 64)) (2 ^ ((t - 1) % 64)))
+
+-- a set, and one thread more
+abbrev pub with_thread : ThreadSet → ℕ → ThreadSet
+with_thread Nobody t = Single t
+with_thread (Single u) t = if t == u then Single u else Several (with_bit (with_bit (replicate 16 0) u) t)
+with_thread (Several words) t = Several (with_bit words t)
 
 -- the set of a list's threads
 abbrev pub set_of : List ℕ → ThreadSet
-set_of threads = record { bits = bits_of threads }
+set_of threads = fold with_thread Nobody threads
 
 -- whether a set has a thread
 abbrev pub has : ThreadSet → ℕ → Bool
-has set t = bit_at set.bits (t - 1) == 1
+has Nobody t = false
+has (Single u) t = t == u
+has (Several words) t = bit_at (slice_index words ((t - 1) / 64)) ((t - 1) % 64) == 1
+
+-- the least number from t on that passes a test, or none
+abbrev pub IsLeastFrom : (ℕ → Bool) → ℕ → Option ℕ → Type 0
+IsLeastFrom test t None = (u : ℕ) → t ≤ u → test u ≡ false
+IsLeastFrom test t (Some u) = (t ≤ u) × (test u ≡ true) × ((v : ℕ) → t ≤ v → v < u → test v ≡ false)
 
 -- the number of a thread
 abbrev pub IsThread : ℕ → Type 0
 IsThread t = (1 ≤ t) × (t ≤ most_threads)
 
+-- a number that a set can have
+abbrev pub IsMember : ℕ → Type 0
+IsMember t = (1 ≤ t) × (t ≤ most_members)
+
+-- a thread that stands alone in its set is one that a set can have
+abbrev pub HasMember : ThreadSet → Type 0
+HasMember Nobody = ⊤
+HasMember (Single t) = IsMember t
+HasMember (Several words) = ⊤
+
 -- the set of a list has the threads of the list and no others
 abbrev pub SetsSo : Type 0
-SetsSo = (threads : List ℕ) (t : ℕ) → names threads 0 ≡ false → 1 ≤ t → has (set_of threads) t ≡ names threads t
+SetsSo = (threads : List ℕ) (t : ℕ) → All IsMember threads → 1 ≤ t → has (set_of threads) t ≡ names threads t
+
+-- two lists of the same threads have one set
+abbrev pub OneForm : Type 0
+OneForm = (xs ys : List ℕ) → All IsMember xs → All IsMember ys → ((t : ℕ) → names xs t ≡ names ys t)
+    → set_of xs ≡ set_of ys

@@ -36,10 +36,16 @@ pub record IsWellFormed (p : Program) (k : ConcreteState) : Type 0 where
   pub agree : Agree k.common.queue k.common.asleep
   pub made : (t a : ℕ) → k.common.asleep t ≡ Some a → (1 ≤ t) × (t ≤ length k.threads)
 
--- what all threads share, of the words, the sleepers and the output: there can be as many as a machine runs
+-- what all threads share, of the words, the sleepers and the output: there can be as many as can sleep
 abbrev pub common_of : List ℕ → Sleepers → List ℤ → Common
 common_of words sleepers output =
-    record { most = most_threads; words = words; queue = queue sleepers; asleep = place_of sleepers; output = output }
+    record {
+      most = thread_count sleepers;
+      words = words;
+      queue = queue sleepers;
+      asleep = place_of sleepers;
+      output = output;
+    }
 
 -- a state of the machine, of its parts
 abbrev pub concrete_of : List ℕ → Sleepers → List Thread → List ℤ → ConcreteState
@@ -60,11 +66,11 @@ common v = common_of v.words v.sleepers v.output
 abbrev pub parts_of : CommonView → List Thread → ConcreteState
 parts_of v threads = record { common = common v; threads = threads }
 
--- what always holds of it: the words of all threads are there, and who sleeps is one of them
+-- what always holds of it: the words of all threads are there, who sleeps is one of them, and a set has room for them
 pub record IsCommon (words : List ℕ) (sleepers : Sleepers) : Type 0 where
-  pub wide : 1 + 6 * most_threads ≤ length words
+  pub wide : 1 + 6 * thread_count sleepers ≤ length words
   pub sound : IsSound sleepers
-  pub places : thread_count sleepers ≡ most_threads
+  pub places : thread_count sleepers ≤ most_threads
 
 -- the program that runs, the parts of its concrete state, and how many numbers can be printed without taking memory
 pub record View : Type 0 where

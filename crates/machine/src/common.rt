@@ -1,19 +1,21 @@
 ghost use Rattle.std.specs.Prelude.{◌≡◌, ◌-◌, ◌≤◌, ◌<◌, ℕ, [], None, IfOk, OnOk, OnErr, length, replicate};
 ghost use Rattle.std.specs.Prelude.{slice_get, slice_set, Some};
 ghost use Rattle.words.specs.Limits.{most_threads};
+ghost use Rattle.words.specs.Versions.{most_of};
 ghost use Rattle.words.specs.Updates.{put};
 ghost use Rattle.isa.specs.Programs.{memory_size};
 ghost use Rattle.buckets.specs.BucketCount.{IsBucketCount};
-ghost use Rattle.buckets.specs.Sleepers.{queue, place_of, bucket_count, holder_of};
+ghost use Rattle.buckets.specs.Sleepers.{queue, place_of, thread_count, bucket_count, holder_of};
 ghost use Rattle.machine.specs.Views.{address_of, common};
 ghost use Rattle.machine.specs.ConcreteOutside.{drop_sleeper};
 
-use crate::parts::opening_words;
+use crate::parts::{opening_words, thread_limit};
 use buckets::Buckets;
+use futexcalls::FutexLists;
 use isa::Image;
 use std::alloc::{AllocError, Global};
 use std::marker::Model;
-use words::{Addr, MOST_THREADS, Mem};
+use words::{Addr, Mem};
 
 /// What threads share: the words, who sleeps on which address, and the numbers that were printed. Contracts see a
 /// `CommonView`. Its methods are what a thread asks of it: accesses, ends, futex calls and exits.
@@ -22,6 +24,8 @@ pub struct Common {
     pub(crate) words: Mem,
     pub(crate) buckets: Buckets,
     pub(crate) output: Vec<i32>,
+    // Where calls write whom they woke and moved. No call reads what an earlier one wrote.
+    pub(crate) lists: FutexLists,
 }
 
 impl Model for Common {
@@ -41,21 +45,24 @@ impl Model for Common {
 }
 
 impl Common {
-    /// What is shared at the start of an image, over so many buckets of sleepers.
+    /// What is shared at the start of an image, by as many threads as its version says, over so many buckets of sleepers.
     pub fn new(alloc: Global, image: &Image, buckets: u32) -> Result<Common, AllocError>
         requires { IsBucketCount buckets }
         ensures words { IfOk result (λ c. c.words
             ≡ slice_set (replicate (memory_size image.now) 0) 3 1) }
         ensures empty { IfOk result (λ c. (a : ℕ) → queue c.sleepers a ≡ []) }
         ensures awake { IfOk result (λ c. (t : ℕ) → place_of c.sleepers t ≡ None) }
+        ensures threads { IfOk result (λ c. thread_count c.sleepers ≡ most_of image.now.version) }
+        ensures few { IfOk result (λ c. thread_count c.sleepers ≤ most_threads) }
         ensures output { IfOk result (λ c. c.output ≡ []) }
         ensures buckets { IfOk result (λ c. bucket_count c.sleepers ≡ buckets) }
         ensures free { IfOk result (λ c. (k : ℕ) → holder_of c.sleepers k ≡ None) }
     {
         Ok(Common {
             words: opening_words(alloc, image)?,
-            buckets: Buckets::new(alloc, buckets, MOST_THREADS)?,
+            buckets: Buckets::new(alloc, buckets, thread_limit(image))?,
             output: Vec::new(alloc),
+            lists: FutexLists::new(alloc)?,
         })
     }
 
@@ -92,9 +99,16 @@ impl Common {
         self.words.load(a)
     }
 
+    /// How many threads there can be.
+    pub fn threads(&self) -> u32
+        ensures { result ≡ thread_count self.now.sleepers }
+    {
+        self.buckets.threads()
+    }
+
     /// Where thread `t` sleeps, if it does.
     pub fn asleep(&self, t: u32) -> Option<Addr>
-        requires { (0 < t) × (t ≤ most_threads) }
+        requires { (0 < t) × (t ≤ thread_count self.now.sleepers) }
         ensures { address_of result ≡ place_of self.now.sleepers t }
     {
         self.buckets.asleep(t)
@@ -102,7 +116,7 @@ impl Common {
 
     /// Takes thread `t` out of its list, if it sleeps: it is awake then.
     pub fn drop_sleeper(&mut self, t: u32)
-        requires { t ≤ most_threads }
+        requires { t ≤ thread_count self.old.sleepers }
         ensures dropped { common self.new ≡ drop_sleeper (common self.old) t }
         ensures capacity { self.new.capacity ≡ self.old.capacity }
         ensures holders { self.new.sleepers.holders ≡ self.old.sleepers.holders }

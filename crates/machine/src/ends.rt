@@ -1,8 +1,8 @@
 //! The beginnings and ends of threads, and what they print.
-ghost use Rattle.std.specs.Prelude.{◌≡◌, ◌<◌, ℕ, Ok, length};
+ghost use Rattle.std.specs.Prelude.{◌≡◌, ◌<◌, ◌≤◌, ℕ, Ok, length};
 ghost use Rattle.words.specs.Process.{process_word};
+ghost use Rattle.buckets.specs.Sleepers.{thread_count};
 ghost use Rattle.locals.specs.Looks.{AskPrint, AskReturn, AskReturnValue, AskFault};
-ghost use Rattle.machine.specs.ThreadSets.{IsThread};
 ghost use Rattle.machine.specs.ConcreteServing.{serve, set_word};
 ghost use Rattle.machine.specs.RequestMeanings.{with_common};
 ghost use Rattle.machine.specs.Views.{common};
@@ -28,7 +28,7 @@ impl Common {
 
     /// Thread `t` ends by the return of its last frame. The answer is the first entry of its robust list.
     pub fn end(&mut self, t: u32, event: &mut Event) -> u32
-        requires { IsThread t }
+        requires { (1 ≤ t) × (t ≤ thread_count self.old.sleepers) }
         ensures gives { (made : ℕ)
             → serve made t AskReturn (common self.old) ≡ with_common (Ok result) event.new (common self.new) }
         ensures capacity { self.new.capacity ≡ self.old.capacity }
@@ -42,7 +42,7 @@ impl Common {
 
     /// Thread `t` ends by the return of its last frame with a value. The answer is the first entry of its robust list.
     pub fn end_with(&mut self, t: u32, value: u32, event: &mut Event) -> u32
-        requires { IsThread t }
+        requires { (1 ≤ t) × (t ≤ thread_count self.old.sleepers) }
         ensures gives { (made : ℕ)
             → serve made t (AskReturnValue value) (common self.old)
             ≡ with_common (Ok result) event.new (common self.new) }
@@ -58,7 +58,7 @@ impl Common {
 
     /// Thread `t` dies of this cause. The answer is the first entry of its robust list.
     pub fn die(&mut self, t: u32, cause: Cause, event: &mut Event) -> u32
-        requires { IsThread t }
+        requires { (1 ≤ t) × (t ≤ thread_count self.old.sleepers) }
         ensures gives { (made : ℕ)
             → serve made t (AskFault cause) (common self.old)
             ≡ with_common (Ok result) event.new (common self.new) }
@@ -74,7 +74,7 @@ impl Common {
 
     /// Thread `t` begins: its id word is its number.
     pub fn open_thread(&mut self, t: u32)
-        requires { IsThread t }
+        requires { (1 ≤ t) × (t ≤ thread_count self.old.sleepers) }
         ensures gives { common self.new ≡ set_word (common self.old) (process_word t 2) t }
         ensures capacity { self.new.capacity ≡ self.old.capacity }
         ensures holders { self.new.sleepers.holders ≡ self.old.sleepers.holders }

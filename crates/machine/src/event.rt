@@ -84,6 +84,7 @@ impl Event {
     }
 
     /// An event that wakes and moves these threads.
+    #[tactic(auto, using(crate::proofs::Sets::threads_members))]
     pub fn with_threads(name: EventName, value: u32, woken: &[u32], moved: &[u32]) -> Event
         requires woken { All IsThread woken.now }
         requires moved { All IsThread moved.now }
@@ -103,11 +104,12 @@ impl Event {
     {
         self.name = name;
         self.value = value;
-        self.woken = ThreadSet::new();
-        self.moved = ThreadSet::new();
+        self.woken.clear();
+        self.moved.clear();
     }
 
     /// Becomes an event that wakes and moves these threads.
+    #[tactic(auto, using(crate::proofs::Sets::threads_members))]
     pub fn put_with(&mut self, name: EventName, value: u32, woken: &[u32], moved: &[u32])
         requires woken { All IsThread woken.now }
         requires moved { All IsThread moved.now }
@@ -115,8 +117,8 @@ impl Event {
     {
         self.name = name;
         self.value = value;
-        self.woken = ThreadSet::of(woken);
-        self.moved = ThreadSet::of(moved);
+        self.woken.put(woken);
+        self.moved.put(moved);
     }
 }
 

@@ -1,6 +1,7 @@
 //! The exits of threads.
-ghost use Rattle.std.specs.Prelude.{◌≡◌, ◌≢◌, ◌+◌, ◌*◌, ◌≤◌, length, MatchBool};
-ghost use Rattle.words.specs.Limits.{most_threads};
+ghost use Rattle.std.specs.Prelude.{◌≡◌, ◌≢◌, ◌<◌, ◌≤◌, length, MatchBool};
+ghost use Rattle.words.specs.Process.{process_word};
+ghost use Rattle.buckets.specs.Sleepers.{thread_count};
 ghost use Rattle.machine.specs.ThreadSets.{IsThread};
 ghost use Rattle.machine.specs.ConcreteExits.{leave};
 ghost use Rattle.machine.specs.RequestMeanings.{value_at, name_at};
@@ -15,7 +16,7 @@ use words::{Mem, ProcessWord, block};
 // The address that an event of this phase names, or 0.
 fn address_at(words: &Mem, t: u32, phase: ExitPhase) -> u32
     requires thread { IsThread t }
-    requires words { 1 + 6 * most_threads ≤ length words.now }
+    requires block { process_word t 5 < length words.now }
     ensures { result ≡ value_at t phase words.now }
 {
     match phase {
@@ -40,7 +41,7 @@ fn name_of(phase: ExitPhase) -> EventName
 impl Common {
     /// Takes a step of the exit of thread `t`, which isn't over, and answers the phase after it.
     pub fn leave(&mut self, t: u32, phase: ExitPhase, event: &mut Event) -> ExitPhase
-        requires thread { IsThread t }
+        requires thread { (1 ≤ t) × (t ≤ thread_count self.old.sleepers) }
         requires running { phase ≢ ExitPhase.Ended }
         ensures gives { leave t phase (common self.old)
             ≡ record { common = common self.new; next = result; event = event.new } }
@@ -48,18 +49,25 @@ impl Common {
         ensures holders { self.new.sleepers.holders ≡ self.old.sleepers.holders }
     {
         let address = address_at(&self.words, t, phase);
-        let (next, woken) = exit_step(&mut self.words, &mut self.buckets, t, phase);
+        let next = exit_step(
+            &mut self.words,
+            &mut self.buckets,
+            t,
+            phase,
+            &mut self.lists.woken,
+        );
+        let woken = self.lists.woken.as_slice();
         let value = match phase {
-            ExitPhase::LastWake => woken.count(),
+            ExitPhase::LastWake => woken.len() as u32,
             _ => address,
         };
-        event.put_with(name_of(phase), value, woken.threads.as_slice(), &[]);
+        event.put_with(name_of(phase), value, woken, &[]);
         next
     }
 
     /// Whether a thread holds the bucket of the word on which the step of thread `t`'s exit in this phase would wake.
     pub fn is_held_up(&self, t: u32, phase: ExitPhase) -> bool
-        requires thread { IsThread t }
+        requires thread { (1 ≤ t) × (t ≤ thread_count self.now.sleepers) }
         ensures { MatchBool result (IsHeldUp self.now.words self.now.sleepers t phase)
             (IsHeldUp self.now.words self.now.sleepers t phase → ⊥) }
     {

@@ -1,8 +1,7 @@
 //! The futex calls of threads.
-ghost use Rattle.std.specs.Prelude.{◌≡◌, ℕ, None, OnErr};
-ghost use Rattle.buckets.specs.Sleepers.{place_of};
+ghost use Rattle.std.specs.Prelude.{◌≡◌, ◌≤◌, ℕ, None, OnErr};
+ghost use Rattle.buckets.specs.Sleepers.{place_of, thread_count};
 ghost use Rattle.locals.specs.Looks.{AskWait, AskWake, AskRequeue};
-ghost use Rattle.machine.specs.ThreadSets.{IsThread};
 ghost use Rattle.machine.specs.ConcreteServing.{serve};
 ghost use Rattle.machine.specs.RequestMeanings.{with_common};
 ghost use Rattle.machine.specs.Views.{common};
@@ -24,7 +23,7 @@ impl Common {
         expected: u32,
         event: &mut Event,
     ) -> Result<u32, StepFault>
-        requires thread { IsThread t }
+        requires thread { (1 ≤ t) × (t ≤ thread_count self.old.sleepers) }
         requires awake { place_of self.old.sleepers t ≡ None }
         ensures gives { (made : ℕ)
             → serve made t (AskWait a.0 expected) (common self.old)
@@ -52,9 +51,10 @@ impl Common {
         ensures same { OnErr result (self.new ≡ self.old) }
     {
         check_address(&self.words, a)?;
-        let woken = wake(&mut self.buckets, a, n);
-        let count = woken.count();
-        event.put_with(EventName::Wake, count, woken.threads.as_slice(), &[]);
+        wake(&mut self.buckets, a, n, &mut self.lists.woken);
+        let woken = self.lists.woken.as_slice();
+        let count = woken.len() as u32;
+        event.put_with(EventName::Wake, count, woken, &[]);
         Ok(count)
     }
 
@@ -78,13 +78,18 @@ impl Common {
     {
         check_address(&self.words, a)?;
         check_address(&self.words, b)?;
-        let Ok(requeued) = cmp_requeue(&self.words, &mut self.buckets, a, b, wake, moves, expected)
-        else {
+        let Common {
+            words,
+            buckets,
+            lists,
+            ..
+        } = self;
+        let Ok(()) = cmp_requeue(words, buckets, a, b, wake, moves, expected, lists) else {
             event.put(EventName::Requeue, AGAIN);
             return Ok(AGAIN);
         };
-        let count = requeued.count();
-        let (woken, moved) = (requeued.woken.as_slice(), requeued.moved.as_slice());
+        let count = lists.count();
+        let (woken, moved) = (lists.woken.as_slice(), lists.moved.as_slice());
         event.put_with(EventName::Requeue, count, woken, moved);
         Ok(count)
     }

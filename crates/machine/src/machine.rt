@@ -46,7 +46,7 @@ pub struct Machine {
 
 impl Model for Machine {
     ghost use Rattle.std.specs.Prelude.{◌≤◌, ◌-◌, length, vec_capacity};
-    ghost use Rattle.words.specs.Limits.{most_threads};
+    ghost use Rattle.words.specs.Versions.{most_of};
     ghost use Rattle.machine.specs.Views.{View, IsWellFormed, parts_of};
 
     ghost Value = { View };
@@ -61,7 +61,7 @@ impl Model for Machine {
     } };
 
     ghost invariant = { λ m. IsWellFormed m.image (parts_of m.common m.threads.items)
-        × (most_threads ≤ vec_capacity m.threads) };
+        × (most_of m.image.version ≤ vec_capacity m.threads) };
 }
 
 impl Machine {

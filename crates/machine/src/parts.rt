@@ -1,12 +1,12 @@
 ghost use Rattle.std.specs.Prelude.{◌≡◌, ◌^◌, sum, ◌≤◌, ◌<◌, Some, None, Ok, Err, IfOk, IfErr, OnOk, OnErr, [], ◌∷◌};
 ghost use Rattle.std.specs.Prelude.{length, replicate, slice_index, slice_set, vec_len, vec_capacity};
-ghost use Rattle.words.specs.declared.version.ImageVersion.TheVariants.{One};
 ghost use Rattle.words.specs.Limits.{most_threads};
+ghost use Rattle.words.specs.Versions.{most_of};
 ghost use Rattle.isa.specs.Programs.{memory_size};
 ghost use Rattle.locals.specs.Threads.{Thread, opening_thread};
 ghost use Rattle.locals.specs.Looks.{look};
 ghost use Rattle.locals.specs.Requests.{next_step_of};
-ghost use Rattle.buckets.specs.Sleepers.{place_of};
+ghost use Rattle.buckets.specs.Sleepers.{place_of, thread_count};
 ghost use Rattle.machine.specs.States.{thread_at};
 ghost use Rattle.machine.specs.ConcreteSteps.{step_of};
 ghost use Rattle.machine.specs.RequestMeanings.{AsksFork};
@@ -18,7 +18,7 @@ use crate::thread_step::{take_exit, take_fork, take_local, take_request};
 use isa::Image;
 use locals::{Local, NextStep, opening_local};
 use std::alloc::{AllocError, Global};
-use words::{Addr, MOST_THREADS, Mem, ProcessWord, block};
+use words::{Addr, Mem, ProcessWord, block};
 
 fn total(numbers: &[u32]) -> u32
     requires { sum numbers.now < 2 ^ 32 }
@@ -35,6 +35,14 @@ pub fn memory_len(image: &Image) -> usize
     base + 2 * image.monitors().len() + total(image.monitors()) as usize
 }
 
+/// How many threads of an image there can be. A machine can run so many, since each image is of the first version.
+pub fn thread_limit(image: &Image) -> u32
+    ensures value { result ≡ most_of image.now.version }
+    ensures fits { result ≤ most_threads }
+{
+    image.version().most_processes()
+}
+
 /// The words at the start of an image: all 0, but for the id word of the first process, which is its number.
 pub fn opening_words(alloc: Global, image: &Image) -> Result<Mem, AllocError>
     ensures { IfOk result (λ words. words ≡ slice_set (replicate (memory_size image.now) 0) 3 1) }
@@ -48,11 +56,10 @@ pub fn opening_words(alloc: Global, image: &Image) -> Result<Mem, AllocError>
 pub fn opening_threads(alloc: Global, image: &Image) -> Result<Vec<Local>, AllocError>
     ensures threads { IfOk result (λ threads. threads.items
         ≡ opening_thread image.now.start [] ∷ []) }
-    ensures space { IfOk result (λ threads. most_threads ≤ vec_capacity threads) }
-    ensures first { image.now.version ≡ One }
+    ensures space { IfOk result (λ threads. most_of image.now.version ≤ vec_capacity threads) }
 {
     let start = image.start();
-    let mut threads = Vec::with_capacity(alloc, MOST_THREADS as usize)?;
+    let mut threads = Vec::with_capacity(alloc, thread_limit(image) as usize)?;
     threads.push_reserved(opening_local(start, &[]));
     Ok(threads)
 }
@@ -80,11 +87,12 @@ pub fn step_parts(
 ) -> Result<(), StepFault>
     requires room { length shared.old.output < shared.old.capacity }
     requires thread { (0 < t) × (t ≤ vec_len threads.old) }
-    requires few { vec_len threads.old ≤ most_threads }
+    requires few { vec_len threads.old ≤ thread_count shared.old.sleepers }
+    requires fits { thread_count shared.old.sleepers ≤ most_threads }
     requires awake { place_of shared.old.sleepers t ≡ None }
     requires next { (x : Thread) → thread_at threads.old.items t ≡ Some x
         → next ≡ next_step_of (look image.now t x) }
-    requires space { most_threads ≤ vec_capacity threads.old }
+    requires space { thread_count shared.old.sleepers ≤ vec_capacity threads.old }
     ensures done { OnOk result (step_of image.now (parts_of shared.old threads.old.items) t
         ≡ Ok (parts_of shared.new threads.new.items, event.new)) }
     ensures err { IfErr result (λ f. step_of image.now (parts_of shared.old threads.old.items) t
@@ -136,11 +144,12 @@ fn fork_parts(
     event: &mut Event,
 ) -> Result<(), StepFault>
     requires thread { (0 < t) × (t ≤ vec_len threads.old) }
-    requires few { vec_len threads.old ≤ most_threads }
+    requires few { vec_len threads.old ≤ thread_count shared.old.sleepers }
+    requires fits { thread_count shared.old.sleepers ≤ most_threads }
     requires awake { place_of shared.old.sleepers t ≡ None }
     requires asks { (x : Thread) → thread_at threads.old.items t ≡ Some x
         → AsksFork (look image.now t x) has_room }
-    requires space { most_threads ≤ vec_capacity threads.old }
+    requires space { thread_count shared.old.sleepers ≤ vec_capacity threads.old }
     ensures done { OnOk result (step_of image.now (parts_of shared.old threads.old.items) t
         ≡ Ok (parts_of shared.new threads.new.items, event.new)) }
     ensures err { IfErr result (λ f. step_of image.now (parts_of shared.old threads.old.items) t

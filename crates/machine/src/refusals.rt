@@ -9,7 +9,7 @@ ghost use Rattle.machine.specs.Views.{common};
 use crate::common::Common;
 use crate::event::StepFault;
 use locals::{NextStep, Request};
-use words::{Addr, MOST_THREADS};
+use words::Addr;
 
 impl Common {
     // Whether an address lies in the memory.
@@ -73,7 +73,7 @@ impl Common {
                 count: _,
                 has_room,
             } => {
-                if has_room || made == MOST_THREADS {
+                if has_room || made == self.threads() {
                     None
                 } else {
                     Some(StepFault::Broken)

@@ -1,6 +1,5 @@
-ghost use Rattle.std.specs.Prelude.{◌≡◌, ◌<◌, ℕ, None, OnErr, length};
-ghost use Rattle.buckets.specs.Sleepers.{place_of};
-ghost use Rattle.machine.specs.ThreadSets.{IsThread};
+ghost use Rattle.std.specs.Prelude.{◌≡◌, ◌<◌, ◌≤◌, ℕ, None, OnErr, length};
+ghost use Rattle.buckets.specs.Sleepers.{place_of, thread_count};
 ghost use Rattle.machine.specs.ConcreteServing.{serve};
 ghost use Rattle.machine.specs.RequestMeanings.{asked_of, with_common};
 ghost use Rattle.machine.specs.Views.{common};
@@ -13,7 +12,7 @@ impl Common {
     /// Serves a request of thread `t`, which is awake, and answers what the thread is answered.
     pub fn serve(&mut self, t: u32, request: Request, event: &mut Event) -> Result<u32, StepFault>
         requires room { length self.old.output < self.old.capacity }
-        requires thread { IsThread t }
+        requires thread { (1 ≤ t) × (t ≤ thread_count self.old.sleepers) }
         requires awake { place_of self.old.sleepers t ≡ None }
         ensures gives { (made : ℕ)
             → serve made t (asked_of request) (common self.old)

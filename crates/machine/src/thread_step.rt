@@ -1,10 +1,8 @@
 ghost use Rattle.std.specs.Prelude.{◌≡◌, ◌≤◌, ◌<◌, ℕ, None, Ok, Err, IfOk, IfErr, OnOk, OnErr, IsSome, length};
-ghost use Rattle.words.specs.Limits.{most_threads};
-ghost use Rattle.buckets.specs.Sleepers.{place_of};
+ghost use Rattle.buckets.specs.Sleepers.{place_of, thread_count};
 ghost use Rattle.locals.specs.Looks.{look};
 ghost use Rattle.locals.specs.Requests.{next_step_of};
 ghost use Rattle.locals.specs.declared.request.NextStep.TheVariants as next;
-ghost use Rattle.machine.specs.ThreadSets.{IsThread};
 ghost use Rattle.machine.specs.ConcreteSteps.{thread_step};
 ghost use Rattle.machine.specs.RequestMeanings.{AsksFork};
 ghost use Rattle.machine.specs.States.{Common as CommonOf};
@@ -15,7 +13,6 @@ use crate::event::{Event, EventName, StepFault};
 use isa::Image;
 use locals::{Local, Request};
 use robustexit::ExitPhase;
-use words::MOST_THREADS;
 
 /// A local step of thread `t`.
 pub fn take_local(image: &Image, t: u32, local: &mut Local, event: &mut Event)
@@ -36,7 +33,7 @@ pub fn take_exit(
     phase: ExitPhase,
     event: &mut Event,
 )
-    requires thread { IsThread t }
+    requires thread { (1 ≤ t) × (t ≤ thread_count shared.old.sleepers) }
     requires asks { next_step_of (look image.now t local.old) ≡ next.Exit phase }
     ensures done { (made : ℕ) → thread_step made t (common shared.old) (look image.now t local.old)
         ≡ Ok (record { common = common shared.new; thread = local.new; child = None; event = event.new }) }
@@ -57,7 +54,7 @@ pub fn take_request(
     event: &mut Event,
 ) -> Result<(), StepFault>
     requires room { length shared.old.output < shared.old.capacity }
-    requires thread { IsThread t }
+    requires thread { (1 ≤ t) × (t ≤ thread_count shared.old.sleepers) }
     requires awake { place_of shared.old.sleepers t ≡ None }
     requires asks { next_step_of (look image.now t local.old) ≡ next.Shared request }
     ensures done { OnOk result ((made : ℕ)
@@ -85,19 +82,19 @@ pub fn take_fork(
     has_room: bool,
     event: &mut Event,
 ) -> Result<Option<Local>, StepFault>
-    requires few { made ≤ most_threads }
+    requires few { made ≤ thread_count shared.old.sleepers }
     requires asks { AsksFork (look image.now t local.old) has_room }
     ensures done { IfOk result
         (λ child. thread_step made t (common shared.old) (look image.now t local.old)
         ≡ Ok (record { common = common shared.new; thread = local.new; child = child; event = event.new })) }
     ensures err { IfErr result
         (λ f. thread_step made t (common shared.old) (look image.now t local.old) ≡ Err f) }
-    ensures child { IfOk result (λ child. IsSome child → made < most_threads) }
+    ensures child { IfOk result (λ child. IsSome child → made < thread_count shared.old.sleepers) }
     ensures same { OnErr result ((local.new ≡ local.old) × (shared.new ≡ shared.old)) }
     ensures capacity { shared.new.capacity ≡ shared.old.capacity }
     ensures holders { shared.new.sleepers.holders ≡ shared.old.sleepers.holders }
 {
-    if made == MOST_THREADS {
+    if made == shared.threads() {
         local.go_on(image, t, 0);
         event.put(EventName::Fork, 0);
         return Ok(None);

@@ -6,8 +6,8 @@ ghost use Rattle.futexcalls.specs.FutexCalls.{Wakes};
 ghost use Rattle.futexcalls.specs.Answers.{word_of};
 ghost use Rattle.robustexit.specs.RobustExit.{IsEntry};
 
-use buckets::Buckets;
-use futexcalls::{Woken, wake};
+use buckets::{Buckets, ThreadList};
+use futexcalls::wake;
 use words::{Addr, Mem, OWNER_DIED, WAITERS, has_waiters};
 
 const DIED_WITH_WAITERS: u32 = OWNER_DIED | WAITERS;
@@ -36,15 +36,16 @@ fn died_word(waiters: bool) -> u32
     }
 }
 
-/// Marks a lock as one whose owner died, and wakes one sleeper on it where it says that there may be some.
-pub fn abandon(mem: &mut Mem, buckets: &mut Buckets, lock: Addr) -> Woken
+/// Marks a lock as one whose owner died, and wakes one sleeper on it where it says that there may be some. Who was woken
+/// is written into `woken`.
+pub fn abandon(mem: &mut Mem, buckets: &mut Buckets, lock: Addr, woken: &mut ThreadList)
     requires { lock.0 < length mem.old }
     ensures marks { mem.new ≡ slice_set mem.old lock.0
         (lock_word 0 true (waiters_of (word_of mem.old lock.0))) }
     ensures wakes { Wakes (place_of buckets.old) lock.0
         (if waiters_of (word_of mem.old lock.0) then 1 else 0)
-        result.threads (place_of buckets.new) }
-    ensures woken { result.threads
+        woken.new (place_of buckets.new) }
+    ensures woken { woken.new
         ≡ take (if waiters_of (word_of mem.old lock.0) then 1 else 0) (queue buckets.old lock.0) }
     ensures rest { queue buckets.new lock.0
         ≡ drop (if waiters_of (word_of mem.old lock.0) then 1 else 0) (queue buckets.old lock.0) }
@@ -55,5 +56,5 @@ pub fn abandon(mem: &mut Mem, buckets: &mut Buckets, lock: Addr) -> Woken
 {
     let waiters = has_waiters(mem.load(lock));
     mem.store(lock, died_word(waiters));
-    wake(buckets, lock, u32::from(waiters))
+    wake(buckets, lock, u32::from(waiters), woken);
 }

@@ -1,4 +1,4 @@
-ghost use Rattle.std.specs.Prelude.{◌≡◌, ◌≢◌, ◌+◌, ◌<◌, ◌≤◌, ◌⊎◌, [], length};
+ghost use Rattle.std.specs.Prelude.{◌≡◌, ◌≢◌, ◌+◌, ◌<◌, ◌≤◌, ◌⊎◌, length};
 ghost use Rattle.words.specs.Process.{process_word};
 ghost use Rattle.buckets.specs.Sleepers.{thread_count, IsSound};
 ghost use Rattle.futexcalls.specs.Answers.{word_of};
@@ -8,8 +8,8 @@ ghost use Rattle.robustexit.specs.Fronts.{shared_view, wake_word, TakesFront};
 
 use crate::abandon::{abandon, lock_of};
 use crate::phase::{ExitPhase, phase_at};
-use buckets::Buckets;
-use futexcalls::{Woken, wake};
+use buckets::{Buckets, ThreadList};
+use futexcalls::wake;
 use words::{Addr, MOST_BLOCKS, Mem, ProcessWord, block, tid};
 
 /// The phase in which the exit of thread `t` begins: at the first entry of its robust list, if it has one.
@@ -21,49 +21,44 @@ pub fn first_phase(mem: &Mem, t: u32) -> ExitPhase
     phase_at(mem.load(block(t, ProcessWord::Head)), 0)
 }
 
-/// Takes the next step of the exit of thread `t`, which isn't over, and answers the phase after it and who was woken.
-/// Those woken are the front of the list of the address on which the step wakes.
+/// Takes the next step of the exit of thread `t`, which isn't over, and answers the phase after it. Who was woken is
+/// written into `woken`: the front of the list of the address on which the step wakes.
 pub fn exit_step(
     mem: &mut Mem,
     buckets: &mut Buckets,
     t: u32,
     phase: ExitPhase,
-) -> (ExitPhase, Woken)
+    woken: &mut ThreadList,
+) -> ExitPhase
     requires thread { (0 < t) × (t ≤ MOST_BLOCKS) }
     requires block { process_word t 5 < length mem.old }
     requires running { phase ≢ ExitPhase.Ended }
     ensures step { ExitStep (length mem.old) t phase (shared_view mem.old buckets.old)
-        result.1.threads
-        (shared_view mem.new buckets.new) result.0 }
+        woken.new
+        (shared_view mem.new buckets.new) result }
     ensures front { TakesFront buckets.old buckets.new (wake_word t phase (word_of mem.old))
-        result.1.threads }
+        woken.new }
     ensures words { length mem.new ≡ length mem.old }
     ensures holders { buckets.new.holders ≡ buckets.old.holders }
     ensures threads { thread_count buckets.new ≡ thread_count buckets.old }
     ensures sound { IsSound buckets.new }
 {
     match phase {
-        ExitPhase::Entry { entry, seen } => entry_step(mem, buckets, t, entry, seen),
-        ExitPhase::Pending => (ExitPhase::ClearId, pending_step(mem, buckets, t)),
+        ExitPhase::Entry { entry, seen } => entry_step(mem, buckets, t, entry, seen, woken),
+        ExitPhase::Pending => {
+            pending_step(mem, buckets, t, woken);
+            ExitPhase::ClearId
+        }
         ExitPhase::ClearId => {
             mem.store(block(t, ProcessWord::Id), 0);
-            (ExitPhase::LastWake, nobody(buckets))
+            buckets.nobody(woken);
+            ExitPhase::LastWake
         }
         ExitPhase::LastWake => {
-            let woken = wake(buckets, block(t, ProcessWord::Id), 1);
-            (ExitPhase::Ended, woken)
+            wake(buckets, block(t, ProcessWord::Id), 1, woken);
+            ExitPhase::Ended
         }
         ExitPhase::Ended => unreachable!(),
-    }
-}
-
-// Nobody was woken.
-fn nobody(buckets: &Buckets) -> Woken
-    ensures none { result.threads ≡ [] }
-    ensures sound { IsSound buckets.now }
-{
-    Woken {
-        threads: buckets.nobody(),
     }
 }
 
@@ -74,53 +69,58 @@ fn entry_step(
     t: u32,
     entry: Addr,
     seen: u32,
-) -> (ExitPhase, Woken)
+    woken: &mut ThreadList,
+) -> ExitPhase
     requires thread { (0 < t) × (t ≤ MOST_BLOCKS) }
     requires block { process_word t 5 < length mem.old }
     ensures step { (IsEntry (length mem.old) entry.0
         × EntryStep (length mem.old) t entry.0
-        (shared_view mem.old buckets.old) result.1.threads (shared_view mem.new buckets.new)
-        × (result.0 ≡ next_entry (word_of mem.old entry.0) (seen + 1)))
+        (shared_view mem.old buckets.old) woken.new (shared_view mem.new buckets.new)
+        × (result ≡ next_entry (word_of mem.old entry.0) (seen + 1)))
         ⊎ ((IsEntry (length mem.old) entry.0 → ⊥)
-        × IsIdle (shared_view mem.old buckets.old) result.1.threads
+        × IsIdle (shared_view mem.old buckets.old) woken.new
         (shared_view mem.new buckets.new)
-        × (result.0 ≡ ExitPhase.Pending)) }
-    ensures front { TakesFront buckets.old buckets.new (entry.0 + 1) result.1.threads }
+        × (result ≡ ExitPhase.Pending)) }
+    ensures front { TakesFront buckets.old buckets.new (entry.0 + 1) woken.new }
     ensures words { length mem.new ≡ length mem.old }
     ensures holders { buckets.new.holders ≡ buckets.old.holders }
     ensures threads { thread_count buckets.new ≡ thread_count buckets.old }
     ensures sound { IsSound buckets.new }
 {
     let Some(lock) = lock_of(mem, entry.0) else {
-        return (ExitPhase::Pending, nobody(buckets));
+        buckets.nobody(woken);
+        return ExitPhase::Pending;
     };
     let next = phase_at(mem.load(entry), seen.saturating_add(1));
     let is_pending = mem.load(block(t, ProcessWord::Pending)) == entry.0;
     if is_pending || tid(mem.load(lock)) != t {
-        return (next, nobody(buckets));
+        buckets.nobody(woken);
+        return next;
     }
-    (next, abandon(mem, buckets, lock))
+    abandon(mem, buckets, lock, woken);
+    next
 }
 
 // A lock that another thread owns, or none, gets a wake: the one that `t` was given, or that it owed when it gave up.
-fn pending_step(mem: &mut Mem, buckets: &mut Buckets, t: u32) -> Woken
+fn pending_step(mem: &mut Mem, buckets: &mut Buckets, t: u32, woken: &mut ThreadList)
     requires thread { (0 < t) × (t ≤ MOST_BLOCKS) }
     requires block { process_word t 5 < length mem.old }
     ensures step { PendingStep (length mem.old) t (word_of mem.old (process_word t 1))
-        (shared_view mem.old buckets.old) result.threads (shared_view mem.new buckets.new) }
+        (shared_view mem.old buckets.old) woken.new (shared_view mem.new buckets.new) }
     ensures front { TakesFront buckets.old buckets.new (word_of mem.old (process_word t 1)
-        + 1) result.threads }
+        + 1) woken.new }
     ensures words { length mem.new ≡ length mem.old }
     ensures holders { buckets.new.holders ≡ buckets.old.holders }
     ensures threads { thread_count buckets.new ≡ thread_count buckets.old }
     ensures sound { IsSound buckets.new }
 {
     let Some(lock) = lock_of(mem, mem.load(block(t, ProcessWord::Pending))) else {
-        return nobody(buckets);
+        buckets.nobody(woken);
+        return;
     };
     if tid(mem.load(lock)) == t {
-        abandon(mem, buckets, lock)
+        abandon(mem, buckets, lock, woken);
     } else {
-        wake(buckets, lock, 1)
+        wake(buckets, lock, 1, woken);
     }
 }

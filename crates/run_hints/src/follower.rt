@@ -6,6 +6,7 @@ use program::{Checked, Program, Role, Statement};
 use source_offers::{End, recover_part};
 use source_states::{Action, ActionKind, SourceState};
 use std::alloc::{AllocError, Global};
+use words::ImageVersion;
 
 /// The procedures of a process, the innermost last.
 #[derive(Drop)]
@@ -36,7 +37,7 @@ impl<'a, 't> Follower<'a, 't> {
         checked: &'a Checked,
         places: &'a Places<'t>,
     ) -> Result<Follower<'a, 't>, AllocError> {
-        let state = SourceState::opening(alloc, checked)?;
+        let state = SourceState::opening(alloc, checked, ImageVersion::One)?;
         let program = checked.program();
         let mut follower = Follower {
             alloc,

@@ -5,3 +5,4 @@ pub mod Copied
 pub mod Arguments
 pub mod Stages
 pub mod Said
+pub mod Alone

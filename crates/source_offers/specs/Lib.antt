@@ -6,3 +6,4 @@ pub mod Stages
 pub mod Offered
 pub mod NextAction
 pub mod Ahead
+pub mod Foreseen

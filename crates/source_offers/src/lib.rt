@@ -4,6 +4,7 @@
 mod ahead;
 mod copies;
 mod evaluation;
+mod foreseeing;
 mod frame;
 mod monitors;
 mod next;
@@ -17,6 +18,7 @@ mod variables;
 
 pub use ahead::{Ahead, look_ahead};
 pub use evaluation::{array_size, element, evaluate, evaluate_all};
+pub use foreseeing::{Foreseen, foresee};
 pub use frame::Frame;
 pub use monitors::{add_monitor, add_monitors, recover_part};
 pub use next::{before, statement};

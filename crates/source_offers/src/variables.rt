@@ -1,8 +1,8 @@
 ghost use Rattle.std.specs.Prelude.{◌≡◌, IfOk, OnErr, OnOk, pos, true};
 ghost use Rattle.meaning.specs.Values.{with_variable};
 
+use sorted_map::SortedMap;
 use std::alloc::{AllocError, Global};
-use std::collections::BTreeMap;
 use std::hash::{FoldHasher, Hasher};
 
 /// Where a variable stands: its monitor, its member, and in an array its index (0 where the member is no array).
@@ -19,8 +19,8 @@ pub struct Place {
 /// The value of each variable. `variables_of` makes it those of the meaning.
 #[derive(Drop)]
 pub struct Variables {
-    // What was assigned; every other variable is 0.
-    values: BTreeMap<Place, i64>,
+    // What isn't 0, so that the lists are the same where the values are.
+    values: SortedMap<Place, i64>,
 }
 
 impl Variables {
@@ -31,7 +31,7 @@ impl Variables {
         ensures { variables_of result ≡ (λ m n i. pos 0) }
     {
         Variables {
-            values: BTreeMap::new(alloc),
+            values: SortedMap::new(alloc),
         }
     }
 
@@ -39,9 +39,9 @@ impl Variables {
     pub fn get(&self, place: Place) -> i64
         ensures { result ≡ variables_of self.now place.monitor place.member place.index }
     {
-        match self.values.get(&place) {
+        match self.values.get(place) {
             None => 0,
-            Some(value) => *value,
+            Some(value) => value,
         }
     }
 
@@ -51,34 +51,36 @@ impl Variables {
             ≡ with_variable (variables_of self.old) place.monitor place.member place.index value) }
         ensures err { OnErr result (variables_of self.new ≡ variables_of self.old) }
     {
-        let _old = self.values.insert(place, value)?;
-        Ok(())
+        if value == 0 {
+            self.values.remove(place);
+            return Ok(());
+        }
+        self.values.insert(place, value)
     }
+
     /// The same values once more.
     pub fn copy(&self) -> Result<Variables, AllocError>
         ensures { IfOk result (λ v. variables_of v ≡ variables_of self.now) }
     {
         Ok(Variables {
-            values: self.values.clone()?,
+            values: self.values.copy()?,
         })
     }
 
-    /// Whether the same was assigned to the same variables, so that all values are the same.
+    /// Whether all values are the same.
     pub fn is_same(&self, other: &Variables) -> bool
         ensures { result ≡ true → variables_of self.now ≡ variables_of other.now }
     {
         self.values == other.values
     }
 
-    /// Writes the values to a hasher, each with its place; zeros count for nothing.
+    /// Writes the values that aren't 0 to a hasher, each with its place.
     pub fn feed(&self, hasher: &mut FoldHasher) {
-        for (place, value) in self.values.iter() {
-            if *value != 0 {
-                hasher.write_u32(place.monitor);
-                hasher.write_u32(place.member);
-                hasher.write_u32(place.index);
-                hasher.write_i64(*value);
-            }
+        for (place, value) in self.values.entries() {
+            hasher.write_u32(place.monitor);
+            hasher.write_u32(place.member);
+            hasher.write_u32(place.index);
+            hasher.write_i64(*value);
         }
     }
 }

@@ -7,6 +7,7 @@ use program::Checked;
 use source_reaching::{Followed, follow_own, own_actions};
 use source_states::{Action, SourceState};
 use std::alloc::{AllocError, Global};
+use words::ImageVersion;
 
 /// How the first state is come to.
 pub(crate) const OPENING: Way = Way {
@@ -116,7 +117,7 @@ fn followed_to<'a>(
 ) -> Result<Vec<Action>, AllocError> {
     let back = places_back(alloc, kept.ways.as_slice(), place)?;
     let mut actions = Vec::new(alloc);
-    let opening = SourceState::opening(alloc, checked)?;
+    let opening = SourceState::opening(alloc, checked, ImageVersion::One)?;
     if let Some(packed) = kept.parts.pack(alloc, checked.program(), &opening, 0)? {
         let _settled = kept.parts.settle(alloc, checked, packed, &mut actions)?;
     }
@@ -153,7 +154,7 @@ fn interleaved_to<'a>(
 ) -> Result<Vec<Action>, AllocError> {
     let back = places_back(alloc, ways, place)?;
     let mut actions = Vec::new(alloc);
-    let mut state = SourceState::opening(alloc, checked)?;
+    let mut state = SourceState::opening(alloc, checked, ImageVersion::One)?;
     for at in back.as_slice().iter().rev() {
         let Some(way) = ways.get(*at).copied() else {
             return Ok(actions);

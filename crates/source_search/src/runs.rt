@@ -12,6 +12,7 @@ use crate::search::{Findings, search};
 use program::Checked;
 use source_states::{Action, SourceState, accepts};
 use std::alloc::{AllocError, Global};
+use words::ImageVersion;
 
 /// What a search over all runs of a program found.
 #[derive(Drop)]
@@ -165,7 +166,7 @@ pub fn explore<P: Progress>(
 {
     let _program = checked.program();
     let mut kept = Kept::new(alloc, most_states);
-    let opening = SourceState::opening(alloc, checked)?;
+    let opening = SourceState::opening(alloc, checked, ImageVersion::One)?;
     let opens = kept.open(alloc, checked, opening, outside)?;
     let findings = search(alloc, checked, &mut kept, most_states, outside, progress)?;
     let states = kept.states.len();

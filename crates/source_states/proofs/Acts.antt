@@ -1,5 +1,6 @@
 -- What a process does that offers one action.
 use Rattle.std.proofs.Common.{◌≡◌, ℕ, Option, Some, None, refl, ap, sym, ◌∙◌, subst}
+use Rattle.words.specs.Updates.{put}
 use Rattle.program.specs.Trees.{Program}
 use Rattle.meaning.specs.Labels.{Action, Label, kind_of}
 use Rattle.meaning.specs.Offers.{Does, Effect, TakesUp, offer}
@@ -7,6 +8,8 @@ use Rattle.meaning.specs.Processes.{Process}
 use Rattle.meaning.specs.Runs.{IsAction}
 use Rattle.meaning.specs.States.{SourceState}
 use Rattle.source_states.specs.Done.{IsDone}
+use Rattle.source_states.specs.Own.{IsOwnTaken}
+use Rattle.source_states.proofs.Steps.{done_without}
 
 abbrev or_else : {X : Type 0} → X → Option X → X
 or_else x (Some y) = y
@@ -51,3 +54,15 @@ only p s s' a before after label effect stands offers r = (
 
     taken : TakesUp (Does label effect after) r.label r.effect r.after
     taken = subst (λ o. TakesUp o r.label r.effect r.after) (ap (offer p s.variable) stood ∙ offers) r.acts
+
+-- a process that offers one action took it, in its place
+pub took : (p : Program) (s s' : SourceState) (n : ℕ) (before after : Process) (label : Label) (effect : Effect)
+    (f : ℕ → Option Process) → s.process n ≡ Some before → Does label effect after ≡ offer p s.variable before
+    → f ≡ put s.process n (Some after) → IsDone n label effect after (record s { process = f }) s'
+    → IsOwnTaken p n (Some (kind_of label)) s s'
+took p s s' n before after label effect f stands offers is done = (
+  acts p s s' n before after label effect stands (sym offers)
+      (done_without n label effect after (Some after) s s'
+      (subst (λ g. IsDone n label effect after (record s { process = g }) s') is done)),
+  λ other u r. (only p s u (record { process = n; kind = other }) before after label effect stands (sym offers) r).0,
+)

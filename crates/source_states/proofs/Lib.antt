@@ -10,3 +10,4 @@ pub mod Leading
 pub mod Numbers
 pub mod Settled
 pub mod Copying
+pub mod Notices

@@ -4,3 +4,4 @@ pub mod Done
 pub mod Taken
 pub mod Killed
 pub mod Internal
+pub mod Own

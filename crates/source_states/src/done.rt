@@ -1,10 +1,13 @@
-ghost use Rattle.std.specs.Prelude.{◌≡◌, OnOk, Some};
+ghost use Rattle.std.specs.Prelude.{◌≡◌, IfOk, OnOk, Some, option_map};
+ghost use Rattle.meaning.specs.Labels.{kind_of as name_of};
 ghost use Rattle.meaning.specs.Processes.{Process as ProcessOf};
 ghost use Rattle.meaning.specs.States.{printed_after, variables_after};
 ghost use Rattle.meaning.specs.Table.{Allows};
 ghost use Rattle.source_offers.specs.Offered.{effect_of, label_of};
 ghost use Rattle.source_table.specs.Tables.{table_of};
 
+use crate::action::ActionKind;
+use crate::naming::named;
 use crate::state::SourceState;
 use source_offers::{Effect, Label};
 use source_table::Table;
@@ -26,6 +29,7 @@ pub fn permit(table: &mut Table, process: u64, label: Label) -> Result<(), Alloc
 }
 
 impl<'a> SourceState<'a> {
+    ghost use Rattle.source_states.specs.Actions.{kind_of};
     ghost use Rattle.source_states.specs.Done.{IsDone};
     ghost use Rattle.source_states.specs.States.{state_of};
 
@@ -55,5 +59,21 @@ impl<'a> SourceState<'a> {
         permit(&mut self.table, process, label)?;
         self.affect(effect)?;
         Ok(())
+    }
+    // The same, and tells which action it was.
+    #[inline(always)]
+    pub(crate) fn perform_named(
+        &mut self,
+        number: u64,
+        label: Label,
+        effect: Effect,
+    ) -> Result<Option<ActionKind>, AllocError>
+        ensures { IfOk result (λ o. (option_map kind_of o ≡ Some (name_of (label_of label)))
+            × ((after : ProcessOf) → (state_of self.old).process number ≡ Some after
+            → IsDone number (label_of label) (effect_of effect) after (state_of self.old)
+            (state_of self.new))) }
+    {
+        self.perform(number, label, effect)?;
+        Ok(Some(named(label)))
     }
 }

@@ -10,7 +10,6 @@ ghost use Rattle.source_states.specs.Actions.{kind_of};
 ghost use Rattle.source_states.specs.Internal.{internal_kind};
 
 use crate::action::ActionKind;
-use crate::naming::named;
 use crate::state::SourceState;
 use program::Program;
 use source_offers::{Ahead, Offer, Offered, Process, look_ahead, next_offer};
@@ -69,10 +68,7 @@ impl<'a> SourceState<'a> {
             return Ok(None);
         }
         match next_offer(alloc, program, &self.variables, process)? {
-            Offer::Own(Offered::Does(label, effect)) => {
-                self.perform(number, label, effect)?;
-                Ok(Some(named(label)))
-            }
+            Offer::Own(Offered::Does(label, effect)) => self.perform_named(number, label, effect),
             Offer::Own(Offered::Makes(_, _)) => fail(alloc, process, Fault::ProcessTableFull),
             Offer::Own(Offered::Claims { .. }) => fail(alloc, process, Fault::HandleNotJoinable),
             _ => Ok(None),

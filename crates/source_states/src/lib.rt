@@ -12,6 +12,7 @@ mod laws;
 mod naming;
 mod notifying;
 mod offering;
+mod own;
 mod placing;
 mod state;
 mod step;

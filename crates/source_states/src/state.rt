@@ -1,5 +1,6 @@
 ghost use Rattle.std.specs.Prelude.{◌≡◌, ◌↔◌, [], Contains, IfOk, IsSome, MatchBool, option_map, ℕ};
 ghost use Rattle.std.specs.List.Sorted.{IsStrictlyIncreasing};
+ghost use Rattle.program.specs.Trees.{as_version};
 ghost use Rattle.program.specs.Views.{program_of};
 ghost use Rattle.meaning.specs.Processes.{begins, opening_frame};
 ghost use Rattle.meaning.specs.Runs.{IsStray};
@@ -49,9 +50,14 @@ impl<'a> SourceState<'a> {
         Ok(main)
     }
 
-    /// The state in which every run begins.
-    pub fn opening(alloc: Global, checked: &'a Checked) -> Result<SourceState<'a>, AllocError>
-        ensures { IfOk result (λ s. state_of s ≡ opening (program_of checked.now.tree)) }
+    /// The state in which every run begins, in an image of this version.
+    pub fn opening(
+        alloc: Global,
+        checked: &'a Checked,
+        version: ImageVersion,
+    ) -> Result<SourceState<'a>, AllocError>
+        ensures { IfOk result (λ s. state_of s
+            ≡ opening (as_version version (program_of checked.now.tree))) }
     {
         let program = checked.program();
         let last = program.procedures.len().saturating_sub(1);
@@ -59,7 +65,7 @@ impl<'a> SourceState<'a> {
         let mut processes = BTreeMap::new(alloc);
         let _none = processes.insert(1, main)?;
         Ok(SourceState {
-            table: Table::new(alloc, ImageVersion::One),
+            table: Table::new(alloc, version),
             variables: Variables::new(alloc),
             processes,
             printed: Vec::new(alloc),

@@ -19,6 +19,7 @@ use crate::state::SourceState;
 use program::{Checked, Program};
 use source_offers::{Effect, Label, Offer, Offered, Process, next_offer};
 use std::alloc::{AllocError, Global};
+use words::ImageVersion;
 
 impl<'a> SourceState<'a> {
     ghost use Rattle.source_states.specs.Actions.{action_of, kind_of};
@@ -201,7 +202,7 @@ pub fn accepts<'a>(
         → ⊥)
         (λ s. IsRun (program_of checked.now.tree) (map action_named actions.now) (state_in s))) }
 {
-    let mut state = SourceState::opening(alloc, checked)?;
+    let mut state = SourceState::opening(alloc, checked, ImageVersion::One)?;
     for action in actions {
         if !state.advance(alloc, checked.program(), action)? {
             return Ok(None);

@@ -11,9 +11,9 @@ use Rattle.std.specs.List.{AllPairs}
 use Rattle.std.specs.List.Sorted.{IsStrictlyIncreasing, IsStrictlySortedBy}
 use Rattle.std.specs.Map.{keys_of}
 use Rattle.std.proofs.lemmas.Map.Lookups.{exact_unsigned}
-use Rattle.std.proofs.lemmas.Map.Views.{btree_map_get_iff}
 use Rattle.std.specs.Ordering.{nat_cmp}
-use Rattle.std.specs.BTreeMap.{BTreeMap, IsOrdered}
+use Rattle.sorted_map.specs.Maps.{IsOrdered}
+use Rattle.sorted_map.proofs.Entries.{get_iff}
 use Rattle.program.specs.declared.kinds.Member.{Member}
 use Rattle.std.proofs.lemmas.Bool.Decides.{Decides-and, Decides-eqb, Decides-like}
 use Rattle.std.specs.Bool.{Decides}
@@ -29,7 +29,7 @@ decides_member a b =
     (Decides-and _ _ (Decides-eqb a.monitor b.monitor) (Decides-eqb a.number b.number))
 
 -- those found and those among these entries are all that wait on the condition, and rise
-pub record IsListed (m : BTreeMap ℕ Member) (c : Member) (found : List ℕ) (es : List (ℕ × Member)) : Type 0 where
+pub record IsListed (m : List (ℕ × Member)) (c : Member) (found : List ℕ) (es : List (ℕ × Member)) : Type 0 where
   pub rising : AllPairs (λ x y. x < y) found
   pub below : (q r : ℕ) → Contains found q → Contains (keys_of es) r → q < r
   pub sorted : IsStrictlySortedBy nat_cmp (keys_of es)
@@ -44,18 +44,18 @@ IsEntry p w q c = ◌≡◌ {A = ℕ × Member} (p, w) (q, c)
 none : {X : Type 0} (q : X) → Contains [] q → ⊥
 none q (k, l, e) = omega (arith, l)
 
-pub listed-all : (m : BTreeMap ℕ Member) (c : Member) (found : List ℕ) → IsOrdered nat_cmp m → found ≡ []
-    → IsListed m c found m.entries
+pub listed-all : (m : List (ℕ × Member)) (c : Member) (found : List ℕ) → IsOrdered nat_cmp m → found ≡ []
+    → IsListed m c found m
 listed-all m c found o empty = record {
   rising = subst (AllPairs (λ x y. x < y)) (sym empty) (λ i j d l k. absurd (omega (arith, k)));
   below = λ q r h i. absurd (none q (subst (λ xs. Contains xs q) empty h));
   sorted = o;
   found_wait = λ q h. absurd (none q (subst (λ xs. Contains xs q) empty h));
-  left_wait = λ q. (btree_map_get_iff nat_cmp_total exact_unsigned m o q c).1;
-  all = λ q w. inr ((btree_map_get_iff nat_cmp_total exact_unsigned m o q c).0 w);
+  left_wait = λ q. (get_iff nat_cmp_total exact_unsigned m o q c).1;
+  all = λ q w. inr ((get_iff nat_cmp_total exact_unsigned m o q c).0 w);
 }
 
-module _ (m : BTreeMap ℕ Member) (c w : Member) (found : List ℕ) (p : ℕ) (es later : List (ℕ × Member))
+module _ (m : List (ℕ × Member)) (c w : Member) (found : List ℕ) (p : ℕ) (es later : List (ℕ × Member))
     (is : IsListed m c found es) (split : es ≡ (p, w) ∷ later) where
   later_waits : (q : ℕ) → Contains later (q, c) → waits_in m q ≡ Some c
   later_waits q (k, l, e) =
@@ -131,7 +131,7 @@ module _ (m : BTreeMap ℕ Member) (c w : Member) (found : List ℕ) (p : ℕ) (
     all = λ q waits. passed other q (split_at q (is.all q waits));
   }
 
-pub listed-end : (m : BTreeMap ℕ Member) (c : Member) (found : List ℕ) (es : List (ℕ × Member)) → IsListed m c found es
+pub listed-end : (m : List (ℕ × Member)) (c : Member) (found : List ℕ) (es : List (ℕ × Member)) → IsListed m c found es
     → es ≡ [] → (q : ℕ) → Contains found q ↔ (waits_in m q ≡ Some c)
 listed-end m c found es is empty q = (is.found_wait q, λ waits. only (is.all q waits))
   where
@@ -139,6 +139,6 @@ listed-end m c found es is empty q = (is.found_wait q, λ waits. only (is.all q 
     only (inl h) = h
     only (inr h) = absurd (none (q, c) (subst (λ xs. Contains xs (q, c)) empty h))
 
-pub listed-rising : (m : BTreeMap ℕ Member) (c : Member) (found : List ℕ) (es : List (ℕ × Member)) → IsListed m c found es
+pub listed-rising : (m : List (ℕ × Member)) (c : Member) (found : List ℕ) (es : List (ℕ × Member)) → IsListed m c found es
     → IsStrictlyIncreasing found
 listed-rising m c found es is k less = is.rising k (k + 1) 0 (omega arith) less

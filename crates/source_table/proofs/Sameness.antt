@@ -1,7 +1,6 @@
 -- What `==` says of the parts of a table.
-use Rattle.std.proofs.Common.{◌≡◌, ◌&&◌, ◌==◌, ◌∷◌, List, [], Bool, true, false, refl, ap, rules}
+use Rattle.std.proofs.Common.{◌≡◌, ◌&&◌, ◌==◌, Bool, true, false, refl, ap, rules}
 use Rattle.std.proofs.lemmas.Bool.Decides.{Decides-eqb, Decides-int_eq}
-use Rattle.std.specs.Cmp.Lexicographic.{pointwise}
 use Rattle.words.specs.declared.outcome.Fault.{Fault}
 use Rattle.words.specs.contracts.outcome.FaultPartialEq as fault
 use Rattle.words.specs.declared.outcome.Cause.{Cause}
@@ -13,6 +12,7 @@ use Rattle.words.specs.declared.version.ImageVersion.{ImageVersion}
 use Rattle.words.specs.contracts.version.ImageVersionPartialEq as version
 use Rattle.words.specs.Versions.{most_of}
 use Rattle.source_offers.specs.contracts.process.EndPartialEq as end
+use Rattle.sorted_map.proofs.Entries.{same_entries}
 use Rattle.source_table.specs.declared.table.Hold.{Hold}
 use Rattle.source_table.specs.declared.table.Hold.TheVariants.{Free, Abandoned, HeldBy}
 use Rattle.source_table.specs.contracts.table.HoldPartialEq as hold
@@ -21,28 +21,14 @@ use Rattle.source_table.specs.declared.table.Table.{Table as TableOf}
 use Rattle.source_table.specs.contracts.table.TablePartialEq as table
 use Rattle.source_table.specs.Tables.{table_of, or_free}
 use Rattle.source_offers.specs.Stages.{end_of}
-use Rattle.program.specs.contracts.kinds.MemberPartialEq as member
 use Rattle.std.specs.BTreeMap.{is_at}
-use Rattle.std.specs.List.{list_any}
 use Rattle.std.specs.Map.{lookup}
 use Rattle.std.specs.Ordering.{nat_cmp}
-use Rattle.std.specs.Prelude.{ℕ, option_map}
+use Rattle.std.specs.Prelude.{ℕ, is_some, option_map}
 
 pub and_true : (a b : Bool) → (a && b) ≡ true → (a ≡ true) × (b ≡ true)
 and_true true b e = (refl, e)
 and_true false b e = absurd (cc)
-
--- lists whose elements are the same by a test are the same
-pub pointwise_same : {A : Type 0} (E : A → A → Bool) → ((a b : A) → E a b ≡ true → a ≡ b) → (xs ys : List A)
-    → pointwise E xs ys ≡ true → xs ≡ ys
-pointwise_same E exact [] [] e = refl
-pointwise_same E exact [] (y ∷ ys) e = absurd (cc)
-pointwise_same E exact (x ∷ xs) [] e = absurd (cc)
-pointwise_same E exact (x ∷ xs) (y ∷ ys) e =
-    let both = and_true (E x y) (pointwise E xs ys) e in
-    let first = exact x y both.0 in
-    let rest = pointwise_same E exact xs ys both.1 in
-    λ i. first i ∷ rest i
 
 pub same_fault : (a b : Fault) → fault.TheImpl.ghosts.eq a b ≡ true → a ≡ b
 same_fault a b e = search rules
@@ -73,17 +59,8 @@ same_hold (HeldBy p) Free e = absurd (cc)
 same_hold (HeldBy p) Abandoned e = absurd (cc)
 same_hold (HeldBy p) (HeldBy q) e = ap HeldBy ((Decides-eqb p q).0 e)
 
--- entries that are the same by a test are the same
-same_entries : {X : Type 0} (E : X → X → Bool) → ((a b : X) → E a b ≡ true → a ≡ b) → (xs ys : List (ℕ × X))
-    → pointwise (λ (p q : ℕ × X). (p.0 == q.0) && E p.1 q.1) xs ys ≡ true → xs ≡ ys
-same_entries {X} E exact xs ys e = pointwise_same (λ (p q : ℕ × X). (p.0 == q.0) && E p.1 q.1) each xs ys e
-  where
-    each : (p q : ℕ × X) → ((p.0 == q.0) && E p.1 q.1) ≡ true → p ≡ q
-    each p q h =
-        let both = and_true (p.0 == q.0) (E p.1 q.1) h in
-        let key = (Decides-eqb p.0 q.0).0 both.0 in
-        let value = exact p.1 q.1 both.1 in
-        λ i. (key i, value i)
+same_number : (a b : ℕ) → (a == b) ≡ true → a ≡ b
+same_number a b = (Decides-eqb a b).0
 
 pub same_table : (s t : TableOf) → table.TheImpl.ghosts.eq s t ≡ true → table_of s ≡ table_of t
 same_table s t e =
@@ -93,16 +70,16 @@ same_table s t e =
     let l = and_true _ _ w.1 in
     let m = and_true _ _ l.1 in
     let version = same_version s.version t.version v.0 in
-    let holds = same_entries hold.TheImpl.ghosts.eq same_hold s.holds.entries t.holds.entries h.0 in
-    let waits = same_entries member.TheImpl.ghosts.eq (λ a b. (decides_member a b).0) s.waits.entries t.waits.entries w.0 in
-    let claimed = pointwise_same _ (λ (a b : ℕ). (Decides-eqb a b).0) s.claimed.keys t.claimed.keys l.0 in
-    let made = (Decides-eqb s.made t.made).0 m.0 in
-    let over = same_entries end.TheImpl.ghosts.eq same_end s.over.entries t.over.entries m.1 in
+    let holds = same_entries same_number same_hold s.holds t.holds h.0 in
+    let waits = same_entries same_number (λ a b. (decides_member a b).0) s.waits t.waits w.0 in
+    let claimed = same_entries same_number (λ a b same. refl) s.claimed t.claimed l.0 in
+    let made = same_number s.made t.made m.0 in
+    let over = same_entries same_number same_end s.over t.over m.1 in
     λ i. record {
       most = most_of (version i);
       hold = λ n. or_free (lookup (is_at (nat_cmp n)) (holds i));
       waits = λ q. lookup (is_at (nat_cmp q)) (waits i);
-      claimed = λ q. list_any (is_at (nat_cmp q)) (claimed i);
+      claimed = λ q. is_some (lookup (is_at (nat_cmp q)) (claimed i));
       made = made i;
       over = λ q. option_map end_of (lookup (is_at (nat_cmp q)) (over i));
     }

@@ -1,18 +1,16 @@
 -- Processes that wait, and wait no longer.
 use Rattle.std.proofs.Common.{◌≡◌, ◌↔◌, ℕ, zero, suc, Bool, true, false, cond, ◌==◌, ◌+◌, drop, sym, Option, Some}
 use Rattle.std.proofs.Common.{None, List, [], ◌∷◌, Contains, refl, ap, subst, ◌∙◌, arith}
-use Rattle.std.proofs.lemmas.Grind.{common_steps}
 use Rattle.std.proofs.lemmas.Cmp.{nat_cmp_total}
-use Rattle.std.proofs.lemmas.Map.Views.{btree_map_get_iff}
 use Rattle.std.specs.Ordering.{nat_cmp}
-use Rattle.std.specs.declared.cmp.Ordering.TheVariants.{Equal}
-use Rattle.std.specs.BTreeMap as map
-use Rattle.std.specs.BTreeMap.{BTreeMap, IsOrdered, is_at}
+use Rattle.std.proofs.lemmas.Map.Lookups.{exact_unsigned}
+use Rattle.sorted_map.specs.Maps.{IsOrdered, Updates}
+use Rattle.sorted_map.proofs.Entries.{get_iff}
 use Rattle.words.specs.Updates.{put}
 use Rattle.program.specs.declared.kinds.Member.{Member}
 use Rattle.meaning.specs.Table.{Table, AllWait, without_waiters}
 use Rattle.source_table.specs.Tables.{waits_in}
-use Rattle.source_table.proofs.Tables.{put_at}
+use Rattle.source_table.proofs.Tables.{put_in}
 
 twice : {X : Type 0} (a b : Bool) (w x : X) → cond a w (cond b w x) ≡ cond b w (cond a w x)
 twice true true w x = refl
@@ -31,12 +29,12 @@ without_first (r ∷ rs) waits q =
     ap (λ f. put f r None) (without_first rs waits q) ∙ put_twice (without_waiters rs waits) q r None
 
 -- one of them less is to wait no longer
-pub let_go_one : (resumed : List ℕ) (i q : ℕ) (before after : BTreeMap ℕ Member)
+pub let_go_one : (resumed : List ℕ) (i q : ℕ) (before after : List (ℕ × Member))
     → drop i resumed ≡ q ∷ drop (i + 1) resumed
-    → ((r : ℕ) → map.get nat_cmp after r ≡ cond (is_at (nat_cmp q) r) None (map.get nat_cmp before r))
+    → Updates nat_cmp before after q None
     → without_waiters (drop (i + 1) resumed) (waits_in after) ≡ without_waiters (drop i resumed) (waits_in before)
 let_go_one resumed i q before after split at =
-    ap (without_waiters (drop (i + 1) resumed)) (put_at (λ o. o) before after q None at)
+    ap (without_waiters (drop (i + 1) resumed)) (put_in (λ o. o) before after q None at)
     ∙ without_first (drop (i + 1) resumed) (waits_in before) q
     ∙ sym (ap (λ qs. without_waiters qs (waits_in before)) split)
 
@@ -61,21 +59,18 @@ not_all_wait t c resumed i q split n all whole =
 
 -- the entries that are left of all that wait: those of the condition among them wait on it, and if these are resumed
 -- then all are
-abbrev pub IsRest : BTreeMap ℕ Member → Member → List ℕ → List (ℕ × Member) → Type 0
+abbrev pub IsRest : List (ℕ × Member) → Member → List ℕ → List (ℕ × Member) → Type 0
 IsRest m c resumed es = ((q : ℕ) → Contains es (q, c) → waits_in m q ≡ Some c)
     × ((q : ℕ) → waits_in m q ≡ Some c → (Contains es (q, c) → Contains resumed q) → Contains resumed q)
 
-exact : (x y : ℕ) → nat_cmp x y ≡ Equal → x ≡ y
-exact x y e = grind (arith, common_steps, e)
-
-pub rest-all : (m : BTreeMap ℕ Member) (c : Member) (resumed : List ℕ) → IsOrdered nat_cmp m
-    → IsRest m c resumed m.entries
+pub rest-all : (m : List (ℕ × Member)) (c : Member) (resumed : List ℕ) → IsOrdered nat_cmp m
+    → IsRest m c resumed m
 rest-all m c resumed o = (
-  (λ q. (btree_map_get_iff nat_cmp_total exact m o q c).1),
-  λ q w named. named ((btree_map_get_iff nat_cmp_total exact m o q c).0 w),
+  (λ q. (get_iff nat_cmp_total exact_unsigned m o q c).1),
+  λ q w named. named ((get_iff nat_cmp_total exact_unsigned m o q c).0 w),
 )
 
-pub rest-more : (m : BTreeMap ℕ Member) (c w : Member) (resumed : List ℕ) (p : ℕ) (es later : List (ℕ × Member))
+pub rest-more : (m : List (ℕ × Member)) (c w : Member) (resumed : List ℕ) (p : ℕ) (es later : List (ℕ × Member))
     → IsRest m c resumed es → es ≡ (p, w) ∷ later → (w ≡ c → Contains resumed p) → IsRest m c resumed later
 rest-more m c w resumed p es later rest split named = (
   (λ q (k, l, e). rest.0 q (subst (λ xs. Contains xs (q, c)) (sym split) (suc k, omega (arith, l), e))),
@@ -87,8 +82,16 @@ rest-more m c w resumed p es later rest split named = (
     this q others (zero, l, e) = subst (Contains resumed) (ap (λ x. x.0) e) (named (ap (λ x. x.1) e))
     this q others (suc k, l, e) = others (k, omega (arith, l), e)
 
-pub rest-not : (m : BTreeMap ℕ Member) (c w : Member) (resumed : List ℕ) (p : ℕ) (es later : List (ℕ × Member))
+pub rest-not : (m : List (ℕ × Member)) (c w : Member) (resumed : List ℕ) (p : ℕ) (es later : List (ℕ × Member))
     → IsRest m c resumed es → es ≡ (p, w) ∷ later → w ≡ c → (Contains resumed p → ⊥)
     → ((q : ℕ) → waits_in m q ≡ Some c → Contains resumed q) → ⊥
 rest-not m c w resumed p es later rest split same n all =
     n (all p (rest.0 p (subst (λ xs. Contains xs (p, c)) (sym split) (0, omega arith, λ i. (p, same i)))))
+
+pub rest-end : (m : List (ℕ × Member)) (c : Member) (resumed : List ℕ) (es : List (ℕ × Member)) → IsRest m c resumed es
+    → es ≡ [] → (q : ℕ) → waits_in m q ≡ Some c → Contains resumed q
+rest-end m c resumed es rest empty q waits =
+    rest.1 q waits (λ h. none (subst (λ xs. Contains xs (q, c)) empty h))
+  where
+    none : Contains {X = ℕ × Member} [] (q, c) → Contains resumed q
+    none (k, l, e) = absurd (omega (arith, l))

@@ -1,10 +1,7 @@
 -- The table that the code keeps, as the table of the meaning.
-use Rattle.std.specs.Prelude.{ℕ, Bool, Option, Some, None, option_map}
+use Rattle.std.specs.Prelude.{ℕ, Bool, List, Option, Some, None, is_some, option_map}
 use Rattle.std.specs.Ordering.{nat_cmp}
-use Rattle.std.specs.BTreeMap as map
-use Rattle.std.specs.BTreeMap.{BTreeMap}
-use Rattle.std.specs.BTreeSet as set
-use Rattle.std.specs.BTreeSet.{BTreeSet}
+use Rattle.sorted_map.specs.Maps as map
 use Rattle.words.specs.Versions.{most_of}
 use Rattle.program.specs.declared.kinds.Member.{Member}
 use Rattle.meaning.specs.Labels.{End}
@@ -28,19 +25,19 @@ or_free None = Free
 or_free (Some h) = hold_of h
 
 -- the same of each monitor
-abbrev pub holds_in : BTreeMap ℕ HoldOf → ℕ → Hold
+abbrev pub holds_in : List (ℕ × HoldOf) → ℕ → Hold
 holds_in holds m = or_free (map.get nat_cmp holds m)
 
 -- the condition that each process waits on
-abbrev pub waits_in : BTreeMap ℕ Member → ℕ → Option Member
+abbrev pub waits_in : List (ℕ × Member) → ℕ → Option Member
 waits_in waits p = map.get nat_cmp waits p
 
 -- whether each process was claimed
-abbrev pub claimed_in : BTreeSet ℕ → ℕ → Bool
-claimed_in claimed p = set.contains nat_cmp claimed p
+abbrev pub claimed_in : List (ℕ × Unit {0}) → ℕ → Bool
+claimed_in claimed p = is_some (map.get nat_cmp claimed p)
 
 -- how each process ended
-abbrev pub over_in : BTreeMap ℕ EndOf → ℕ → Option End
+abbrev pub over_in : List (ℕ × EndOf) → ℕ → Option End
 over_in over p = option_map end_of (map.get nat_cmp over p)
 
 -- the table

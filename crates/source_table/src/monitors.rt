@@ -16,8 +16,7 @@ impl Table {
             ≡ record (table_of self.old) { hold = put (table_of self.old).hold monitor (hold_of hold) }) }
         ensures err { OnErr result (table_of self.new ≡ table_of self.old) }
     {
-        let _old = self.holds.insert(monitor, hold)?;
-        Ok(())
+        self.holds.insert(monitor, hold)
     }
 
     /// A process enters a monitor: whether that was abandoned; None, and nothing is done, where it is held.

@@ -30,7 +30,11 @@ impl Table {
             (Allows p (FindsClaimed child) (table_of self.old) (table_of self.new))) }
         ensures err { OnErr result (table_of self.new ≡ table_of self.old) }
     {
-        Ok(self.claimed.insert(child)?)
+        if self.claimed(child) {
+            return Ok(false);
+        }
+        self.claimed.insert(child, ())?;
+        Ok(true)
     }
 
     /// A process is over.
@@ -39,7 +43,6 @@ impl Table {
             (Allows process (Ends (end_of end)) (table_of self.old) (table_of self.new)) }
         ensures err { OnErr result (table_of self.new ≡ table_of self.old) }
     {
-        let _old = self.over.insert(process, end)?;
-        Ok(())
+        self.over.insert(process, end)
     }
 }

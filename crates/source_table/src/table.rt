@@ -4,9 +4,9 @@ ghost use Rattle.meaning.specs.Table.{first_table};
 ghost use Rattle.source_offers.specs.Stages.{end_of};
 
 use program::Member;
+use sorted_map::SortedMap;
 use source_offers::End;
 use std::alloc::{AllocError, Global};
-use std::collections::{BTreeMap, BTreeSet};
 use words::ImageVersion;
 
 /// Whether a monitor is free.
@@ -26,15 +26,15 @@ pub struct Table {
     // Says how many processes there can be.
     pub(crate) version: ImageVersion,
     // Of each monitor that was entered once; every other is free.
-    pub(crate) holds: BTreeMap<u32, Hold>,
+    pub(crate) holds: SortedMap<u32, Hold>,
     // The condition of each process that waits.
-    pub(crate) waits: BTreeMap<u64, Member>,
+    pub(crate) waits: SortedMap<u64, Member>,
     // The processes that were claimed for a JOIN.
-    pub(crate) claimed: BTreeSet<u64>,
+    pub(crate) claimed: SortedMap<u64, ()>,
     // How many processes were made.
     pub(crate) made: u64,
     // How each process is over that is.
-    pub(crate) over: BTreeMap<u64, End>,
+    pub(crate) over: SortedMap<u64, End>,
 }
 
 impl Table {
@@ -46,11 +46,11 @@ impl Table {
     {
         Table {
             version,
-            holds: BTreeMap::new(alloc),
-            waits: BTreeMap::new(alloc),
-            claimed: BTreeSet::new(alloc),
+            holds: SortedMap::new(alloc),
+            waits: SortedMap::new(alloc),
+            claimed: SortedMap::new(alloc),
             made: 1,
-            over: BTreeMap::new(alloc),
+            over: SortedMap::new(alloc),
         }
     }
 
@@ -65,9 +65,9 @@ impl Table {
     pub fn hold(&self, monitor: u32) -> Hold
         ensures { hold_of result ≡ (table_of self.now).hold monitor }
     {
-        match self.holds.get(&monitor) {
+        match self.holds.get(monitor) {
             None => Hold::Free,
-            Some(hold) => *hold,
+            Some(hold) => hold,
         }
     }
 
@@ -75,14 +75,14 @@ impl Table {
     pub fn waits(&self, process: u64) -> Option<Member>
         ensures { result ≡ (table_of self.now).waits process }
     {
-        self.waits.get(&process).copied()
+        self.waits.get(process)
     }
 
     /// Whether a process was claimed for a JOIN.
     pub fn claimed(&self, process: u64) -> bool
         ensures { result ≡ (table_of self.now).claimed process }
     {
-        self.claimed.contains(&process)
+        self.claimed.get(process).is_some()
     }
 
     /// How many processes were made.
@@ -96,7 +96,7 @@ impl Table {
     pub fn over(&self, process: u64) -> Option<End>
         ensures { option_map end_of result ≡ (table_of self.now).over process }
     {
-        self.over.get(&process).copied()
+        self.over.get(process)
     }
 
     /// The same table once more.
@@ -105,11 +105,11 @@ impl Table {
     {
         Ok(Table {
             version: self.version,
-            holds: self.holds.clone()?,
-            waits: self.waits.clone()?,
-            claimed: self.claimed.clone()?,
+            holds: self.holds.copy()?,
+            waits: self.waits.copy()?,
+            claimed: self.claimed.copy()?,
             made: self.made,
-            over: self.over.clone()?,
+            over: self.over.copy()?,
         })
     }
 

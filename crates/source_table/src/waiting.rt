@@ -37,7 +37,7 @@ impl Table {
         ensures { OnOk result
             (Allows process (Waits condition) (table_of self.old) (table_of self.new)) }
     {
-        let _old = self.waits.insert(process, condition)?;
+        self.waits.insert(process, condition)?;
         self.put_hold(condition.monitor, Hold::Free)
     }
 
@@ -56,7 +56,7 @@ impl Table {
             → Contains v.items q ↔ ((table_of self.now).waits q ≡ Some condition)) }
     {
         let mut waiting = Vec::new(alloc);
-        for (process, waits) in self.waits.iter() {
+        for (process, waits) in self.waits.entries() {
             if *waits == condition {
                 waiting.push(*process)?;
             }
@@ -95,7 +95,7 @@ impl Table {
             (((q : ℕ) → (table_of self.now).waits q ≡ Some condition → Contains resumed.now q)
             → ⊥) }
     {
-        for (process, waits) in self.waits.iter() {
+        for (process, waits) in self.waits.entries() {
             if !is_named(*process, *waits, condition, resumed) {
                 return false;
             }
@@ -109,7 +109,7 @@ impl Table {
             ≡ record (table_of self.old) { waits = without_waiters resumed.now (table_of self.old).waits } }
     {
         for process in resumed {
-            let _was = self.waits.remove(process);
+            self.waits.remove(*process);
         }
     }
 
@@ -155,7 +155,7 @@ impl Table {
         if !self.waits_on(process, condition) {
             return false;
         }
-        let _was = self.waits.remove(&process);
+        self.waits.remove(process);
         true
     }
 
@@ -169,7 +169,7 @@ impl Table {
             return false;
         }
         self.let_go(resumed);
-        let _was = self.waits.remove(&process);
+        self.waits.remove(process);
         true
     }
 }

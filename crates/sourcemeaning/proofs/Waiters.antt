@@ -6,7 +6,8 @@ use Rattle.std.proofs.lemmas.Grind.{common_steps}
 use Rattle.std.proofs.lemmas.List.Elements.{All-contains, filter_passes}
 use Rattle.std.proofs.lemmas.List.Kept.{IsStrictlyIncreasing-filter}
 use Rattle.std.proofs.lemmas.Map.Views.{Contains-keys_from_lookup}
-use Rattle.std.specs.BTreeMap.{is_at, keys}
+use Rattle.std.specs.BTreeMap.{is_at}
+use Rattle.std.specs.Map.{keys_of}
 use Rattle.std.specs.Prelude.{IsSome}
 use Rattle.program.specs.declared.kinds.Member.{Member}
 use Rattle.meaning.proofs.Rising.{numbers, numbers_all, numbers_rise}
@@ -62,13 +63,13 @@ at_most_all (x ∷ xs) q (suc k, l, e) = let most = at_most_all xs q (k, omega (
 
 -- the numbers up to all that are keys, of which those that wait are kept
 abbrev candidates : TableOf → List ℕ
-candidates t = numbers (suc (total (keys t.waits))) 0
+candidates t = numbers (suc (total (keys_of t.waits))) 0
 
 among : (t : TableOf) (c : Member) (q : ℕ) → waits_in t.waits q ≡ Some c → Contains (candidates t) q
 among t c q w =
-    let most = at_most_all (keys t.waits) q (Contains-keys_from_lookup {eq = λ x y. is_at (nat_cmp x) y} exact q
-    t.waits.entries (some_is (waits_in t.waits q) c w)) in
-    numbers_all (suc (total (keys t.waits))) 0 q (omega arith) (omega (arith, most))
+    let most = at_most_all (keys_of t.waits) q (Contains-keys_from_lookup {eq = λ x y. is_at (nat_cmp x) y} exact q
+    t.waits (some_is (waits_in t.waits q) c w)) in
+    numbers_all (suc (total (keys_of t.waits))) 0 q (omega arith) (omega (arith, most))
 
 pub has_waiters : (t : TableOf) → HasWaiters (table_of t)
 has_waiters t = λ c. (
@@ -81,5 +82,5 @@ has_waiters t = λ c. (
         (filter_passes (λ r. is_on c (waits_in t.waits r)) (candidates t)) h),
   )),
   IsStrictlyIncreasing-filter (λ q. is_on c (waits_in t.waits q)) (candidates t)
-      (numbers_rise (suc (total (keys t.waits))) 0),
+      (numbers_rise (suc (total (keys_of t.waits))) 0),
 )

@@ -1,6 +1,6 @@
 use crate::failure::Failure;
 use buckets::ThreadList;
-use futexcalls::{Requeued, WaitAnswer};
+use futexcalls::{FutexLists, WaitAnswer};
 use words::Addr;
 
 /// What a call answers.
@@ -19,7 +19,7 @@ pub enum Answer {
     /// Whether a thread sleeps.
     Waited(WaitAnswer),
     /// Those woken and those moved, or none where the word differs.
-    Requeued(Option<Requeued>),
+    Requeued(Option<FutexLists>),
 }
 
 /// Prints an answer.

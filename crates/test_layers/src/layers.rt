@@ -1,8 +1,8 @@
 use crate::answer::Answer;
 use crate::failure::Failure;
 use crate::walk::walk;
-use buckets::Buckets;
-use futexcalls::{cmp_requeue, wait, wake};
+use buckets::{Buckets, ThreadList};
+use futexcalls::{FutexLists, cmp_requeue, wait, wake};
 use std::alloc::Global;
 use std::marker::Model;
 use words::{Addr, MOST_THREADS, Mem};
@@ -57,9 +57,15 @@ impl Layers {
         let numbers = numbers(alloc, text)?;
         match numbers.as_slice() {
             [a] => self.call_one(alloc, name, *a),
-            [a, b] => self.call_two(name, *a, *b),
-            [a, b, c] => self.call_three(name, *a, *b, *c),
-            [a, b, wake, moves, expected] => self.requeue(name, *a, *b, *wake, *moves, *expected),
+            [a, b] => self.call_two(alloc, name, *a, *b),
+            [a, b, c] => self.call_three(alloc, name, *a, *b, *c),
+            [a, b, wake, moves, expected] if name == "requeue" => self.requeue(
+                alloc,
+                [*a, *b],
+                *wake,
+                *moves,
+                *expected,
+            ),
             _ => Err(Failure::Row),
         }
     }
@@ -68,29 +74,36 @@ impl Layers {
         match name {
             "buckets" => self.renew(alloc, a),
             "load" => self.load(a),
-            "exit" => self.exit(a),
+            "exit" => self.exit(alloc, a),
             "asleep" => self.asleep(a),
             "drop" => self.drop_out(a),
-            "list" => self.list(a),
+            "list" => self.list(alloc, a),
             _ => Err(Failure::Row),
         }
     }
 
-    fn call_two(&mut self, name: &str, a: u32, b: u32) -> Result<Answer, Failure> {
+    fn call_two(&mut self, alloc: Global, name: &str, a: u32, b: u32) -> Result<Answer, Failure> {
         match name {
             "store" => self.store(a, b),
             "swap" | "or" | "add" => self.replace(name, a, b),
             "sleep" => self.sleep(a, b),
-            "take" => Ok(Answer::Threads(self.buckets.take(Addr(a), b))),
-            "wake" => Ok(Answer::Threads(wake(&mut self.buckets, Addr(a), b).threads)),
+            "take" => self.take(alloc, a, b),
+            "wake" => self.wake(alloc, a, b),
             _ => Err(Failure::Row),
         }
     }
 
-    fn call_three(&mut self, name: &str, a: u32, b: u32, c: u32) -> Result<Answer, Failure> {
+    fn call_three(
+        &mut self,
+        alloc: Global,
+        name: &str,
+        a: u32,
+        b: u32,
+        c: u32,
+    ) -> Result<Answer, Failure> {
         match name {
             "compare_swap" => self.compare_swap(a, b, c),
-            "shift" => Ok(Answer::Threads(self.buckets.shift(Addr(a), Addr(b), c))),
+            "shift" => self.shift(alloc, a, b, c),
             "wait" => self.wait(a, b, c),
             _ => Err(Failure::Row),
         }
@@ -158,16 +171,28 @@ impl Layers {
         Ok(Answer::Done)
     }
 
-    fn list(&self, a: u32) -> Result<Answer, Failure> {
-        let mut threads = self.buckets.nobody();
-        for i in 0..self.buckets.sleepers(Addr(a)) {
-            if let Some(t) = self.buckets.sleeper(Addr(a), i)
-                && threads.len() < MOST_THREADS as usize
-            {
-                threads.push(t);
-            }
-        }
+    fn list(&self, alloc: Global, a: u32) -> Result<Answer, Failure> {
+        let mut threads = ThreadList::new(alloc)?;
+        self.buckets.sleepers(Addr(a), &mut threads);
         Ok(Answer::Threads(threads))
+    }
+
+    fn take(&mut self, alloc: Global, a: u32, n: u32) -> Result<Answer, Failure> {
+        let mut taken = ThreadList::new(alloc)?;
+        self.buckets.take(Addr(a), n, &mut taken);
+        Ok(Answer::Threads(taken))
+    }
+
+    fn shift(&mut self, alloc: Global, a: u32, b: u32, n: u32) -> Result<Answer, Failure> {
+        let mut moved = ThreadList::new(alloc)?;
+        self.buckets.shift(Addr(a), Addr(b), n, &mut moved);
+        Ok(Answer::Threads(moved))
+    }
+
+    fn wake(&mut self, alloc: Global, a: u32, n: u32) -> Result<Answer, Failure> {
+        let mut woken = ThreadList::new(alloc)?;
+        wake(&mut self.buckets, Addr(a), n, &mut woken);
+        Ok(Answer::Threads(woken))
     }
 
     fn wait(&mut self, t: u32, a: u32, expected: u32) -> Result<Answer, Failure> {
@@ -182,20 +207,17 @@ impl Layers {
 
     fn requeue(
         &mut self,
-        name: &str,
-        a: u32,
-        b: u32,
+        alloc: Global,
+        [a, b]: [u32; 2],
         wake: u32,
         moves: u32,
         expected: u32,
     ) -> Result<Answer, Failure> {
-        if name != "requeue" {
-            return Err(Failure::Row);
-        }
         if a as usize >= WORDS {
             return Err(Failure::Outside);
         }
-        let both = cmp_requeue(
+        let mut lists = FutexLists::new(alloc)?;
+        let requeued = cmp_requeue(
             &self.mem,
             &mut self.buckets,
             Addr(a),
@@ -203,14 +225,16 @@ impl Layers {
             wake,
             moves,
             expected,
+            &mut lists,
         );
-        Ok(Answer::Requeued(both.ok()))
+        Ok(Answer::Requeued(requeued.is_ok().then_some(lists)))
     }
 
-    fn exit(&mut self, t: u32) -> Result<Answer, Failure> {
+    fn exit(&mut self, alloc: Global, t: u32) -> Result<Answer, Failure> {
         if t == 0 || t > MOST_THREADS {
             return Err(Failure::Outside);
         }
-        Ok(Answer::Steps(walk(&mut self.mem, &mut self.buckets, t)))
+        let mut woken = ThreadList::new(alloc)?;
+        Ok(Answer::Steps(walk(&mut self.mem, &mut self.buckets, t, &mut woken)))
     }
 }

@@ -2,15 +2,15 @@ ghost use Rattle.std.specs.Prelude.{◌≡◌, ◌<◌, ◌≤◌, length};
 ghost use Rattle.words.specs.Process.{process_word};
 ghost use Rattle.buckets.specs.Sleepers.{thread_count};
 
-use buckets::Buckets;
+use buckets::{Buckets, ThreadList};
 use robustexit::{ExitPhase, exit_step, first_phase};
 use words::{MOST_THREADS, Mem};
 
 // More steps than any exit takes.
 const MOST_STEPS: u32 = 5000;
 
-/// Takes the steps of the exit of thread `t`, and answers how many they were.
-pub fn walk(mem: &mut Mem, buckets: &mut Buckets, t: u32) -> u32
+/// Takes the steps of the exit of thread `t`, and answers how many they were. Each writes into `woken` whom it woke.
+pub fn walk(mem: &mut Mem, buckets: &mut Buckets, t: u32, woken: &mut ThreadList) -> u32
     requires thread { (0 < t) × (t ≤ MOST_THREADS) }
     requires block { process_word t 5 < length mem.old }
     ensures words { length mem.new ≡ length mem.old }
@@ -21,8 +21,7 @@ pub fn walk(mem: &mut Mem, buckets: &mut Buckets, t: u32) -> u32
         if phase == ExitPhase::Ended {
             return step;
         }
-        let (next, _woken) = exit_step(mem, buckets, t, phase);
-        phase = next;
+        phase = exit_step(mem, buckets, t, phase, woken);
     }
     MOST_STEPS
 }

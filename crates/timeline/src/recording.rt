@@ -6,6 +6,7 @@ use crate::track::{Gate, Track, gates};
 use program::Checked;
 use source_states::{Action, ActionKind, SourceState};
 use std::alloc::{AllocError, Global};
+use words::ImageVersion;
 
 /// A run while it is recorded.
 #[derive(Drop)]
@@ -240,7 +241,7 @@ pub fn timeline(
         handovers: handovers(alloc, names, actions)?,
         slices: Vec::new(alloc),
     };
-    let mut state = SourceState::opening(alloc, checked)?;
+    let mut state = SourceState::opening(alloc, checked, ImageVersion::One)?;
     recording.record_all(checked, actions, &mut state)?;
     recording.cut_all()?;
     recording.tape.finish()?;

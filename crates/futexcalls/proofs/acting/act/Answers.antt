@@ -6,15 +6,15 @@ use Rattle.futexcalls.proofs.acting.act.Goals as goal
 pub give_up-requires : goal.give_up-requires
 give_up-requires c =
     let s = c.args.buckets.now in
-    let mid = c.act_on_sleepers-acted.new.buckets in
-    let e = c.act_on_sleepers-acted.ensures.holders in
+    let mid = c.act_on_sleepers.new.buckets in
+    let e = c.act_on_sleepers.ensures.holders in
     record { held = λ k h. rw (same_holders s mid e) (c.requires.held k (rw (same_count s mid e) at h)) }
 
 pub returns-clause-piece : goal.returns-clause-piece
 returns-clause-piece c =
     let s = c.args.buckets.now in
-    let mid = c.act_on_sleepers-acted.new.buckets in
-    let a = c.act_on_sleepers-acted.ensures in
+    let mid = c.act_on_sleepers.new.buckets in
+    let a = c.act_on_sleepers.ensures in
     let g = c.give_up.ensures.holders in
     record {
       acts = rw g.places a.acts;
@@ -27,4 +27,4 @@ returns-clause-piece c =
 pub returns-clause-count : goal.returns-clause-count
 returns-clause-count c =
     c.give_up.ensures.count
-    ∙ same_count c.args.buckets.now c.act_on_sleepers-acted.new.buckets c.act_on_sleepers-acted.ensures.holders
+    ∙ same_count c.args.buckets.now c.act_on_sleepers.new.buckets c.act_on_sleepers.ensures.holders

@@ -28,7 +28,7 @@ returns-clause-step c =
     inl (
       found.1,
       IsOwned other (rw (← found.0) (abandons c.args.t c.in-Some.lock.0 words c.abandon.new.mem
-          c.args.buckets.now c.abandon.new.buckets c.abandon.result.threads (omega (arith, found.0, found.1.1)) owned
+          c.args.buckets.now c.abandon.new.buckets c.abandon.new.woken (omega (arith, found.0, found.1.1)) owned
           c.abandon.ensures.marks c.abandon.ensures.wakes)),
       next,
     )

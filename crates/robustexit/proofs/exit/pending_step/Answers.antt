@@ -17,7 +17,7 @@ returns-then-tid-t-clause-step c =
     let owned : owner_of (word_of words c.in-Some.lock.0) ≡ c.args.t = ap owner_of (word-got words c.in-Some.lock.0
     c.load-2.result c.load-2.ensures) ∙ sym c.tid.ensures ∙ c.if-tid-t.true in
     rw pending (IsOwned found.1 (rw (← found.0) (abandons c.args.t c.in-Some.lock.0 words c.abandon.new.mem
-    c.args.buckets.now c.abandon.new.buckets c.abandon.result.threads (omega (arith, found.0, found.1.1)) owned
+    c.args.buckets.now c.abandon.new.buckets c.abandon.new.woken (omega (arith, found.0, found.1.1)) owned
     c.abandon.ensures.marks c.abandon.ensures.wakes)))
 
 pub returns-then-tid-t-clause-front : goal.returns-then-tid-t-clause-front
@@ -27,7 +27,7 @@ returns-then-tid-t-clause-front c =
     ∙ word-got words c.block.result.0 c.load.result c.load.ensures in
     let a = c.abandon.ensures in
     rw (pending, ← c.in-Some.ensures.found.0) (takes-front c.args.buckets.now c.abandon.new.buckets c.in-Some.lock.0
-    _ c.abandon.result.threads a.woken a.rest a.others)
+    _ c.abandon.new.woken a.woken a.rest a.others)
 
 pub returns-else-tid-t-clause-step : goal.returns-else-tid-t-clause-step
 returns-else-tid-t-clause-step c =
@@ -47,4 +47,4 @@ returns-else-tid-t-clause-front c =
     ∙ word-got words c.block.result.0 c.load.result c.load.ensures in
     let w = c.wake.ensures in
     rw (pending, ← c.in-Some.ensures.found.0) (takes-front c.args.buckets.now c.wake.new.buckets c.in-Some.lock.0 1
-    c.wake.result.threads w.woken w.rest w.others)
+    c.wake.new.woken w.woken w.rest w.others)

@@ -6,12 +6,12 @@ use Rattle.buckets.proofs.Moves.{Moved-none, Moved-more, Moved-next, Moved-all}
 use Rattle.buckets.proofs.buckets.Buckets.shift.Goals as goal
 
 pub loop-t-init : goal.loop-t-init
-loop-t-init c = Moved-none _ _ _ c.take-moved.ensures.sound.1
+loop-t-init c = Moved-none _ _ _ c.take.ensures.sound.1
 
 pub enqueue-requires : goal.enqueue-requires
 enqueue-requires c =
-    let t = c.take-moved.ensures in
-    let n = Moved-next c.args.self.now c.take-moved.new.self c.loop-t.self c.as_slice-t-items.result.now c.args.a.0
+    let t = c.take.ensures in
+    let n = Moved-next c.args.self.now c.take.new.self c.loop-t.self c.as_slice-t-items.result.now c.args.a.0
     c.args.b.0 c.args.n c.loop-t.t-index _ t.sound.0 (c.as_slice-t-items.ensures ∙ t.taken)
     (rw c.as_slice-t-items.ensures t.places) t.threads c.loop-t.invariant c.loop-t-test.true
     (get_or_default c.as_slice-t-items.result.now c.loop-t.t-index 0 _ c.loop-t-test.true) in
@@ -20,17 +20,17 @@ enqueue-requires c =
 pub loop-t-preserved : goal.loop-t-preserved
 loop-t-preserved c =
     let e = c.enqueue.ensures in
-    Moved-more c.take-moved.new.self c.loop-t.self c.enqueue.new.self c.as_slice-t-items.result.now c.args.b.0
+    Moved-more c.take.new.self c.loop-t.self c.enqueue.new.self c.as_slice-t-items.result.now c.args.b.0
     c.loop-t.t-index (get_or c.as_slice-t-items.result.now c.loop-t.t-index 0) c.loop-t.invariant
     c.loop-t-test.true (get_or_default c.as_slice-t-items.result.now c.loop-t.t-index 0 _ c.loop-t-test.true)
     e.last e.others e.places e.holders e.threads e.sound.1
 
 pub returns : goal.returns
 returns c =
-    let t = c.take-moved.ensures in
+    let t = c.take.ensures in
     let m = rw c.as_slice-t-items.ensures at c.loop-t.invariant in
-    let l : length c.take-moved.result ≤ c.loop-t.t-index = rw c.as_slice-t-items.ensures at c.loop-t-test.false in
-    let w = Moved-all c.args.self.now c.take-moved.new.self c.loop-t.self c.take-moved.result c.args.a.0 c.args.b.0
+    let l : length c.take.new.taken ≤ c.loop-t.t-index = rw c.as_slice-t-items.ensures at c.loop-t-test.false in
+    let w = Moved-all c.args.self.now c.take.new.self c.loop-t.self c.take.new.taken c.args.a.0 c.args.b.0
     c.args.n c.loop-t.t-index c.if-a-b.false (record {
       taken = t.taken;
       rest = t.rest;

@@ -1,5 +1,5 @@
 -- The threads on the address stand in the chain of its bucket.
-use Rattle.std.proofs.Common.{◌≡◌, ◌%◌, ◌-◌, length, ap, ◌∙◌, arith}
+use Rattle.std.proofs.Common.{◌≡◌, ◌%◌, ◌-◌, length, take, ap, ◌∙◌, arith}
 use Rattle.slab.specs.Slab.{get}
 use Rattle.buckets.specs.Chains.{row_of}
 use Rattle.buckets.proofs.Queues.{on}
@@ -28,9 +28,10 @@ returns c =
     ∙ ap (λ n. c.args.a.0 % n) (omega arith) in
     let most : c.len-2.result - 1 ≡ length b.places.items - 1 = omega arith in
     rw (← c.self.view_is) (record {
-      value = c.threads_on.ensures ∙ ap (λ m. on c.args.a.0 (row_of (get b.nodes) m c.index.result.now)) most
+      value = c.threads_on.ensures ∙ ap (take c.args.n)
+          (ap (λ m. on c.args.a.0 (row_of (get b.nodes) m c.index.result.now)) most
           ∙ queue_in b.nodes b.chains.items b.places.items b.holders.items c.args.a.0 c.bucket_of-bucket.result
           c.index.result.now
-          c.self.invariant ek c.index.ensures;
+          c.self.invariant ek c.index.ensures);
       sound = sound_in b.nodes b.chains.items b.places.items b.holders.items c.self.invariant;
     })

@@ -25,9 +25,9 @@ returns-clause-gives c = λ made t.
     ap (λ v. serve made t (AskRequeue c.args.a.0 c.args.b.0 c.args.wake c.args.moves c.args.expected) (common v))
     (sym c.self.view_is)
     ∙ requeue_gives c.self.inside.words c.self.inside.buckets c.cmp_requeue.new.buckets c.self.inside.output.items
-    c.args.a.0 c.args.b.0 c.args.wake c.args.moves c.args.expected c.in-Ok.requeued.woken c.in-Ok.requeued.moved
+    c.args.a.0 c.args.b.0 c.args.wake c.args.moves c.args.expected c.cmp_requeue.new.lists.woken c.cmp_requeue.new.lists.moved
     c.count-count.result c.put_with.new.self
     c.in_ok-check_address.ensures.inside c.in_ok-check_address-2.ensures.inside r.call r.woken r.moved r.rest r.last
-    r.others c.count-count.ensures
+    r.others c.cmp_requeue.ensures.threads c.count-count.ensures
     (c.put_with.ensures ∙
     (λ i. event_of name.Requeue c.count-count.result (c.as_slice-woken.ensures i) (c.as_slice-moved.ensures i)))

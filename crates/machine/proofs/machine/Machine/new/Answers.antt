@@ -1,5 +1,6 @@
 -- The parts are those of the opening.
-use Rattle.std.proofs.Common.{◌≡◌, ap, ◌∙◌, arith}
+use Rattle.std.proofs.Common.{◌≡◌, ◌≤◌, ap, ◌∙◌, arith}
+use Rattle.words.specs.Limits.{most_threads}
 use Rattle.words.specs.Versions.{most_of}
 use Rattle.machine.specs.States.{opening_concrete}
 use Rattle.machine.specs.Views.{concrete_of, parts_of}
@@ -14,11 +15,15 @@ returns-clause-opening c =
     let threads = c.in_ok-opening_threads.field-0.items in
     ap (concrete_of v.words v.sleepers threads) e.output
     ∙ opened c.args.image.now v.words v.sleepers threads e.words e.empty e.awake
-    c.in_ok-opening_threads.ensures.threads c.in_ok-opening_threads.ensures.first
+    c.in_ok-opening_threads.ensures.threads e.threads
 
 pub invariant_of-result : goal.invariant_of-result
 invariant_of-result c =
     let is : parts_of c.in_ok-new.field-0 c.in_ok-opening_threads.field-0.items
     ≡ opening_concrete c.args.image.now = returns-clause-opening c in
-    let version : most_of c.args.image.now.version ≡ 64 = ap most_of c.in_ok-opening_threads.ensures.first in
-    (rw (c.in_ok-copy.ensures, is) ((opens_so c.args.image.now).1 (omega (arith, version))), c.in_ok-opening_threads.ensures.space)
+    let most = c.in_ok-new.ensures.threads in
+    let few = c.in_ok-new.ensures.few in
+    let fits : most_of c.args.image.now.version ≤ most_threads = omega (arith, most, few) in (
+      rw (c.in_ok-copy.ensures, is) ((opens_so c.args.image.now).1 fits),
+      rw c.in_ok-copy.ensures c.in_ok-opening_threads.ensures.space,
+    )

@@ -36,7 +36,7 @@ invariant_of-self c =
     subst (λ (q : View). MakesCall q c.args.t c.args.call) (sym c.self.view_is) c.requires.makes in (
       well_so v v' c.args.t c.args.call c.args.phase c.call_piece.result c.call_piece.new.event makes
           c.self.invariant.0
-          (record { words = p.words; output = p.output; count = p.count }) refl p.sound p.piece,
+          (record { words = p.words; output = p.output; count = p.count; most = p.threads }) refl p.sound p.piece,
       c.self.invariant.1,
     )
 
@@ -70,7 +70,7 @@ returns-in-Next-clause-piece c =
     c.call_piece.new.event v')
     c.self.view_is
     (next_so v v' c.args.t c.args.call c.args.phase c.in-Next.next c.call_piece.new.event makes lies
-    (record { words = p.words; output = p.output; count = p.count }) refl c.in-Next.ensures.piece)
+    (record { words = p.words; output = p.output; count = p.count; most = p.threads }) refl c.in-Next.ensures.piece)
 
 pub returns-in-Blocked-clause-piece : goal.returns-in-Blocked-clause-piece
 returns-in-Blocked-clause-piece c =
@@ -99,7 +99,7 @@ returns-in-Blocked-clause-piece c =
     c.call_piece.new.event v')
     c.self.view_is
     (blocked_so v v' c.args.t c.args.call c.args.phase c.call_piece.new.event makes lies
-    (record { words = p.words; output = p.output; count = p.count }) refl refl
+    (record { words = p.words; output = p.output; count = p.count; most = p.threads }) refl refl
     (λ same. λ i. record v {
       words = p.words i;
       sleepers = same i;
@@ -163,7 +163,7 @@ invariant_of-self-in-Done c =
     subst (λ (q : View). MakesCall q c.args.t c.args.call) (sym c.self.view_is) c.requires.makes in (
       well_so v v' c.args.t c.args.call c.args.phase c.call_piece.result c.call_piece.new.event makes
           c.self.invariant.0
-          (record { words = p.words; output = p.output; count = p.count })
+          (record { words = p.words; output = p.output; count = p.count; most = p.threads })
           (length-set v.threads (c.args.t - 1) c.go_on.new.self) p.sound p.piece,
       c.self.invariant.1,
     )
@@ -208,7 +208,7 @@ returns-in-Done-clause-piece c =
     c.call_piece.new.event v')
     c.self.view_is
     (done_so v v' c.args.t c.args.call c.args.phase answer c.call_piece.new.event makes lies
-    (record { words = p.words; output = p.output; count = p.count })
+    (record { words = p.words; output = p.output; count = p.count; most = p.threads })
     (ap (slice_set v.threads (c.args.t - 1)) went) c.in-Done.ensures.piece)
 
 pub returns-in-Next-clause-order : goal.returns-in-Next-clause-order

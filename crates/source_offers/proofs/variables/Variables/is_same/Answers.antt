@@ -1,6 +1,6 @@
-use Rattle.std.proofs.Common.{◌≡◌, ap}
+use Rattle.std.proofs.Common.{◌≡◌, ap, sym, ◌∙◌}
 use Rattle.std.proofs.lemmas.Bool.Decides.{Decides-and, Decides-eqb, Decides-int_eq, Decides-like}
-use Rattle.std.proofs.lemmas.Map.Lookups.{btree_map_eq-Decides}
+use Rattle.sorted_map.proofs.Entries.{same_entries}
 use Rattle.std.specs.Bool.{Decides}
 use Rattle.std.specs.BTreeMap.{is_at}
 use Rattle.std.specs.Map.{lookup}
@@ -22,5 +22,5 @@ same_place a b =
 pub returns : goal.returns
 returns c = λ same.
     ap (λ es m n i. or_zero (lookup (is_at (place_cmp (record { monitor = m; member = n; index = i }))) es))
-    ((btree_map_eq-Decides same_place Decides-int_eq c.args.self.now.values c.args.other.now.values c.eq.result
-    c.eq.ensures).0 same)
+    (same_entries (λ a b. (same_place a b).0) (λ a b. (Decides-int_eq a b).0) c.args.self.now.values
+    c.args.other.now.values (sym c.eq.ensures ∙ same))

@@ -26,13 +26,14 @@ returns-in-Own-Does c =
     let is : c.in_ok-label.field-0 ≡ Own (Does c.in-Own-Does.label c.in-Own-Does.effect) = cc in
     let some : is_some (internal_kind (offer p s.variable before) s.table) ≡ true =
     sym (c.is_internal.ensures (offer p s.variable before) c.look_ahead.ensures) ∙ search rules in
-    subst (λ k. IsInternalTaken p c.args.number (Some k) s (state_of c.perform.new.self)) (sym c.named.ensures)
-    (does p s (state_of c.perform.new.self) c.args.number before
+    IfOk-weaker c.perform_named.result _ _ (λ o h.
+    subst (λ k. IsInternalTaken p c.args.number k s (state_of c.perform_named.new.self)) (sym h.0)
+    (does p s (state_of c.perform_named.new.self) c.args.number before
     (ap (option_map process_of) (sym c.in-Some.ensures.value))
     some (label_of c.in-Own-Does.label) (effect_of c.in-Own-Does.effect) (process_of q) (processes_in after)
     (sym (ap (λ o. offer_of p o q) is) ∙ c.in_ok-label.ensures)
     (put_at (option_map process_of) c.args.self.now.processes after c.args.number (Some q) at.0)
-    (c.in_ok-perform-in-Own-Does.ensures (process_of q) (ap (option_map process_of) at.1)))
+    (h.1 (process_of q) (ap (option_map process_of) at.1)))) c.perform_named.ensures
 
 pub returns-in-Own-Makes : goal.returns-in-Own-Makes
 returns-in-Own-Makes c =

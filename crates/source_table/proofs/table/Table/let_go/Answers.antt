@@ -7,7 +7,7 @@ use Rattle.source_table.proofs.table.Table.let_go.Goals as goal
 pub loop-process-preserved : goal.loop-process-preserved
 loop-process-preserved c =
     ap (λ w. record (table_of c.loop-process.self) { waits = w })
-    (let_go_one c.args.resumed.now c.loop-process.process-index _ c.loop-process.self.waits c.remove-was.new.self
+    (let_go_one c.args.resumed.now c.loop-process.process-index _ c.loop-process.self.waits c.remove.new.self
     (drop_more c.args.resumed.now c.loop-process.process-index _ c.loop-process-test.true)
-    c.remove-was.ensures.updates.0)
+    c.remove.ensures)
     ∙ c.loop-process.invariant

@@ -1,10 +1,11 @@
 use Rattle.std.proofs.Common.{◌-◌, ◌≡◌, ◌≤◌, Some}
 use Rattle.locals.specs.Steps.{local_after}
-use Rattle.locals.proofs.local.Local.run.Given as goal
+use Rattle.locals.specs.Views.{running, running_at}
+use Rattle.locals.proofs.activation.Activation.run.Given as goal
 
 abbrev pub invariant-loop-count : goal.invariant-loop-count
 invariant-loop-count l = record {
-  reached : local_after l.image l.t l.count l.fn.self ≡ Some l.self;
+  reached : local_after l.image l.t l.count (running l.fn.self) ≡ Some (running_at l.place l.self);
   within : l.count ≤ l.budget;
 }
 

@@ -1,6 +1,0 @@
-use Rattle.std.proofs.Common.{◌≡◌, take}
-use Rattle.machine.specs.ThreadSets.{bits_of}
-use Rattle.machine.proofs.thread_set.ThreadSet.of.Given as goal
-
-abbrev pub invariant-loop-t : goal.invariant-loop-t
-invariant-loop-t l = l.bits ≡ bits_of (take l.t-index l.threads)

@@ -1,0 +1,3 @@
+mod Finding
+mod Changing
+pub mod Entries

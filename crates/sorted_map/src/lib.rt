@@ -1,0 +1,127 @@
+//! A map of few keys as a flat list, the keys rising: a copy is one allocation and one move, a comparison one pass.
+#![tactic(auto)]
+
+ghost use Rattle.std.specs.Prelude.{◌≡◌, ◌&&◌, [], IfOk, MatchResult, None, OnErr, OnOk, Some};
+ghost use Rattle.std.specs.Cmp.Lexicographic.{pointwise, lists_equiv, lists_per};
+ghost use Rattle.std.specs.Cmp.{and_equiv, and_per, on_equiv, on_per};
+ghost use Rattle.sorted_map.specs.Maps.{get, IsFoundAt, IsGapAt, IsOrdered, Updates};
+
+use std::alloc::{AllocError, Global};
+use std::marker::Model;
+
+/// A map whose keys and values are small. Contracts see it as its entries, the keys rising, and ask it by `get`.
+#[derive(Drop)]
+pub struct SortedMap<K: Copy + Ord, V: Copy> {
+    entries: Vec<(K, V)>,
+}
+
+impl<K: Copy + Ord, V: Copy> Model for SortedMap<K, V> {
+    ghost use Rattle.std.specs.Prelude.{List};
+    ghost use Rattle.sorted_map.specs.Maps.{IsOrdered};
+
+    ghost Value = { List (K × V) };
+
+    ghost view = { λ m. m.entries.items };
+
+    ghost invariant = { λ m. IsOrdered K.cmp m.entries.items };
+}
+
+impl<K: Copy + Ord, V: Copy> SortedMap<K, V> {
+    /// A map with nothing in it.
+    pub fn new(alloc: Global) -> SortedMap<K, V>
+        ensures { result ≡ [] }
+    {
+        SortedMap {
+            entries: Vec::new(alloc),
+        }
+    }
+
+    // Where the key is, or where it would go.
+    fn find(&self, key: K) -> Result<usize, usize>
+        ensures { MatchResult result (IsFoundAt K.cmp key self.now) (IsGapAt K.cmp key self.now) }
+    {
+        self.entries.binary_search_by_key(&key, |entry| entry.0)
+    }
+
+    /// The value at a key.
+    pub fn get(&self, key: K) -> Option<V>
+        ensures { result ≡ get K.cmp self.now key }
+    {
+        match self.find(key) {
+            Ok(place) => Some(self.entries[place].1),
+            Err(_) => None,
+        }
+    }
+
+    /// The keys with their values, by rising keys.
+    pub fn entries(&self) -> &[(K, V)]
+        ensures all { result.now ≡ self.now }
+        ensures ordered { IsOrdered K.cmp self.now }
+    {
+        &self.entries
+    }
+
+    /// Puts a value at a key, in place of what was there.
+    pub fn insert(&mut self, key: K, value: V) -> Result<(), AllocError>
+        ensures ok { OnOk result (Updates K.cmp self.old self.new key (Some value)) }
+        ensures err { OnErr result (self.new ≡ self.old) }
+    {
+        match self.find(key) {
+            Ok(place) => {
+                self.entries[place] = (key, value);
+                Ok(())
+            }
+            Err(place) => Ok(self.entries.insert(place, (key, value))?),
+        }
+    }
+
+    /// Takes a key out, where it is there.
+    pub fn remove(&mut self, key: K)
+        ensures { Updates K.cmp self.old self.new key None }
+    {
+        if let Ok(place) = self.find(key) {
+            let _entry = self.entries.remove(place);
+        }
+    }
+
+    /// The same map once more.
+    pub fn copy(&self) -> Result<SortedMap<K, V>, AllocError>
+        ensures { IfOk result (λ m. m ≡ self.now) }
+    {
+        Ok(SortedMap {
+            entries: Vec::from_slice(*self.entries.allocator(), &self.entries)?,
+        })
+    }
+}
+
+impl<K: Copy + Ord, V: Copy + PartialEq> PartialEq for SortedMap<K, V> {
+    ghost eq = { pointwise (λ p q. K.eq p.0 q.0 && V.eq p.1 q.1) };
+
+    ghost laws = { lists_per (and_per (on_per (λ p. p.0) K.PartialEq.laws) (on_per (λ p. p.1) V.laws)) };
+
+    fn eq(&self, other: &SortedMap<K, V>) -> bool {
+        self.entries == other.entries
+    }
+}
+
+#[cfg(test)]
+mod tests {
+    use super::*;
+    use std::test::Fail;
+
+    #[test]
+    fn the_keys_rise_and_the_last_value_stays(rt: HostRuntime) -> Result<(), Fail> {
+        let mut map = SortedMap::new(rt.alloc());
+        for (key, value) in [(7_u32, 1_u64), (4, 2), (9, 5), (7, 3)] {
+            map.insert(key, value)?;
+        }
+        map.remove(9);
+        map.remove(8);
+        assert_eq!(rt; map.entries(), [(4, 2), (7, 3)].as_slice());
+        assert_eq!(rt; map.get(7), Some(3));
+        assert_eq!(rt; map.get(9), None);
+        let other = map.copy()?;
+        assert!(rt; map == other);
+        Ok(())
+    }
+}
