@@ -1,6 +1,8 @@
 ghost use Rattle.std.specs.Prelude.{◌≡◌, ◌≤◌, map, MatchResult};
+ghost use Rattle.words.specs.declared.version.ImageVersion.TheVariants.{One};
 ghost use Rattle.isa.specs.Programs.{IsProgram};
 ghost use Rattle.program.specs.Names.{said_by};
+ghost use Rattle.program.specs.Trees.{as_version};
 ghost use Rattle.program.specs.WellFormed.{WellFormed};
 ghost use Rattle.lowering.specs.Layout.{layout_of};
 ghost use Rattle.codegen.specs.Generated.{piece_of, unlinked_pieces};
@@ -12,7 +14,7 @@ use crate::marking::collect_marks;
 use codegen::{CodePiece, generate};
 use codegen_workers::generate_with;
 use isa::Image;
-use layout::{Layout, place};
+use layout::{Layout, place_as};
 use linker::link;
 use lowering::Mark;
 use program::Checked;
@@ -20,7 +22,7 @@ use scanner::Refusal;
 use std::alloc::Global;
 use std::sync::Wait;
 use std::thread::Threads;
-use words::Gate;
+use words::{Gate, ImageVersion};
 
 /// What a checked program is lowered to.
 #[derive(Drop)]
@@ -47,16 +49,18 @@ fn image_is_within_limits(image: &Image)
     image.code();
 }
 
-// What a checked program with these pieces is lowered to.
+// What a checked program with this layout and these pieces is lowered to, for an image of the layout's version.
 fn assemble(
     alloc: Global,
     checked: &Checked,
     layout: Layout,
     pieces: Vec<CodePiece>,
 ) -> Result<Lowered, Refusal>
-    requires layout { layout ≡ layout_of (said_by checked.now) }
-    requires pieces { map piece_of pieces.items ≡ unlinked_pieces (said_by checked.now) }
-    ensures { let p = said_by checked.now in
+    requires layout { layout ≡ layout_of (as_version layout.version (said_by checked.now)) }
+    requires pieces { map piece_of pieces.items
+        ≡ unlinked_pieces (as_version layout.version (said_by checked.now)) }
+    requires first { layout.version ≡ One }
+    ensures { let p = as_version layout.version (said_by checked.now) in
         MatchResult result (λ lowered. IsLowered p lowered) (λ e. RefusesCode p e) }
 {
     checked_is_well_formed(checked);
@@ -77,7 +81,7 @@ pub fn lower(alloc: Global, checked: &Checked) -> Result<Lowered, Refusal>
     ensures { let p = said_by checked.now in
         MatchResult result (λ lowered. IsLowered p lowered) (λ e. RefusesCode p e) }
 {
-    let layout = place(alloc, checked)?;
+    let layout = place_as(alloc, checked, ImageVersion::One)?;
     let pieces = generate(alloc, checked, &layout)?;
     assemble(alloc, checked, layout, pieces)
 }
@@ -97,7 +101,7 @@ pub fn lower_with<R: Threads + Wait + Sync, G: Gate>(
     ensures { let p = said_by checked.now in
         MatchResult result (λ lowered. IsLowered p lowered) (λ e. RefusesCode p e) }
 {
-    let layout = place(alloc, checked)?;
+    let layout = place_as(alloc, checked, ImageVersion::One)?;
     let pieces = generate_with(rt, alloc, checked, &layout, workers, gate)?;
     assemble(alloc, checked, layout, pieces)
 }

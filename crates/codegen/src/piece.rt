@@ -1,5 +1,6 @@
 ghost use Rattle.std.specs.Prelude.{◌≡◌, ◌≤◌, ◌+◌, ◌++◌, OnOk, MatchResult, length};
 ghost use Rattle.isa.specs.Limits.{most_instructions};
+ghost use Rattle.program.specs.Trees.{as_version};
 ghost use Rattle.program.specs.Views.{program_of, procedure_of};
 ghost use Rattle.lowering.specs.Layout.{layout_of};
 ghost use Rattle.lowering.specs.Pieces as pieces;
@@ -75,7 +76,7 @@ fn text_end(site: &Site, code: &mut Vec<Marked>) -> Result<(), Refusal>
     Ok(())
 }
 
-/// The code of a procedure of this program, before it is linked. Places count from its first instruction, and calls name
+/// The code of a procedure of this program, before it is linked, for an image of the layout's version. Places count from its first instruction, and calls name
 /// pieces by their numbers.
 ///
 /// Code of more instructions than an image may have is `Limit` at 1:1.
@@ -85,9 +86,9 @@ pub fn procedure_code(
     program: &Program,
     layout: &Layout,
 ) -> Result<Vec<Marked>, Refusal>
-    requires { layout.now ≡ layout_of (program_of program.now) }
-    ensures { let made = pieces.unlinked_code (program_of program.now) (procedure_of procedure.now)
-        in
+    requires { layout.now ≡ layout_of (as_version layout.now.version (program_of program.now)) }
+    ensures { let made = pieces.unlinked_code
+        (as_version layout.now.version (program_of program.now)) (procedure_of procedure.now) in
         MatchResult result (λ v. v.items ≡ made) (λ e. Fails e (length made)) }
 {
     let site = Site {

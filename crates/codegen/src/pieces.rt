@@ -1,5 +1,6 @@
 ghost use Rattle.std.specs.Prelude.{◌≡◌, IfOk, IfErr, map};
 ghost use Rattle.program.specs.Names.{said_by};
+ghost use Rattle.program.specs.Trees.{as_version};
 ghost use Rattle.lowering.specs.Layout.{layout_of};
 ghost use Rattle.codegen.specs.Generated.{piece_of, unlinked_pieces, RefusesPieces};
 
@@ -10,8 +11,8 @@ use program::Checked;
 use scanner::Refusal;
 use std::alloc::Global;
 
-/// The pieces of a program, one for each procedure, by rising number. Their places count from their own beginning, and
-/// calls name pieces by their numbers.
+/// The pieces of a program, one for each procedure, by rising number, for an image of the layout's version. Their places
+/// count from their own beginning, and calls name pieces by their numbers.
 ///
 /// Code of more instructions than an image may have is `Limit` at 1:1.
 pub fn generate(
@@ -19,10 +20,11 @@ pub fn generate(
     checked: &Checked,
     layout: &Layout,
 ) -> Result<Vec<CodePiece>, Refusal>
-    requires { layout.now ≡ layout_of (said_by checked.now) }
+    requires { layout.now ≡ layout_of (as_version layout.now.version (said_by checked.now)) }
     ensures made { IfOk result (λ pieces. map piece_of pieces.items
-        ≡ unlinked_pieces (said_by checked.now)) }
-    ensures refusal { IfErr result (λ e. RefusesPieces (said_by checked.now) e) }
+        ≡ unlinked_pieces (as_version layout.now.version (said_by checked.now))) }
+    ensures refusal { IfErr result
+        (λ e. RefusesPieces (as_version layout.now.version (said_by checked.now)) e) }
 {
     let program = checked.program();
     let mut pieces = Vec::new(alloc);

@@ -6,8 +6,9 @@ use Rattle.std.specs.Global.{Global}
 use Rattle.std.specs.declared.thread.PromisedHandle.{PromisedHandle}
 use Rattle.scanner.specs.declared.refusal.Refusal.{Refusal}
 use Rattle.scanner.specs.Refusals.{out_of_memory}
+use Rattle.words.specs.declared.version.ImageVersion.{ImageVersion}
 use Rattle.program.specs.declared.unit.Program.{Program as ProgramOf}
-use Rattle.program.specs.Trees.{Program}
+use Rattle.program.specs.Trees.{Program, as_version}
 use Rattle.program.specs.Views.{program_of}
 use Rattle.lowering.specs.declared.mark.Marked.{Marked}
 use Rattle.codegen.specs.declared.code_piece.CodePiece.{CodePiece}
@@ -69,15 +70,18 @@ module _ (p : Program) (workers : ℕ) (slots : List (Option (List Marked))) (co
     }
 
 -- what keeps the promise is what the worker makes
-pub kept_share : (program : ProgramOf) (workers worker : ℕ) (handle : PromisedHandle Made ShareOf) (made : Made)
-    → IsHandleOf program workers worker handle
-    → IsShare (program_of handle.promise.program.now) handle.promise.workers handle.promise.worker made
-    → IsShare (program_of program) workers worker made
-kept_share program workers worker handle made is kept =
+pub kept_share : (program : ProgramOf) (version : ImageVersion) (workers worker : ℕ)
+    (handle : PromisedHandle Made ShareOf) (made : Made) → IsHandleOf program version workers worker handle
+    → IsShare (as_version handle.promise.layout.now.version (program_of handle.promise.program.now))
+    handle.promise.workers handle.promise.worker made
+    → IsShare (as_version version (program_of program)) workers worker made
+kept_share program version workers worker handle made is kept =
     let share = handle.promise in
-    subst (λ t. IsShare (program_of t) workers worker made) is.program_is
-    (subst (λ n. IsShare (program_of share.program.now) n worker made) is.workers_are
-    (subst (λ n. IsShare (program_of share.program.now) share.workers n made) is.worker_is kept))
+    let said = as_version share.layout.now.version (program_of share.program.now) in
+    subst (λ t. IsShare (as_version version (program_of t)) workers worker made) is.program_is
+    (subst (λ v. IsShare (as_version v (program_of share.program.now)) workers worker made) is.version_is
+    (subst (λ n. IsShare said n worker made) is.workers_are
+    (subst (λ n. IsShare said share.workers n made) is.worker_is kept)))
 
 -- one more behind them
 one_behind : {X : Type 0} (P : ℕ → X → Type 0) (n : ℕ) (xs : List X) (x : X) → EachFrom P n xs → P (n + length xs) x

@@ -1,11 +1,11 @@
 ghost use Rattle.std.specs.Prelude.{◌≡◌, ◌≤◌, IfOk, IfErr, map};
 ghost use Rattle.program.specs.Names.{said_by};
+ghost use Rattle.program.specs.Trees.{as_version};
 ghost use Rattle.lowering.specs.Layout.{layout_of};
 ghost use Rattle.codegen.specs.Generated.{piece_of, unlinked_pieces, RefusesPieces};
 ghost use Rattle.codegen_workers.specs.Limits.{most_workers};
 
 use crate::collecting::collect;
-use crate::starting::run_workers;
 use codegen::CodePiece;
 use layout::Layout;
 use program::Checked;
@@ -34,14 +34,15 @@ pub fn generate_with<R: Threads + Wait + Sync, G: Gate>(
     workers: u32,
     gate: &G,
 ) -> Result<Vec<CodePiece>, Refusal>
-    requires laid_out { layout.now ≡ layout_of (said_by checked.now) }
+    requires laid_out { layout.now
+        ≡ layout_of (as_version layout.now.version (said_by checked.now)) }
     requires workers { (1 ≤ workers) × (workers ≤ most_workers) }
     ensures made { IfOk result (λ pieces. map piece_of pieces.items
-        ≡ unlinked_pieces (said_by checked.now)) }
-    ensures refusal { IfErr result (λ e. RefusesPieces (said_by checked.now) e) }
+        ≡ unlinked_pieces (as_version layout.now.version (said_by checked.now))) }
+    ensures refusal { IfErr result
+        (λ e. RefusesPieces (as_version layout.now.version (said_by checked.now)) e) }
 {
     let program = checked.program();
-    let made = run_workers(rt, alloc, program, layout, workers, gate)?;
-    let collector = collect(alloc, program, made)?;
+    let collector = collect(rt, alloc, program, layout, workers, gate)?;
     collector.finish(alloc)
 }

@@ -1,4 +1,5 @@
 ghost use Rattle.std.specs.Prelude.{◌≡◌, ◌<◌, ◌≤◌, IfOk, vec_len};
+ghost use Rattle.program.specs.Trees.{as_version};
 ghost use Rattle.program.specs.Views.{program_of};
 ghost use Rattle.lowering.specs.Layout.{layout_of};
 ghost use Rattle.codegen_workers.specs.Handles.{AreHandles};
@@ -20,30 +21,35 @@ fn start_worker<'s, E, G: Gate>(
     scope: &Scope<'s, E>,
     alloc: Global,
     share: ShareOf<'s>,
-    layout: &'s Layout,
     gate: &'s G,
 ) -> Result<PromisedHandle<Result<Vec<CodePiece>, Refusal>, ShareOf<'s>>, AllocError>
-    requires laid_out { layout.now ≡ layout_of (program_of share.program.now) }
+    requires laid_out { share.layout.now
+        ≡ layout_of (as_version share.layout.now.version (program_of share.program.now)) }
     requires worker { share.worker < share.workers }
     ensures { IfOk result (λ handle. handle.promise ≡ share.entry) }
 {
     let ShareOf {
         program,
+        layout,
         workers,
         worker,
     } = share;
     let handle = scope.spawn_with(
         share,
         move || -> Result<Vec<CodePiece>, Refusal>
-            requires { (layout.now ≡ layout_of (program_of program.now)) × (worker < workers) }
-            ensures { IsShare (program_of program.entry.now) workers worker result }
+            requires { (layout.now
+                ≡ layout_of (as_version layout.now.version (program_of program.now)))
+                × (worker < workers) }
+            ensures { IsShare (as_version layout.entry.now.version (program_of program.entry.now))
+                workers worker result }
         {
             let share = ShareOf {
                 program,
+                layout,
                 workers,
                 worker,
             };
-            generate_share(alloc, share, layout, gate)
+            generate_share(alloc, share, gate)
         },
     )?;
     Ok(handle)
@@ -58,20 +64,23 @@ fn start_others<'s, E, G: Gate>(
     workers: u32,
     gate: &'s G,
 ) -> Result<Vec<PromisedHandle<Result<Vec<CodePiece>, Refusal>, ShareOf<'s>>>, AllocError>
-    requires laid_out { layout.now ≡ layout_of (program_of program.now) }
+    requires laid_out { layout.now
+        ≡ layout_of (as_version layout.now.version (program_of program.now)) }
     requires workers { 1 ≤ workers }
     ensures count { IfOk result (λ handles. vec_len handles < workers) }
-    ensures each { IfOk result (λ handles. AreHandles program.now workers 1 handles.items) }
+    ensures each { IfOk result (λ handles. AreHandles program.now layout.now.version workers 1
+        handles.items) }
 {
     // There is room before the first is started, so that no handle can be lost.
     let mut handles = Vec::with_capacity(alloc, workers as usize - 1)?;
     for worker in 1..workers {
         let share = ShareOf {
             program,
+            layout,
             workers,
             worker,
         };
-        let Ok(handle) = start_worker(scope, alloc, share, layout, gate) else {
+        let Ok(handle) = start_worker(scope, alloc, share, gate) else {
             return Ok(handles);
         };
         let Ok(()) = handles.push(handle) else {
@@ -92,19 +101,21 @@ fn run_in<'s, E, R: Threads, G: Gate>(
     workers: u32,
     gate: &'s G,
 ) -> Result<Vec<Result<Vec<CodePiece>, Refusal>>, AllocError>
-    requires laid_out { layout.now ≡ layout_of (program_of program.now) }
+    requires laid_out { layout.now
+        ≡ layout_of (as_version layout.now.version (program_of program.now)) }
     requires workers { 1 ≤ workers }
     ensures { IfOk result (λ made. (vec_len made ≡ workers)
-        × AreShares (program_of program.now) workers 0 made.items) }
+        × AreShares (as_version layout.now.version (program_of program.now)) workers 0 made.items) }
 {
     let mut made = Vec::with_capacity(alloc, workers as usize)?;
     let handles = start_others(scope, alloc, program, layout, workers, gate)?;
     let share = ShareOf {
         program,
+        layout,
         workers,
         worker: 0,
     };
-    let Ok(()) = made.push(generate_share(alloc, share, layout, gate)) else {
+    let Ok(()) = made.push(generate_share(alloc, share, gate)) else {
         unreachable!()
     };
     for handle in handles {
@@ -128,18 +139,22 @@ pub(crate) fn run_workers<R: Threads + Wait + Sync, G: Gate>(
     workers: u32,
     gate: &G,
 ) -> Result<Vec<Result<Vec<CodePiece>, Refusal>>, AllocError>
-    requires laid_out { layout.now ≡ layout_of (program_of program.now) }
+    requires laid_out { layout.now
+        ≡ layout_of (as_version layout.now.version (program_of program.now)) }
     requires workers { 1 ≤ workers }
     ensures { IfOk result (λ made. (vec_len made ≡ workers)
-        × AreShares (program_of program.now) workers 0 made.items) }
+        × AreShares (as_version layout.now.version (program_of program.now)) workers 0 made.items) }
 {
     thread::scope(
         thread::scope_env(),
         rt,
         |scope| -> Result<Vec<Result<Vec<CodePiece>, Refusal>>, AllocError>
-            requires { (layout.now ≡ layout_of (program_of program.now)) × (1 ≤ workers) }
+            requires { (layout.now
+                ≡ layout_of (as_version layout.now.version (program_of program.now)))
+                × (1 ≤ workers) }
             ensures { IfOk result (λ made. (vec_len made ≡ workers)
-                × AreShares (program_of program.entry.now) workers 0 made.items) }
+                × AreShares (as_version layout.entry.now.version (program_of program.entry.now))
+                workers 0 made.items) }
         { run_in(rt, scope, alloc, program, layout, workers, gate) },
     )
 }

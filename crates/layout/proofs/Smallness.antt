@@ -6,7 +6,7 @@ use Rattle.program.specs.Views.{monitor_of}
 use Rattle.std.proofs.lemmas.List.Sums.{sum_by-cons}
 use Rattle.std.proofs.lemmas.Option.{slice_get-map, slice_get_past}
 use Rattle.std.specs.Option.{option_map}
-use Rattle.words.specs.declared.version.ImageVersion.TheVariants.{One}
+use Rattle.words.specs.declared.version.ImageVersion.{ImageVersion}
 use Rattle.words.specs.Versions.{base_of}
 use Rattle.program.specs.Trees.{Monitor, Program}
 use Rattle.program.specs.WellFormed.{WellFormed, words_of, all_words}
@@ -25,16 +25,16 @@ words_from base (m ∷ ms) =
     sum_by-cons (λ n. n) (words_of m.members) (map (λ (l : MonitorLayout). l.words) next)
     ∙ ap (λ n. words_of m.members + n) (words_from (base + 2 + words_of m.members) ms)
 
-pub small_monitors : (p : Program) (pieces : ℕ) → WellFormed p
-    → IsSmall (record { version = One; monitors = monitors_from (base_of One) p.monitors; pieces = pieces })
-small_monitors p pieces w = record {
-  few_monitors = let h = length_from (base_of One) p.monitors in let k = w.monitors in omega arith;
-  few_words = let h = words_from (base_of One) p.monitors in let k = w.words in omega arith;
+pub small_monitors : (v : ImageVersion) (p : Program) (pieces : ℕ) → WellFormed p
+    → IsSmall (record { version = v; monitors = monitors_from (base_of v) p.monitors; pieces = pieces })
+small_monitors v p pieces w = record {
+  few_monitors = let h = length_from (base_of v) p.monitors in let k = w.monitors in omega arith;
+  few_words = let h = words_from (base_of v) p.monitors in let k = w.words in omega arith;
 }
 
-pub no_link : (places : List MonitorPlace) (pieces m : ℕ) → length places ≤ m
-    → link_at (record { version = One; monitors = map view_of places; pieces = pieces }) m ≡ 0
-no_link places pieces m past =
+pub no_link : (v : ImageVersion) (places : List MonitorPlace) (pieces m : ℕ) → length places ≤ m
+    → link_at (record { version = v; monitors = map view_of places; pieces = pieces }) m ≡ 0
+no_link v places pieces m past =
     ap link_in (slice_get-map view_of places m ∙ ap (option_map view_of) (slice_get_past places m past))
 
 -- where nothing is left, all is placed

@@ -1,7 +1,7 @@
 ghost use Rattle.std.specs.Prelude.{◌≡◌, ◌<◌, ◌+◌, ◌*◌, ◌^◌, IfOk, IfErr, map};
-ghost use Rattle.words.specs.declared.version.ImageVersion.TheVariants.{One};
 ghost use Rattle.scanner.specs.Refusals.{out_of_memory};
 ghost use Rattle.program.specs.Names.{said_by};
+ghost use Rattle.program.specs.Trees.{as_version};
 ghost use Rattle.program.specs.Views.{monitor_of};
 ghost use Rattle.program.specs.WellFormed.{words_of, member_words};
 ghost use Rattle.lowering.specs.Layout as layouts;
@@ -14,32 +14,43 @@ use std::alloc::{AllocError, Global};
 use std::marker::Model;
 use words::ImageVersion;
 
-/// The addresses of the monitors' words, and how many pieces of code there are. Contracts see it as a `Layout` of the
-/// first version, of a few monitors with a few words.
+/// The addresses of the monitors' words in an image of some version, and how many pieces of code there are. Contracts see
+/// it as a `Layout` of a few monitors with a few words.
 #[derive(Drop)]
 pub struct Layout {
+    version: ImageVersion,
     monitors: Vec<MonitorPlace>,
     pieces: usize,
 }
 
 impl Model for Layout {
     ghost use Rattle.std.specs.Prelude.{map};
-    ghost use Rattle.words.specs.declared.version.ImageVersion.TheVariants.{One};
     ghost use Rattle.lowering.specs.Layout as layouts;
     ghost use Rattle.layout.specs.Views.{view_of, IsSmall};
 
     ghost Value = { layouts.Layout };
 
-    ghost view = { λ l. record { version = One; monitors = map view_of l.monitors.items; pieces = l.pieces } };
+    ghost view = { λ l. record {
+      version = l.version;
+      monitors = map view_of l.monitors.items;
+      pieces = l.pieces;
+    } };
 
     ghost invariant = { λ l. IsSmall (record {
-      version = One;
+      version = l.version;
       monitors = map view_of l.monitors.items;
       pieces = l.pieces;
     }) };
 }
 
 impl Layout {
+    /// The version of the image.
+    pub fn version(&self) -> ImageVersion
+        ensures { result ≡ self.now.version }
+    {
+        self.version
+    }
+
     /// The address of a monitor's link word, 0 for a monitor that there isn't.
     pub fn link(&self, monitor: u32) -> u32
         ensures is { result ≡ layouts.link_at self.now monitor }
@@ -71,10 +82,9 @@ impl Layout {
         self.pieces
     }
 
-    /// How many member words each monitor has, for an image of the first version.
+    /// How many member words each monitor has.
     pub fn words(&self, alloc: Global) -> Result<Vec<u32>, AllocError>
-        ensures words { IfOk result (λ v. v.items ≡ layouts.words_in self.now) }
-        ensures first { self.now.version ≡ One }
+        ensures { IfOk result (λ v. v.items ≡ layouts.words_in self.now) }
     {
         let mut words = Vec::new(alloc);
         let monitors = &self.monitors;
@@ -114,20 +124,22 @@ fn place_monitor(alloc: Global, base: u32, monitor: &Monitor) -> Result<MonitorP
     })
 }
 
-/// Where the words of a program's monitors lie.
-pub fn place(alloc: Global, checked: &Checked) -> Result<Layout, Refusal>
-    ensures layout { IfOk result (λ l. l ≡ layouts.layout_of (said_by checked.now)) }
+/// Where the words of a program's monitors lie in an image of this version.
+pub fn place_as(alloc: Global, checked: &Checked, version: ImageVersion) -> Result<Layout, Refusal>
+    ensures layout { IfOk result (λ l. l
+        ≡ layouts.layout_of (as_version version (said_by checked.now))) }
     ensures refusal { IfErr result (λ e. e ≡ out_of_memory) }
 {
     let program = checked.program();
     let mut monitors = Vec::new(alloc);
-    let mut base = ImageVersion::One.monitors_base();
+    let mut base = version.monitors_base();
     for monitor in &program.monitors {
         let place = place_monitor(alloc, base, monitor)?;
         base = base + 2 + place.words;
         monitors.push(place)?;
     }
     Ok(Layout {
+        version,
         monitors,
         pieces: program.procedures.len(),
     })

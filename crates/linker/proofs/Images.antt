@@ -4,7 +4,7 @@ use Rattle.std.proofs.Common.{length, arith}
 use Rattle.std.specs.Prelude.{nat_le, ◌&&◌, slice_index, sum}
 use Rattle.std.specs.List.{AllByRecursion}
 use Rattle.std.proofs.lemmas.Bool.{and_parts, leb-true}
-use Rattle.words.specs.declared.version.ImageVersion.TheVariants.{One}
+use Rattle.words.specs.declared.version.ImageVersion.{ImageVersion}
 use Rattle.isa.specs.Instructions.{LeadsBelow}
 use Rattle.isa.specs.Limits.{most_monitors, most_member_words, most_instructions}
 use Rattle.isa.specs.Programs.{IsProgram}
@@ -55,11 +55,11 @@ module _ (l : Layout) (ps : List Piece) where
       no e = cc
 
 -- what is within the limits
-pub is_program : (ms : List ℕ) (s t : ℕ) (code : List Instr)
+pub is_program : (v : ImageVersion) (ms : List ℕ) (s t : ℕ) (code : List Instr)
     → (nat_le (length ms) most_monitors && nat_le (sum ms) most_member_words) ≡ true → t ≤ most_instructions
     → t ≡ length code → s < t → all_fit t code ≡ true → IsProgram
-    (record { version = One; monitors = ms; start = s; code = code })
-is_program ms s t code few short e within fit =
+    (record { version = v; monitors = ms; start = s; code = code })
+is_program v ms s t code few short e within fit =
     let h = and_parts (nat_le (length ms) most_monitors) (nat_le (sum ms) most_member_words) few in record {
       few_monitors = leb-true (length ms) most_monitors h.0;
       few_members = leb-true (sum ms) most_member_words h.1;

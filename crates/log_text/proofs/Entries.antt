@@ -1,16 +1,18 @@
 -- The parts of a line are those of the one entry that it is written of.
-use Rattle.std.proofs.Common.{◌≡◌, ◌<◌, ◌+◌, ◌^◌, ◌⊎◌, ℕ, List, [], ◌∷◌, ◌++◌, length, drop, get_or, codes}
-use Rattle.std.proofs.Common.{Option, Some, None, refl, ap, sym, ◌∙◌, subst, arith, inl, inr}
+use Rattle.std.proofs.Common.{◌≡◌, ◌<◌, ◌⊎◌, ℕ, List, [], ◌∷◌, ◌++◌, length, drop, get_or, codes}
+use Rattle.std.proofs.Common.{Option, Some, None, refl, ap, sym, ◌∙◌, arith, inl, inr}
 use Rattle.std.specs.Prelude.{MatchOption}
 use Rattle.std.specs.Fmt.{decimal}
+use Rattle.std.proofs.lemmas.List.Elements.{All-nil}
 use Rattle.std.proofs.lemmas.List.{append_assoc, append_cancel_left, append-nil}
-use Rattle.machine.specs.ThreadSets.{set_of}
+use Rattle.words.specs.Limits.{most_threads}
+use Rattle.machine.specs.ThreadSets.{IsThread, set_of}
 use Rattle.machine.specs.declared.event.Entry.{Entry}
 use Rattle.machine.specs.declared.event.Event.{Event}
 use Rattle.machine.specs.declared.event.EventName.{EventName}
 use Rattle.machine.specs.declared.event.EventName.TheVariants.{Local}
 use Rattle.machine.specs.declared.thread_set.ThreadSet.{ThreadSet}
-use Rattle.log_text.specs.Cuts.{AfterSet, AtByte, IsRow, NoByte, NoDigit, NoNumber, Rises}
+use Rattle.log_text.specs.Cuts.{AfterSet, AtByte, IsRow, IsThreadSet, NoByte, NoDigit, NoNumber, Rises}
 use Rattle.log_text.specs.LogLines.{entry_text, event_text, list_text, members, name_text, numbers_text, set_text}
 use Rattle.log_text.specs.LogLines.{step_text, value_text}
 use Rattle.log_text.specs.Spelled.{EndsEvent, IsSharedEvent, IsSized, IsStep}
@@ -19,7 +21,7 @@ use Rattle.log_text.proofs.Digits.{number_once}
 use Rattle.log_text.proofs.Members.{set_of_members}
 use Rattle.log_text.proofs.Names.{name_once, plain_name}
 use Rattle.log_text.proofs.Numerals.{value_once}
-use Rattle.log_text.proofs.Rising.{bits_small, members_of, members_rise, no_digit_numbers, no_digit_space, not_there}
+use Rattle.log_text.proofs.Rising.{members_of, members_rise, no_digit_numbers, no_digit_space, not_there, rising_threads}
 
 -- what is cut off is the word, and the rest follows
 field : (text a r w s : List ℕ) → text ≡ a ++ r → NoByte 32 a → AtByte 32 r → Plain w → AtByte 32 s → text ≡ w ++ s
@@ -141,28 +143,27 @@ some_text word (t ∷ ts) some = refl
 pub row_text : (word text behind rest : List ℕ) (set : ThreadSet) → text ≡ word ++ behind → IsRow behind set rest
     → text ≡ set_text word set ++ rest
 row_text word text behind rest set whole row =
-    let own : members set 64 ≡ row.threads =
-    ap (λ (s : ThreadSet). members s 64) row.made ∙ members_of row.threads row.rises in
+    let own : members set most_threads ≡ row.threads =
+    ap (λ (s : ThreadSet). members s most_threads) row.made ∙ members_of row.threads row.rises in
     let written : set_text word set ≡ word ++ numbers_text row.threads =
     ap (list_text word) own ∙ some_text word row.threads row.some in
     whole ∙ ap (λ (z : List ℕ). word ++ z) row.whole ∙ sym (append_assoc word (numbers_text row.threads) rest)
     ∙ ap (λ (z : List ℕ). z ++ rest) (sym written)
 
-pub row_small : (text rest : List ℕ) (set : ThreadSet) → IsRow text set rest → set.bits < 2 ^ 64
-row_small text rest set row =
-    subst (λ (s : ThreadSet). s.bits < 2 ^ 64) (sym row.made) (bits_small 0 row.threads row.rises)
+pub row_set : (text rest : List ℕ) (set : ThreadSet) → IsRow text set rest → IsThreadSet set
+row_set text rest set row = (row.threads, rising_threads 0 row.threads row.rises, row.made)
 
-pub none_small : (set : ThreadSet) → set ≡ set_of [] → set.bits < 2 ^ 64
-none_small set is = subst (λ (s : ThreadSet). s.bits < 2 ^ 64) (sym is) (omega arith)
+pub none_set : (set : ThreadSet) → set ≡ set_of [] → IsThreadSet set
+none_set set is = ([], All-nil IsThread, is)
 
 pub empty_text : (word text : List ℕ) (set : ThreadSet) → set ≡ set_of [] → text ≡ set_text word set ++ text
 empty_text word text set is =
-    let none : members set 64 ≡ [] = ap (λ (s : ThreadSet). members s 64) is ∙ members_of [] tt in
+    let none : members set most_threads ≡ [] = ap (λ (s : ThreadSet). members s most_threads) is ∙ members_of [] tt in
     ap (λ (ms : List ℕ). list_text word ms ++ text) (sym none)
 
 pub none_written : (word : List ℕ) (set : ThreadSet) → set ≡ set_of [] → set_text word set ≡ []
 none_written word set is =
-    ap (list_text word) (ap (λ (s : ThreadSet). members s 64) is ∙ members_of [] tt)
+    ap (list_text word) (ap (λ (s : ThreadSet). members s most_threads) is ∙ members_of [] tt)
 
 -- no set is written in two ways
 numbers_once : (low low' : ℕ) (ms ns r s : List ℕ) → Rises low ms → Rises low' ns → NoNumber r → NoNumber s
@@ -200,10 +201,10 @@ lists_once word (m ∷ ms) (n ∷ ns) r s p q after after' e =
     (append_cancel_left word (numbers_text (m ∷ ms) ++ r) (numbers_text (n ∷ ns) ++ s)
     (sym (append_assoc word (numbers_text (m ∷ ms)) r) ∙ e ∙ append_assoc word (numbers_text (n ∷ ns)) s))
 
-sets_once : (word : List ℕ) (a b : ThreadSet) (r s : List ℕ) → a.bits < 2 ^ 64 → b.bits < 2 ^ 64 → AfterSet word r
+sets_once : (word : List ℕ) (a b : ThreadSet) (r s : List ℕ) → IsThreadSet a → IsThreadSet b → AfterSet word r
     → AfterSet word s → set_text word a ++ r ≡ set_text word b ++ s → (a ≡ b) × (r ≡ s)
 sets_once word a b r s small small' after after' e =
-    let both = lists_once word (members a 64) (members b 64) r s (members_rise a) (members_rise b) after after' e in
+    let both = lists_once word (members a most_threads) (members b most_threads) r s (members_rise a) (members_rise b) after after' e in
     (sym (set_of_members a small) ∙ ap set_of both.0 ∙ set_of_members b small', both.1)
 
 -- nor an event
@@ -211,10 +212,10 @@ ends_once : (name : EventName) (a b : Event) → IsSharedEvent a → IsSharedEve
     → value_text name a.value ++ sets_text a ≡ value_text name b.value ++ sets_text b → a ≡ b
 ends_once name a b is is' own own' e =
     let v = value_once name a.value b.value (sets_text a) (sets_text b) is.value is'.value
-    (no_digit_sets (members a.woken 64) (members a.moved 64)) (no_digit_sets (members b.woken 64) (members b.moved 64)) e in
+    (no_digit_sets (members a.woken most_threads) (members a.moved most_threads)) (no_digit_sets (members b.woken most_threads) (members b.moved most_threads)) e in
     let w = sets_once (codes " woke") a.woken b.woken (set_text (codes " moved") a.moved)
-    (set_text (codes " moved") b.moved) is.woken is'.woken (after_woken (members a.moved 64))
-    (after_woken (members b.moved 64)) v.1 in
+    (set_text (codes " moved") b.moved) is.woken is'.woken (after_woken (members a.moved most_threads))
+    (after_woken (members b.moved most_threads)) v.1 in
     let m = sets_once (codes " moved") a.moved b.moved [] [] is.moved is'.moved after_last after_last
     (append-nil (set_text (codes " moved") a.moved) ∙ w.1 ∙ sym (append-nil (set_text (codes " moved") b.moved))) in
     let n : a.name ≡ b.name = own ∙ sym own' in

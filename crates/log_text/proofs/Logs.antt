@@ -7,6 +7,7 @@ use Rattle.std.specs.Fmt.{decimal}
 use Rattle.std.proofs.lemmas.List.{append-nil, append_assoc, length-drop}
 use Rattle.std.proofs.lemmas.List.Elements.{All-append, All-cons, All-nil, All-head, All-tail}
 use Rattle.std.proofs.lemmas.Grind.{flat_map-append}
+use Rattle.words.specs.Limits.{most_threads}
 use Rattle.machine.specs.ThreadSets.{IsThread}
 use Rattle.machine.specs.declared.event.Entry.{Entry}
 use Rattle.machine.specs.declared.event.Event.{Event}
@@ -64,8 +65,8 @@ stepped (Some e) is =
     (none_append 10 (name_text e.name) (codes " ")
     (none_of_plain 10 (name_text e.name) (omega arith) (plain_name e.name)) space)
     (none_of_plain 10 (value_text e.name e.value) (omega arith) (plain_value e.name e.value is.value)))
-    (listed (codes " woke") (members e.woken 64) woke (all_members e.woken)))
-    (listed (codes " moved") (members e.moved 64) moved (all_members e.moved))
+    (listed (codes " woke") (members e.woken most_threads) woke (all_members e.woken)))
+    (listed (codes " moved") (members e.moved most_threads) moved (all_members e.moved))
 
 -- the line of an entry has no line feed but its end
 lined : (e : Entry) → IsSized e → NoByte 10 (entry_text e)

@@ -1,30 +1,27 @@
 -- Rising threads are the members of their set, and are read one by one.
-use Rattle.std.proofs.Common.{◌≡◌, ◌<◌, ◌≤◌, ◌+◌, ◌-◌, ◌^◌, ◌⊎◌, ℕ, zero, suc, List, [], ◌∷◌, ◌++◌, length}
+use Rattle.std.proofs.Common.{◌≡◌, ◌<◌, ◌≤◌, ◌^◌, ◌⊎◌, ◌||◌, eqb, ℕ, zero, suc, List, [], ◌∷◌, ◌++◌, length}
 use Rattle.std.proofs.Common.{true, false, refl, ap, sym, ◌∙◌, subst, arith, inl, inr, length-append}
 use Rattle.std.specs.List.{All}
 use Rattle.std.specs.Fmt.{decimal}
-use Rattle.std.specs.Int.{bit_at}
-use Rattle.std.specs.Int.Bits.{bit_or}
-use Rattle.std.proofs.Math.Pow.{pow-lt}
-use Rattle.std.proofs.lemmas.Bool.{cases_eq, cases_lt, cases_Bool}
+use Rattle.std.proofs.lemmas.Bool.{cases_eq, cases_lt, cases_Bool, eq-eqb, ne_eqb, both_ways}
 use Rattle.std.proofs.lemmas.List.{append-nil, append_assoc}
 use Rattle.std.proofs.lemmas.List.Elements.{All-cons, All-nil}
 use Rattle.std.proofs.lemmas.Grind.{flat_map-append}
-use Rattle.std.proofs.lemmas.Nat.{or_lt}
-use Rattle.std.proofs.lemmas.Nat.Bits.{bit_at-zero, bit_at-lt, bit_at_or, bit_at-pow_same, bit_at-pow_other}
-use Rattle.machine.specs.ThreadSets.{bits_of, has, IsThread, set_of}
+use Rattle.words.specs.Limits.{most_threads}
+use Rattle.buckets.specs.Places.{names}
+use Rattle.machine.specs.ThreadSets.{has, IsThread, set_of}
 use Rattle.machine.specs.declared.thread_set.ThreadSet.{ThreadSet}
 use Rattle.log_text.specs.Cuts.{NoDigit, NoNumber, Rises}
 use Rattle.log_text.specs.LogLines.{members, numbers_text}
 use Rattle.log_text.proofs.Digits.{digit_there}
-use Rattle.log_text.proofs.Members.{more, set_of_members}
+use Rattle.log_text.proofs.Members.{more, same_named}
 
 -- the last of rising threads is this, or there is none
 abbrev pub Ends : ℕ → List ℕ → ℕ → Type 0
 Ends low [] last = low ≡ last
 Ends low (t ∷ ts) last = Ends t ts last
 
-pub rises_more : (low last t : ℕ) (ts : List ℕ) → Rises low ts → Ends low ts last → last < t → t ≤ 64
+pub rises_more : (low last t : ℕ) (ts : List ℕ) → Rises low ts → Ends low ts last → last < t → t ≤ most_threads
     → Rises low (ts ++ (t ∷ []))
 rises_more low last t [] rises ends less few = (omega (arith, ends, less), few, tt)
 rises_more low last t (u ∷ ts) rises ends less few = (rises.0, rises.1, rises_more u last t ts rises.2 ends less few)
@@ -43,86 +40,52 @@ rising_threads low (t ∷ ts) rises =
     let above = rises.0 in
     All-cons IsThread t ts (omega (arith, above), rises.1) (rising_threads t ts rises.2)
 
-pub bits_small : (low : ℕ) (ts : List ℕ) → Rises low ts → bits_of ts < 2 ^ 64
-bits_small low [] rises = omega arith
-bits_small low (t ∷ ts) rises =
+-- who isn't above a number isn't named above it
+low_named : (low t : ℕ) (ts : List ℕ) → Rises low ts → t ≤ low → names ts t ≡ false
+low_named low t [] rises le = refl
+low_named low t (u ∷ ts) rises le =
     let above = rises.0 in
-    let few = rises.1 in
-    or_lt 64 (2 ^ (t - 1)) (bits_of ts) (pow-lt {i = t - 1} {j = 64} (omega (arith, above, few))) (bits_small t ts rises.2)
+    (λ i. ne_eqb t u (λ e. absurd (omega (arith, e, above, le))) i || low_named u t ts rises.2 (omega (arith, above, le)) i)
 
-bits_low : (low i : ℕ) (ts : List ℕ) → Rises low ts → i < low → bit_at (bits_of ts) i ≡ 0
-bits_low low i [] rises less = bit_at-zero i
-bits_low low i (t ∷ ts) rises less =
-    let above = rises.0 in
-    let own : bit_at (2 ^ (t - 1)) i ≡ 0 =
-    bit_at-pow_other (t - 1) i (λ (e : i ≡ t - 1). absurd (omega (arith, e, above, less))) in
-    let rest : bit_at (bits_of ts) i ≡ 0 = bits_low t i ts rises.2 (omega (arith, above, less)) in
-    bit_at_or (2 ^ (t - 1)) (bits_of ts) i ∙ omega (arith, own, rest)
+first_named : (t : ℕ) (ts : List ℕ) → names (t ∷ ts) t ≡ true
+first_named t ts = ap (λ b. b || names ts t) (eq-eqb t t refl)
 
-bit_first : (t : ℕ) (ts : List ℕ) → bit_at (bits_of (t ∷ ts)) (t - 1) ≡ 1
-bit_first t ts =
-    let own = bit_at-pow_same (t - 1) in
-    let low = bit_at-lt (bits_of ts) (t - 1) in
-    bit_at_or (2 ^ (t - 1)) (bits_of ts) (t - 1) ∙ omega (arith, own, low)
-
-tail_same : (x : ℕ) (xs ys : List ℕ) → 0 < x → Rises x xs → Rises x ys
-    → ((i : ℕ) → bit_at (bits_of (x ∷ xs)) i ≡ bit_at (bits_of (x ∷ ys)) i) → (i : ℕ)
-    → bit_at (bits_of xs) i ≡ bit_at (bits_of ys) i
-tail_same x xs ys some p q same i = elim (cases_lt i x) [
-  | inl less ↦ bits_low x i xs p less ∙ sym (bits_low x i ys q less)
-  | inr past ↦
-      let own : bit_at (2 ^ (x - 1)) i ≡ 0 =
-      bit_at-pow_other (x - 1) i (λ (e : i ≡ x - 1). absurd (omega (arith, e, past, some))) in
-      let left = bit_at_or (2 ^ (x - 1)) (bits_of xs) i in
-      let right = bit_at_or (2 ^ (x - 1)) (bits_of ys) i in
-      let e : bit_at (bit_or (2 ^ (x - 1)) (bits_of xs)) i ≡ bit_at (bit_or (2 ^ (x - 1)) (bits_of ys)) i = same i in
-      omega (arith, own, left, right, e)
+tail_same : (x : ℕ) (xs ys : List ℕ) → Rises x xs → Rises x ys → ((t : ℕ) → names (x ∷ xs) t ≡ names (x ∷ ys) t)
+    → (t : ℕ) → names xs t ≡ names ys t
+tail_same x xs ys p q same t = elim (cases_eq t x) [
+  | inl e ↦ low_named x t xs p (omega (arith, e)) ∙ sym (low_named x t ys q (omega (arith, e)))
+  | inr ne ↦
+      let other : eqb t x ≡ false = ne_eqb t x ne in
+      sym (ap (λ b. b || names xs t) other) ∙ same t ∙ ap (λ b. b || names ys t) other
 ]
 
--- no two of them have the same bits
-apart : (x y : ℕ) (xs ys : List ℕ) → 0 < x → x < y → Rises x xs → y ≤ 64 → Rises y ys
-    → ((i : ℕ) → bit_at (bits_of (x ∷ xs)) i ≡ bit_at (bits_of (y ∷ ys)) i) → ⊥
-apart x y xs ys some less p few q same =
-    let one = bit_first x xs in
-    let none = bits_low x (x - 1) (y ∷ ys) (less, few, q) (omega (arith, some)) in
-    let e = same (x - 1) in
-    absurd (omega (arith, one, none, e))
+-- no two lists of rising threads name the same
+apart : (x y : ℕ) (xs ys : List ℕ) → x < y → y ≤ most_threads → Rises y ys
+    → ((t : ℕ) → names (x ∷ xs) t ≡ names (y ∷ ys) t) → ⊥
+apart x y xs ys less few q same = both_ways (names (x ∷ xs) x)
+    (same x ∙ low_named x x (y ∷ ys) (less, few, q) (omega arith)) (first_named x xs)
 
-same_rising : (low : ℕ) (xs ys : List ℕ) → Rises low xs → Rises low ys
-    → ((i : ℕ) → bit_at (bits_of xs) i ≡ bit_at (bits_of ys) i) → xs ≡ ys
+same_rising : (low : ℕ) (xs ys : List ℕ) → Rises low xs → Rises low ys → ((t : ℕ) → names xs t ≡ names ys t) → xs ≡ ys
 same_rising low [] [] p q same = refl
-same_rising low [] (y ∷ ys) p q same =
-    let one = bit_first y ys in
-    let none = bit_at-zero (y - 1) in
-    let e = same (y - 1) in
-    absurd (omega (arith, one, none, e))
-same_rising low (x ∷ xs) [] p q same =
-    let one = bit_first x xs in
-    let none = bit_at-zero (x - 1) in
-    let e = same (x - 1) in
-    absurd (omega (arith, one, none, e))
-same_rising low (x ∷ xs) (y ∷ ys) p q same =
-    let above = p.0 in
-    let above' = q.0 in
-    let some : 0 < x = omega (arith, above) in
-    let some' : 0 < y = omega (arith, above') in
-    elim (cases_eq x y) [
-      | inl e ↦
-          let q' : Rises x ys = subst (λ (n : ℕ). Rises n ys) (sym e) q.2 in
-          let rest : xs ≡ ys = same_rising x xs ys p.2 q' (tail_same x xs ys some p.2 q'
-          (λ i. same i ∙ ap (λ (n : ℕ). bit_at (bits_of (n ∷ ys)) i) (sym e))) in
-          λ i. e i ∷ rest i
-      | inr other ↦ elim (cases_lt x y) [
-        | inl less ↦ absurd (apart x y xs ys some less p.2 q.1 q.2 same)
-        | inr past ↦ absurd (apart y x ys xs some' (omega (arith, other, past)) q.2 p.1 p.2 (λ i. sym (same i)))
-      ]
-    ]
+same_rising low [] (y ∷ ys) p q same = absurd (both_ways (names (y ∷ ys) y) (sym (same y)) (first_named y ys))
+same_rising low (x ∷ xs) [] p q same = absurd (both_ways (names (x ∷ xs) x) (same x) (first_named x xs))
+same_rising low (x ∷ xs) (y ∷ ys) p q same = elim (cases_eq x y) [
+  | inl e ↦
+      let q' : Rises x ys = subst (λ (n : ℕ). Rises n ys) (sym e) q.2 in
+      let rest : xs ≡ ys = same_rising x xs ys p.2 q' (tail_same x xs ys p.2 q'
+      (λ t. same t ∙ ap (λ (n : ℕ). names (n ∷ ys) t) (sym e))) in
+      λ i. e i ∷ rest i
+  | inr other ↦ elim (cases_lt x y) [
+    | inl less ↦ absurd (apart x y xs ys less q.1 q.2 same)
+    | inr past ↦ absurd (apart y x ys xs (omega (arith, other, past)) p.1 p.2 (λ t. sym (same t)))
+  ]
+]
 
 -- threads that rise to at most a number
 abbrev Row : ℕ → List ℕ → Type 0
 Row n ts = (last : ℕ) × (last ≤ n) × Rises 0 ts × Ends 0 ts last
 
-members_row : (set : ThreadSet) (n : ℕ) → n ≤ 64 → Row n (members set n)
+members_row : (set : ThreadSet) (n : ℕ) → n ≤ most_threads → Row n (members set n)
 members_row set zero few = (0, omega arith, tt, refl)
 members_row set (suc n) few =
     let before = members_row set n (omega (arith, few)) in
@@ -140,14 +103,12 @@ members_row set (suc n) few =
           (before.0, omega (arith, within), before.2, before.3)
     ]
 
-pub members_rise : (set : ThreadSet) → Rises 0 (members set 64)
-members_rise set = (members_row set 64 (omega arith)).2
+pub members_rise : (set : ThreadSet) → Rises 0 (members set most_threads)
+members_rise set = (members_row set most_threads (omega arith)).2
 
-pub members_of : (ts : List ℕ) → Rises 0 ts → members (set_of ts) 64 ≡ ts
-members_of ts rises =
-    let same : set_of (members (set_of ts) 64) ≡ set_of ts = set_of_members (set_of ts) (bits_small 0 ts rises) in
-    same_rising 0 (members (set_of ts) 64) ts (members_rise (set_of ts)) rises
-    (λ i. ap (λ (s : ThreadSet). bit_at s.bits i) same)
+pub members_of : (ts : List ℕ) → Rises 0 ts → members (set_of ts) most_threads ≡ ts
+members_of ts rises = same_rising 0 (members (set_of ts) most_threads) ts (members_rise (set_of ts)) rises
+    (same_named ts (rising_threads 0 ts rises))
 
 -- what a space or a set begins by is no digit
 pub no_digit_space : (xs : List ℕ) → NoDigit (32 ∷ xs)
@@ -182,7 +143,7 @@ GivesNumber t rest after =
 
 module _ (text read rest after : List ℕ) (last t : ℕ) (next : GivesNumber t rest after) (small : t < 2 ^ 32)
     (is : rest ≡ 32 ∷ (decimal t ++ after)) where
-  here : (u : ℕ) (later end : List ℕ) → NoNumber end → rest ≡ numbers_text (u ∷ later) ++ end → u ≤ 64
+  here : (u : ℕ) (later end : List ℕ) → NoNumber end → rest ≡ numbers_text (u ∷ later) ++ end → u ≤ most_threads
       → (t ≡ u) × (after ≡ numbers_text later ++ end)
   here u later end none more few =
       next u (numbers_text later ++ end) (omega (arith, few)) (no_digit_numbers later end none)
@@ -205,7 +166,7 @@ module _ (text read rest after : List ℕ) (last t : ℕ) (next : GivesNumber t 
       let now = on ts end rises none whole in
       goes_on ts end now.0 none now.1 now.2 now.3
 
-  falls : (ts end later : List ℕ) → (t ≤ last) ⊎ (64 < t) → NoNumber end → rest ≡ numbers_text later ++ end
+  falls : (ts end later : List ℕ) → (t ≤ last) ⊎ (most_threads < t) → NoNumber end → rest ≡ numbers_text later ++ end
       → Rises last later → ⊥
   falls ts end [] bad none more up = not_there t rest after small is (subst NoNumber (sym more) none)
   falls ts end (u ∷ later) (inl low) none more up =
@@ -218,7 +179,7 @@ module _ (text read rest after : List ℕ) (last t : ℕ) (next : GivesNumber t 
       absurd (omega (arith, one, few, high))
 
   -- a number that doesn't rise, or isn't a thread's
-  pub reads_not : (t ≤ last) ⊎ (64 < t) → ReadsOn text read last rest → (ts end : List ℕ) → Rises 0 ts → NoNumber end
+  pub reads_not : (t ≤ last) ⊎ (most_threads < t) → ReadsOn text read last rest → (ts end : List ℕ) → Rises 0 ts → NoNumber end
       → text ≡ numbers_text ts ++ end → ⊥
   reads_not bad on ts end rises none whole =
       let now = on ts end rises none whole in

@@ -1,7 +1,8 @@
 -- Texts that are cut at a byte, or where a number or the threads of a set end.
 use Rattle.std.specs.Prelude.{ℕ, ◌≡◌, ◌≢◌, ◌<◌, ◌≤◌, List, [], ◌∷◌, ◌++◌, length}
+use Rattle.std.specs.List.{All}
 use Rattle.words.specs.Limits.{most_threads}
-use Rattle.machine.specs.ThreadSets.{set_of}
+use Rattle.machine.specs.ThreadSets.{IsThread, set_of}
 use Rattle.machine.specs.declared.thread_set.ThreadSet.{ThreadSet}
 use Rattle.log_text.specs.LogLines.{numbers_text}
 
@@ -33,6 +34,10 @@ NoNumber (x ∷ xs) = (IsDigit x → ⊥) × (x ≡ 32 → NoDigit xs)
 abbrev pub Rises : ℕ → List ℕ → Type 0
 Rises low [] = Unit {0}
 Rises low (t ∷ ts) = (low < t) × (t ≤ most_threads) × Rises t ts
+
+-- the set of some threads of the machine
+abbrev pub IsThreadSet : ThreadSet → Type 0
+IsThreadSet set = (threads : List ℕ) × All IsThread threads × (set ≡ set_of threads)
 
 -- what may follow the threads of the set behind a word: no number, and not the word
 pub record AfterSet (word rest : List ℕ) : Type 0 where

@@ -5,6 +5,7 @@ use Rattle.machine.specs.declared.event.Entry.{Entry}
 use Rattle.machine.specs.declared.event.Event.{Event}
 use Rattle.machine.specs.declared.event.EventName.{EventName}
 use Rattle.machine.specs.declared.event.EventName.TheVariants.{Local}
+use Rattle.log_text.specs.Cuts.{IsThreadSet}
 use Rattle.log_text.specs.LogLines.{entry_line, log_lines, set_text, value_text}
 use Rattle.log_text.specs.declared.reading.ReadLogFault.{ReadLogFault}
 use Rattle.log_text.specs.declared.reading.ReadLogFault.TheVariants.{Line, Memory}
@@ -13,8 +14,8 @@ use Rattle.log_text.specs.declared.reading.ReadLogFault.TheVariants.{Line, Memor
 pub record IsSharedEvent (e : Event) : Type 0 where
   pub shared : e.name ≢ Local
   pub value : e.value < 2 ^ 32
-  pub woken : e.woken.bits < 2 ^ 64
-  pub moved : e.moved.bits < 2 ^ 64
+  pub woken : IsThreadSet e.woken
+  pub moved : IsThreadSet e.moved
 
 abbrev pub IsStep : Option Event → Type 0
 IsStep None = Unit {0}

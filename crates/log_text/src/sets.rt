@@ -1,7 +1,8 @@
-ghost use Rattle.std.specs.Prelude.{◌≡◌, ◌<◌, ◌≤◌, ◌^◌, ◌++◌, ◌⊎◌, ℕ, List, MatchBool, MatchOption, IfSome, length};
+ghost use Rattle.std.specs.Prelude.{◌≡◌, ◌<◌, ◌≤◌, ◌++◌, ◌⊎◌, ℕ, List, MatchBool, MatchOption, IfSome, length};
+ghost use Rattle.words.specs.Limits.{most_threads};
 ghost use Rattle.machine.specs.ThreadSets.{set_of};
 ghost use Rattle.machine.specs.declared.thread_set.ThreadSet.{ThreadSet as Set};
-ghost use Rattle.log_text.specs.Cuts.{AfterSet, IsRow, NoNumber, Rises};
+ghost use Rattle.log_text.specs.Cuts.{AfterSet, IsRow, IsThreadSet, NoNumber, Rises};
 ghost use Rattle.log_text.specs.LogLines.{numbers_text, set_text};
 
 use crate::numbers::spaced_number;
@@ -12,9 +13,9 @@ use machine::{MOST_THREADS, ThreadSet};
 /// The set that stands behind this word at the front of a text, and what follows it; the empty set, and the text, where
 /// the word isn't there. None where no rising threads stand behind the word.
 pub fn set_after<'a>(text: &'a [u8], word: &[u8]) -> Option<(ThreadSet, &'a [u8])>
-    ensures small { IfSome result (λ p. p.0.bits < 2 ^ 64) }
+    ensures small { IfSome result (λ p. IsThreadSet p.0) }
     ensures read { IfSome result (λ p. text.now ≡ set_text word.now p.0 ++ p.1.now) }
-    ensures reads { (set : Set) (rest : List ℕ) → set.bits < 2 ^ 64 → AfterSet word.now rest
+    ensures reads { (set : Set) (rest : List ℕ) → IsThreadSet set → AfterSet word.now rest
         → text.now ≡ set_text word.now set ++ rest
         → MatchOption result ⊥ (λ p. (p.0 ≡ set) × (p.1.now ≡ rest)) }
 {
@@ -51,7 +52,7 @@ fn threads_of(text: &[u8]) -> Option<(ThreadSet, &[u8])>
 
 // Whether this is the number of a thread above the last one.
 fn rises(last: u32, thread: u32) -> bool
-    ensures { MatchBool result ((last < thread) × (thread ≤ 64)) ((thread ≤ last) ⊎ (64 < thread)) }
+    ensures { MatchBool result ((last < thread) × (thread ≤ most_threads)) ((thread ≤ last) ⊎ (most_threads < thread)) }
 {
     last < thread && thread <= MOST_THREADS
 }

@@ -1,4 +1,4 @@
-ghost use Rattle.std.specs.Prelude.{◌≡◌, ◌++◌, OnOk, codes, string_bytes};
+ghost use Rattle.std.specs.Prelude.{◌≡◌, ◌++◌, [], OnOk, codes, string_bytes, if◌then◌else◌};
 ghost use Rattle.std.specs.Fmt.{decimal};
 ghost use Rattle.log_text.specs.LogLines.{entry_line, event_text, log_lines, name_text, set_text, value_text};
 
@@ -25,30 +25,30 @@ fn append_entry(text: &mut String, entry: &Entry) -> Result<(), AllocError>
     append_number(text, entry.thread)?;
     text.push_str(" ")?;
     append_number(text, entry.local)?;
-    match entry.event {
+    match &entry.event {
         Some(event) => append_event(text, event),
         None => text.push_str(" TURN 0\n"),
     }
 }
 
 // The end of the line of a shared step: its name, its value, and the threads that it woke and moved.
-fn append_event(text: &mut String, event: Event) -> Result<(), AllocError>
+fn append_event(text: &mut String, event: &Event) -> Result<(), AllocError>
     ensures { OnOk result (string_bytes text.new
-        ≡ string_bytes text.old ++ (codes " " ++ (event_text event ++ codes "\n"))) }
+        ≡ string_bytes text.old ++ (codes " " ++ (event_text event.now ++ codes "\n"))) }
 {
     text.push_str(" ")?;
     text.push_str(name_of(event.name))?;
     text.push_str(" ")?;
     append_value(text, event)?;
-    append_set(text, " woke", event.woken)?;
-    append_set(text, " moved", event.moved)?;
+    append_set(text, " woke", &event.woken)?;
+    append_set(text, " moved", &event.moved)?;
     text.push_str("\n")
 }
 
 // A step's value: of a printed word the number that it stands for.
-fn append_value(text: &mut String, event: Event) -> Result<(), AllocError>
+fn append_value(text: &mut String, event: &Event) -> Result<(), AllocError>
     ensures { OnOk result (string_bytes text.new
-        ≡ string_bytes text.old ++ value_text event.name event.value) }
+        ≡ string_bytes text.old ++ value_text event.now.name event.now.value) }
 {
     if event.name == EventName::Print {
         text.push_str(Buffer::new().format(signed(event.value)))
@@ -74,8 +74,8 @@ fn append_spaced(text: &mut String, number: u32) -> Result<(), AllocError>
 }
 
 // The threads of a set by rising number, after a word, where there are any.
-fn append_set(text: &mut String, word: &str, set: ThreadSet) -> Result<(), AllocError>
-    ensures { OnOk result (string_bytes text.new ≡ string_bytes text.old ++ set_text word.now set) }
+fn append_set(text: &mut String, word: &str, set: &ThreadSet) -> Result<(), AllocError>
+    ensures { OnOk result (string_bytes text.new ≡ string_bytes text.old ++ set_text word.now set.now) }
 {
     if set.is_empty() {
         return Ok(());
@@ -83,22 +83,38 @@ fn append_set(text: &mut String, word: &str, set: ThreadSet) -> Result<(), Alloc
     append_members(text, word, set)
 }
 
-// The same, where each number is tried.
-fn append_members(text: &mut String, word: &str, set: ThreadSet) -> Result<(), AllocError>
-    ensures { OnOk result (string_bytes text.new ≡ string_bytes text.old ++ set_text word.now set) }
+// The same, from thread to thread.
+fn append_members(text: &mut String, word: &str, set: &ThreadSet) -> Result<(), AllocError>
+    ensures { OnOk result (string_bytes text.new ≡ string_bytes text.old ++ set_text word.now set.now) }
 {
-    let mut any = false;
+    let mut from = 1;
     for before in 0..MOST_THREADS {
-        let thread = before + 1;
-        if set.contains(thread) {
-            if !any {
-                text.push_str(word)?;
-            }
-            append_spaced(text, thread)?;
-            any = true;
+        let Some(thread) = set.next_from(from) else {
+            return Ok(())
+        };
+        if thread > MOST_THREADS {
+            return Ok(());
         }
+        append_member(text, word, before == 0, thread)?;
+        from = thread + 1;
     }
     Ok(())
+}
+
+// A thread of a set, behind the word where it is the first.
+fn append_member(
+    text: &mut String,
+    word: &str,
+    is_first: bool,
+    thread: u32,
+) -> Result<(), AllocError>
+    ensures { OnOk result (string_bytes text.new ≡ string_bytes text.old
+        ++ ((if is_first then word.now else []) ++ (codes " " ++ decimal thread))) }
+{
+    if is_first {
+        text.push_str(word)?;
+    }
+    append_spaced(text, thread)
 }
 
 /// How the log names a step.

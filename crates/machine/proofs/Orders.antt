@@ -9,7 +9,7 @@ use Rattle.futexcalls.specs.declared.pieces.FutexCall.{FutexCall}
 use Rattle.futexcalls.specs.declared.pieces.FutexCall.TheVariants.{Wait, Wake, Requeue}
 use Rattle.futexcalls.specs.declared.pieces.FutexPhase.{FutexPhase}
 use Rattle.futexcalls.specs.declared.pieces.FutexPhase.TheVariants.{First, Second, Compare, Act}
-use Rattle.futexcalls.specs.Progress.{PieceAnswer, Again, Acted, PieceProgress, Next, Blocked, Done}
+use Rattle.futexcalls.specs.Progress.{Again, Acted, PieceProgress, Next, Blocked, Done}
 use Rattle.futexcalls.specs.Pieces.{takes_at, after_lock}
 use Rattle.futexcalls.specs.PieceResults.{PieceSo, TakesSo, ComparesSo, ActSo, answer_of}
 use Rattle.machine.specs.ConcretePieces.{QueuesSo, call_name, woken_in, moved_in}

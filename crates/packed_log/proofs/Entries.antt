@@ -1,56 +1,66 @@
 -- The entries of heads, one entry more at the end.
-use Rattle.std.proofs.Common.{ℕ, suc, ◌≡◌, ◌≤◌, ◌<◌, ◌+◌, ◌-◌, List, [], ◌∷◌, ◌++◌, length, map, drop, take, slice_get}
+use Rattle.std.proofs.Common.{ℕ, suc, ◌≡◌, ◌≤◌, ◌<◌, ◌+◌, ◌-◌, ◌%◌, ◌^◌, List, [], ◌∷◌, ◌++◌, length, map, drop, take, slice_get}
 use Rattle.std.proofs.Common.{get_or, Option, Some, None, refl, ap, sym, subst, ◌∙◌, append-nil, append_assoc, arith, inl, inr}
-use Rattle.std.proofs.lemmas.Bool.{cases_eq, eq-eqb, ne_eqb}
-use Rattle.std.proofs.lemmas.List.{drop-append-le, get_or_append_left, length-append, length-drop, length-take, nil_from_length}
+use Rattle.std.proofs.lemmas.Bool.{cases_eq, ne_eqb}
+use Rattle.std.proofs.lemmas.List.{drop-append-le, get_or_append_left, length-append, length-drop, length-take, nil_from_length, take-append-le}
 use Rattle.std.proofs.lemmas.List.{get_or-append-add, length-map, map-append, take-append-drop, take_all, take_more}
 use Rattle.std.proofs.lemmas.Option.{get_or_from_slice_get, slice_get-get_or, slice_get-map, slice_get_within}
 use Rattle.std.specs.Prelude.{option_map}
 use Rattle.std.proofs.Math.Seq.{get_or-append_seam}
 use Rattle.machine.specs.declared.event.Entry.{Entry}
 use Rattle.machine.specs.declared.event.EventName.{EventName}
-use Rattle.machine.specs.declared.thread_set.ThreadSet.{ThreadSet}
-use Rattle.machine.specs.ThreadSets.{set_of}
+use Rattle.machine.specs.declared.thread_set.ThreadSet.TheVariants.{Single, Several}
 use Rattle.packed_log.specs.Packing.{entries_of, entry_of, event_of, heads_of, set_at, sets_in, sets_of, sets_of_heads}
-use Rattle.packed_log.specs.Packing.{kind_in, value_in, wakes_in, moves_in, name_of, widened}
+use Rattle.packed_log.specs.Packing.{kind_in, value_in, wakes_in, moves_in, name_of, widened, words_of}
 use Rattle.packed_log.specs.declared.wide_head.WideHead.{WideHead}
 use Rattle.packed_log.specs.Views.{IsHeadOf, IsPacked}
 
 -- how many entries there are
-pub entries_length : (heads : List WideHead) (sets : List ThreadSet) → length (entries_of heads sets) ≡ length heads
+pub entries_length : (heads : List WideHead) (sets : List ℕ) → length (entries_of heads sets) ≡ length heads
 entries_length [] sets = refl
 entries_length (h ∷ hs) sets = ap suc (entries_length hs _)
 
-pub items_length : (heads : List ℕ) (wide : List WideHead) (sets : List ThreadSet)
+pub items_length : (heads : List ℕ) (wide : List WideHead) (sets : List ℕ)
     → length (entries_of (heads_of heads wide) sets) ≡ length heads + length wide
 items_length heads wide sets =
     entries_length (heads_of heads wide) sets
     ∙ omega (arith, length-append (map widened heads) wide, length-map heads widened)
 
-pub left_length : (heads : List ℕ) (wide : List WideHead) (sets : List ThreadSet) (whole : List Entry)
+pub left_length : (heads : List ℕ) (wide : List WideHead) (sets : List ℕ) (whole : List Entry)
     → length (entries_of (heads_of heads wide) sets ++ whole) ≡ length heads + length wide + length whole
 left_length heads wide sets whole =
     length-append (entries_of (heads_of heads wide) sets) whole ∙ omega (arith, items_length heads wide sets)
 
 -- what stands behind an entry's sets doesn't change how it is read
-set_front : (there place : ℕ) (sets more : List ThreadSet) → place + there ≤ length sets
-    → set_at there (sets ++ more) place ≡ set_at there sets place
-set_front there place sets more le = elim (cases_eq there 1) [
-  | inl e ↦ rw (eq-eqb there 1 e) (get_or_append_left sets more (set_of []) place (omega (arith, e)))
-  | inr ne ↦ rw (ne_eqb there 1 ne) refl
+set_front : (form place : ℕ) (sets more : List ℕ) → place + words_of form ≤ length sets
+    → set_at form (sets ++ more) place ≡ set_at form sets place
+set_front form place sets more le = elim (cases_eq form 1) [
+  | inl e ↦ single e
+  | inr ne ↦ elim (cases_eq form 2) [ inl e ↦ several e | inr ne' ↦ rw (ne_eqb form 1 ne, ne_eqb form 2 ne') refl ]
 ]
+  where
+    single : form ≡ 1 → set_at form (sets ++ more) place ≡ set_at form sets place
+    single e =
+        let inside : place < length sets = (let l = rw e at le in omega (arith, l)) in
+        rw e (ap (λ t. Single (t % 2 ^ 32)) (get_or_append_left sets more 0 place inside))
 
-event_front : (kind : Option EventName) (head : ℕ) (sets more : List ThreadSet) → sets_in head ≤ length sets
+    several : form ≡ 2 → set_at form (sets ++ more) place ≡ set_at form sets place
+    several e =
+        let inside : place + 16 ≤ length sets = (let l = rw e at le in omega (arith, l)) in
+        rw e (ap Several (ap (take 16) (drop-append-le place sets more (omega (arith, inside)))
+        ∙ take-append-le 16 (drop place sets) more (omega (arith, inside, length-drop place sets))))
+
+event_front : (kind : Option EventName) (head : ℕ) (sets more : List ℕ) → sets_in head ≤ length sets
     → event_of kind head (sets ++ more) ≡ event_of kind head sets
 event_front None head sets more le = refl
 event_front (Some kind) head sets more le = λ i. Some (record {
   name = kind;
   value = value_in head;
   woken = set_front (wakes_in head) 0 sets more (omega arith) i;
-  moved = set_front (moves_in head) (wakes_in head) sets more (omega arith) i;
+  moved = set_front (moves_in head) (words_of (wakes_in head)) sets more (omega arith) i;
 })
 
-entry_front : (wide : WideHead) (sets more : List ThreadSet) → sets_in wide.head ≤ length sets
+entry_front : (wide : WideHead) (sets more : List ℕ) → sets_in wide.head ≤ length sets
     → entry_of wide (sets ++ more) ≡ entry_of wide sets
 entry_front wide sets more le = λ i. record {
   thread = wide.thread;
@@ -58,7 +68,7 @@ entry_front wide sets more le = λ i. record {
   event = event_front (name_of (kind_in wide.head)) wide.head sets more le i;
 }
 
-entries_more : (heads : List WideHead) (sets : List ThreadSet) (wide : WideHead) (more : List ThreadSet) → IsPacked heads sets
+entries_more : (heads : List WideHead) (sets : List ℕ) (wide : WideHead) (more : List ℕ) → IsPacked heads sets
     → entries_of (heads ++ wide ∷ []) (sets ++ more) ≡ entries_of heads sets ++ entry_of wide more ∷ []
 entries_more [] sets wide more packed = rw (nil_from_length sets packed) refl
 entries_more (h ∷ hs) sets wide more packed =
@@ -74,31 +84,31 @@ sets_more [] wide = omega arith
 sets_more (h ∷ hs) wide = omega (arith, sets_more hs wide)
 
 -- an entry more, by its head and its sets
-pushed : (entry : Entry) (heads : List WideHead) (sets : List ThreadSet) (wide : WideHead) → IsHeadOf entry wide
+pushed : (entry : Entry) (heads : List WideHead) (sets : List ℕ) (wide : WideHead) → IsHeadOf entry wide
     → IsPacked heads sets
     → entries_of (heads ++ wide ∷ []) (sets ++ sets_of entry.event) ≡ entries_of heads sets ++ entry ∷ []
 pushed entry heads sets wide is packed = entries_more heads sets wide (sets_of entry.event) packed
     ∙ ap (λ e. entries_of heads sets ++ e ∷ [])
     (ap (entry_of wide) (sym (append-nil (sets_of entry.event))) ∙ is.reads [])
 
-pushed_packed : (entry : Entry) (heads : List WideHead) (sets : List ThreadSet) (wide : WideHead) → IsHeadOf entry wide
+pushed_packed : (entry : Entry) (heads : List WideHead) (sets : List ℕ) (wide : WideHead) → IsHeadOf entry wide
     → IsPacked heads sets → IsPacked (heads ++ wide ∷ []) (sets ++ sets_of entry.event)
 pushed_packed entry heads sets wide is packed = length-append sets (sets_of entry.event)
     ∙ omega (arith, packed, is.beside) ∙ sym (sets_more heads wide)
 
 -- what is asked of the heads behind it
-abbrev pub Pushed : Entry → List WideHead → List ThreadSet → List WideHead → Type 0
+abbrev pub Pushed : Entry → List WideHead → List ℕ → List WideHead → Type 0
 Pushed entry heads sets heads' =
     (entries_of heads' (sets ++ sets_of entry.event) ≡ entries_of heads sets ++ entry ∷ [])
     × IsPacked heads' (sets ++ sets_of entry.event)
 
-one_more : (entry : Entry) (heads : List WideHead) (sets : List ThreadSet) (wide : WideHead) (heads' : List WideHead)
+one_more : (entry : Entry) (heads : List WideHead) (sets : List ℕ) (wide : WideHead) (heads' : List WideHead)
     → IsHeadOf entry wide → IsPacked heads sets → heads' ≡ heads ++ wide ∷ [] → Pushed entry heads sets heads'
 one_more entry heads sets wide heads' is packed same =
     subst (Pushed entry heads sets) (sym same) (pushed entry heads sets wide is packed, pushed_packed entry heads sets wide is packed)
 
 -- by one in which its thread and local steps have room, where none is wide
-pub pushed_head : (entry : Entry) (heads : List ℕ) (wide : List WideHead) (sets : List ThreadSet) (head : ℕ) → wide ≡ []
+pub pushed_head : (entry : Entry) (heads : List ℕ) (wide : List WideHead) (sets : List ℕ) (head : ℕ) → wide ≡ []
     → IsHeadOf entry (widened head) → IsPacked (heads_of heads wide) sets
     → Pushed entry (heads_of heads wide) sets (heads_of (heads ++ head ∷ []) wide)
 pushed_head entry heads wide sets head none is packed =
@@ -107,7 +117,7 @@ pushed_head entry heads wide sets head none is packed =
     ∙ ap (λ hs. hs ++ widened head ∷ []) (sym (append-nil (map widened heads)))))
 
 -- and by a wide one
-pub pushed_wide : (entry : Entry) (heads : List ℕ) (wide : List WideHead) (sets : List ThreadSet) (head : WideHead)
+pub pushed_wide : (entry : Entry) (heads : List ℕ) (wide : List WideHead) (sets : List ℕ) (head : WideHead)
     → IsHeadOf entry head → IsPacked (heads_of heads wide) sets
     → Pushed entry (heads_of heads wide) sets (heads_of heads (wide ++ head ∷ []))
 pushed_wide entry heads wide sets head is packed =
@@ -123,7 +133,7 @@ slice_get_last xs x =
     ∙ ap Some (get_or-append_seam xs x [] x)
 
 -- the last entry of heads, by the last head and the last sets
-pub last_of : (heads : List WideHead) (sets : List ThreadSet) (wide : WideHead) → IsPacked heads sets
+pub last_of : (heads : List WideHead) (sets : List ℕ) (wide : WideHead) → IsPacked heads sets
     → Some wide ≡ slice_get heads (length heads - 1)
     → (sets_in wide.head ≤ length sets) × (slice_get (entries_of heads sets) (length (entries_of heads sets) - 1)
     ≡ Some (entry_of wide (drop (length sets - sets_in wide.head) sets)))
@@ -152,7 +162,7 @@ empty_last (h ∷ hs) is =
     absurd cc
 
 -- and where there is no head there is no entry
-pub none_of : (heads : List WideHead) (sets : List ThreadSet) → None ≡ slice_get heads (length heads - 1)
+pub none_of : (heads : List WideHead) (sets : List ℕ) → None ≡ slice_get heads (length heads - 1)
     → None ≡ slice_get (entries_of heads sets) (length (entries_of heads sets) - 1)
 none_of heads sets is = rw (empty_last heads is) refl
 

@@ -1,11 +1,12 @@
 //! The head of an entry, as the crate's page has its bits.
-ghost use Rattle.std.specs.Prelude.{◌≡◌, ◌==◌, ◌<◌, if◌then◌else◌, MatchBool};
-ghost use Rattle.packed_log.specs.Packing.{entry_of, event_of, kind_in, name_of, set_at as set_in, sets_in, widened};
-ghost use Rattle.packed_log.specs.Views.{IsHeadOf, HasHead};
+ghost use Rattle.std.specs.Prelude.{◌≡◌, ◌+◌, ◌≤◌, length, take, drop, MatchBool, option_copied};
+ghost use Rattle.packed_log.specs.Packing.{entry_of, event_of, form_of as form_in, kind_in, name_of, set_at as set_in};
+ghost use Rattle.packed_log.specs.Packing.{sets_in, widened, words_of as words_in};
+ghost use Rattle.packed_log.specs.Views.{IsHeadOf, IsWhole, HasHead, Woke};
 
 use crate::names::{name_at, number_of};
 use crate::wide_head::WideHead;
-use machine::{Entry, Event, ThreadSet};
+use machine::{Entry, Event, EventName, ThreadSet};
 
 // The lowest bit of each part but the first.
 const LOCAL: u64 = 1 << 10;
@@ -20,43 +21,48 @@ const VALUE: u64 = 1 << 28;
 
 const END: u64 = 1 << 60;
 
-/// Whether an entry has a head.
-pub fn has_head(entry: Entry) -> bool
-    ensures { MatchBool result (HasHead entry) (HasHead entry → ⊥) }
+// The forms of a set that isn't empty.
+const SINGLE: u64 = 1;
+
+const SEVERAL: u64 = 2;
+
+// The words of a set of several threads.
+const WORDS: usize = 16;
+
+/// Whether a thread and its local steps have room in a head.
+pub fn has_head(thread: u32, local: u32) -> bool
+    ensures { MatchBool result (HasHead thread local) (HasHead thread local → ⊥) }
 {
-    u64::from(entry.thread) < LOCAL && u64::from(entry.local) < KIND / LOCAL
+    u64::from(thread) < LOCAL && u64::from(local) < KIND / LOCAL
 }
 
-/// The head of an entry that has one.
-pub fn head_of(entry: Entry) -> u64
-    requires { HasHead entry }
-    ensures { IsHeadOf entry (widened result) }
+/// The head of the entry of a thread, its local steps, which have room in one, and its shared step, if it has one.
+pub fn head_of(thread: u32, local: u32, event: Option<&Event>) -> u64
+    requires { HasHead thread local }
+    ensures { IsHeadOf (record { thread = thread; local = local; event = option_copied event.entry }) (widened result) }
 {
-    let turn = u64::from(entry.thread) + u64::from(entry.local) * LOCAL;
-    match entry.event {
+    let turn = u64::from(thread) + u64::from(local) * LOCAL;
+    match event {
         None => turn,
         Some(event) => {
+            // Read by itself, where its type tells its bound.
+            let value = event.value;
             turn + number_of(event.name) * KIND
-                + beside(event.woken) * WOKEN
-                + beside(event.moved) * MOVED
-                + u64::from(event.value) * VALUE
+                + form_of(&event.woken) * WOKEN
+                + form_of(&event.moved) * MOVED
+                + u64::from(value) * VALUE
         }
     }
 }
 
 /// The head of any entry, with its thread and its local steps beside it.
-pub fn wide_head_of(entry: Entry) -> WideHead
-    ensures { IsHeadOf entry result }
+pub fn wide_head_of(thread: u32, local: u32, event: Option<&Event>) -> WideHead
+    ensures { IsHeadOf (record { thread = thread; local = local; event = option_copied event.entry }) result }
 {
-    let head = head_of(Entry {
-        thread: 0,
-        local: 0,
-        event: entry.event,
-    });
     WideHead {
-        thread: entry.thread,
-        local: entry.local,
-        head,
+        thread,
+        local,
+        head: head_of(0, 0, event),
     }
 }
 
@@ -71,15 +77,33 @@ pub fn widen(head: u64) -> WideHead
     }
 }
 
-// How often a set stands beside its head.
-fn beside(set: ThreadSet) -> u64
-    ensures { result ≡ (if set.bits == 0 then 0 else 1) }
+// The form of a set. What it holds is looked at, so that callers learn what its type says of it.
+fn form_of(set: &ThreadSet) -> u64
+    ensures form { result ≡ form_in set.now }
+    ensures whole { IsWhole set.now }
 {
-    u64::from(!set.is_empty())
+    match set {
+        ThreadSet::Nobody => 0,
+        ThreadSet::Single(thread) => {
+            let _thread = *thread;
+            SINGLE
+        }
+        ThreadSet::Several(words) => form_of_several(words),
+    }
 }
 
-/// The entry of a head, where these are its sets and those that follow.
-pub fn entry_at(wide: WideHead, sets: &[ThreadSet]) -> Entry
+// The form of a set of several threads.
+fn form_of_several(words: &[u64; WORDS]) -> u64
+    ensures form { result ≡ 2 }
+    ensures whole { length words.now ≡ 16 }
+{
+    let _words = words.len();
+    SEVERAL
+}
+
+/// The entry of a head, where these are the words of its sets and of those that follow.
+pub fn entry_at(wide: WideHead, sets: &[u64]) -> Entry
+    requires { sets_in wide.head ≤ length sets.now }
     ensures { result ≡ entry_of wide sets.now }
 {
     Entry {
@@ -90,7 +114,8 @@ pub fn entry_at(wide: WideHead, sets: &[ThreadSet]) -> Entry
 }
 
 // The step of such an entry, where it has one.
-fn event_at(head: u64, sets: &[ThreadSet]) -> Option<Event>
+fn event_at(head: u64, sets: &[u64]) -> Option<Event>
+    requires { sets_in head ≤ length sets.now }
     ensures { result ≡ event_of (name_of (kind_in head)) head sets.now }
 {
     let name = name_at(head / KIND % (WOKEN / KIND))?;
@@ -100,26 +125,71 @@ fn event_at(head: u64, sets: &[ThreadSet]) -> Option<Event>
         name,
         value: (head / VALUE % (END / VALUE)) as u32,
         woken: set_at(woken, sets, 0),
-        moved: set_at(moved, sets, woken as usize),
+        moved: set_at(moved, sets, words_of(woken)),
     })
 }
 
-// The set at a place of those beside a head, where one is there.
-fn set_at(there: u64, sets: &[ThreadSet], place: usize) -> ThreadSet
-    ensures { result ≡ set_in there sets.now place }
+/// The kind of such an entry's step, where it has one. The threads that it woke are put in their place.
+pub fn woken_at(head: u64, sets: &[u64], woken: &mut ThreadSet) -> Option<EventName>
+    requires { sets_in head ≤ length sets.now }
+    ensures { Woke (event_of (name_of (kind_in head)) head sets.now) result woken.new }
 {
-    if there != 1 {
-        return ThreadSet::new();
+    let name = name_at(head / KIND % (WOKEN / KIND));
+    if name.is_none() {
+        woken.clear();
+        return None;
     }
-    match sets.get(place) {
-        Some(set) => *set,
-        None => ThreadSet::new(),
+    put_set(head / WOKEN % (MOVED / WOKEN), sets, woken);
+    name
+}
+
+// Puts the set of this form whose words come first in its place. No more is written than must be.
+fn put_set(form: u64, words: &[u64], set: &mut ThreadSet)
+    requires { words_in form ≤ length words.now }
+    ensures { set.new ≡ set_in form words.now 0 }
+{
+    match form {
+        SINGLE | SEVERAL => *set = set_at(form, words, 0),
+        _ => set.clear(),
     }
 }
 
-/// How many sets stand beside a head.
+// The set of this form whose words stand at a place.
+fn set_at(form: u64, words: &[u64], place: usize) -> ThreadSet
+    requires { place + words_in form ≤ length words.now }
+    ensures { result ≡ set_in form words.now place }
+{
+    match form {
+        SINGLE => ThreadSet::Single((words[place] % (1 << 32)) as u32),
+        SEVERAL => ThreadSet::Several(several_at(words, place)),
+        _ => ThreadSet::Nobody,
+    }
+}
+
+// The words of a set of several threads.
+fn several_at(words: &[u64], place: usize) -> [u64; WORDS]
+    requires { place + 16 ≤ length words.now }
+    ensures { result ≡ take 16 (drop place words.now) }
+{
+    let mut several = [0; WORDS];
+    several.copy_from_slice(&words[place..place + WORDS]);
+    several
+}
+
+// How many words a set of this form has.
+fn words_of(form: u64) -> usize
+    ensures { result ≡ words_in form }
+{
+    match form {
+        SINGLE => 1,
+        SEVERAL => WORDS,
+        _ => 0,
+    }
+}
+
+/// How many words of sets stand beside a head.
 pub fn sets_beside(head: u64) -> usize
     ensures { result ≡ sets_in head }
 {
-    (head / WOKEN % (MOVED / WOKEN) + head / MOVED % (VALUE / MOVED)) as usize
+    words_of(head / WOKEN % (MOVED / WOKEN)) + words_of(head / MOVED % (VALUE / MOVED))
 }

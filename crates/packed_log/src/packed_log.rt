@@ -1,12 +1,12 @@
 ghost use Rattle.std.specs.Prelude.{◌≡◌, ◌≢◌, ◌≤◌, ◌<◌, ◌+◌, ◌-◌, ◌^◌, ◌++◌, ◌∷◌, [], length, slice_get};
-ghost use Rattle.std.specs.Prelude.{OnOk, IfOk, MatchBool, is_ok, if◌then◌else◌, vec_len, vec_capacity};
+ghost use Rattle.std.specs.Prelude.{OnOk, IfOk, MatchBool, is_ok, if◌then◌else◌, option_copied, vec_len, vec_capacity};
 ghost use Rattle.packed_log.specs.Packing.{entries_of, heads_of, kept, sets_of};
-ghost use Rattle.packed_log.specs.Views.{IsPacked as IsPackedIn};
+ghost use Rattle.packed_log.specs.Views.{IsPacked as IsPackedIn, Woke, step_of};
 
-use crate::head::{entry_at, has_head, head_of, sets_beside, wide_head_of, widen};
+use crate::head::{entry_at, has_head, head_of, sets_beside, wide_head_of, widen, woken_at};
 use crate::reader::LogReader;
 use crate::wide_head::WideHead;
-use machine::{Entry, Event, ThreadSet};
+use machine::{Entry, Event, EventName, ThreadSet};
 use std::alloc::{AllocError, Global};
 use std::marker::Model;
 
@@ -16,8 +16,8 @@ pub struct PackedLog {
     heads: Vec<u64>,
     // The heads from the first entry on whose thread or local steps have no room in one.
     wide: Vec<WideHead>,
-    // The sets beside all heads, in the order of the entries, of each entry that of the woken threads first.
-    sets: Vec<ThreadSet>,
+    // The words of the sets beside all heads, in the order of the entries, of each entry those of the woken threads first.
+    sets: Vec<u64>,
 }
 
 impl Model for PackedLog {
@@ -85,6 +85,19 @@ impl PackedLog {
         )
     }
 
+    /// The kind of the last entry's step, if it has one. The threads that it woke are put in their place, and nothing else
+    /// of the entry is read.
+    pub fn last_woken(&self, woken: &mut ThreadSet) -> Option<EventName>
+        ensures { Woke (step_of (slice_get self.now.items (length self.now.items - 1))) result woken.new }
+    {
+        last_woken_packed(
+            self.heads.as_slice(),
+            self.wide.as_slice(),
+            self.sets.as_slice(),
+            woken,
+        )
+    }
+
     /// Makes room for one entry more at least.
     pub fn make_room(&mut self) -> Result<(), AllocError>
         ensures room { OnOk result (1 ≤ self.new.room) }
@@ -92,21 +105,23 @@ impl PackedLog {
         ensures same { self.new.items ≡ self.old.items }
     {
         self.heads.reserve(1)?;
-        self.sets.reserve(2)?;
+        self.sets.reserve(32)?;
         self.wide.reserve(1)
     }
 
-    /// Puts an entry, for which there is room, at the end.
-    pub fn push_reserved(&mut self, entry: Entry)
+    /// Puts the entry of a thread, its local steps and its shared step, if it has one, for which there is room, at the end.
+    /// The event isn't copied.
+    pub fn push_parts(&mut self, thread: u32, local: u32, event: Option<&Event>)
         requires { 1 ≤ self.old.room }
-        ensures entries { self.new.items ≡ self.old.items ++ entry ∷ [] }
+        ensures entries { self.new.items
+            ≡ self.old.items ++ record { thread = thread; local = local; event = option_copied event.entry } ∷ [] }
         ensures room { self.old.room ≤ self.new.room + 1 }
     {
-        push_sets(&mut self.sets, entry.event);
-        if self.wide.is_empty() && has_head(entry) {
-            self.heads.push_reserved(head_of(entry));
+        push_sets(&mut self.sets, event);
+        if self.wide.is_empty() && has_head(thread, local) {
+            self.heads.push_reserved(head_of(thread, local, event));
         } else {
-            self.wide.push_reserved(wide_head_of(entry));
+            self.wide.push_reserved(wide_head_of(thread, local, event));
         }
     }
 
@@ -116,7 +131,7 @@ impl PackedLog {
             ≡ (if is_ok result then self.old.items ++ entry ∷ [] else self.old.items) }
     {
         self.make_room()?;
-        self.push_reserved(entry);
+        self.push_parts(entry.thread, entry.local, entry.event.as_ref());
         Ok(())
     }
 
@@ -144,7 +159,7 @@ impl PackedLog {
 }
 
 // The last entry of packed ones.
-fn last_packed(heads: &[u64], wide: &[WideHead], sets: &[ThreadSet]) -> Option<Entry>
+fn last_packed(heads: &[u64], wide: &[WideHead], sets: &[u64]) -> Option<Entry>
     requires { IsPackedIn (heads_of heads.now wide.now) sets.now }
     ensures { let entries = entries_of (heads_of heads.now wide.now) sets.now in
         result ≡ slice_get entries (length entries - 1) }
@@ -152,6 +167,25 @@ fn last_packed(heads: &[u64], wide: &[WideHead], sets: &[ThreadSet]) -> Option<E
     let head = last_head(heads, wide)?;
     let before = sets.len() - sets_beside(head.head);
     Some(entry_at(head, &sets[before..]))
+}
+
+// The kind of the last packed entry's step, if it has one, and the threads that it woke in their place.
+fn last_woken_packed(
+    heads: &[u64],
+    wide: &[WideHead],
+    sets: &[u64],
+    woken: &mut ThreadSet,
+) -> Option<EventName>
+    requires { IsPackedIn (heads_of heads.now wide.now) sets.now }
+    ensures { let entries = entries_of (heads_of heads.now wide.now) sets.now in
+        Woke (step_of (slice_get entries (length entries - 1))) result woken.new }
+{
+    let Some(head) = last_head(heads, wide) else {
+        woken.clear();
+        return None;
+    };
+    let before = sets.len() - sets_beside(head.head);
+    woken_at(head.head, &sets[before..], woken)
 }
 
 // The last head, with its entry's thread and local steps.
@@ -165,33 +199,45 @@ fn last_head(heads: &[u64], wide: &[WideHead]) -> Option<WideHead>
     Some(widen(*head))
 }
 
-// Puts the sets of a step at the end.
-fn push_sets(sets: &mut Vec<ThreadSet>, event: Option<Event>)
-    requires { vec_len sets.old + 2 ≤ vec_capacity sets.old }
-    ensures items { sets.new.items ≡ sets.old.items ++ sets_of event }
-    ensures room { (vec_capacity sets.new ≡ vec_capacity sets.old) × (vec_len sets.new ≤ vec_len sets.old + 2) }
+// Puts the words of the sets of a step, if there is one, at the end.
+fn push_sets(sets: &mut Vec<u64>, event: Option<&Event>)
+    requires { vec_len sets.old + 32 ≤ vec_capacity sets.old }
+    ensures items { sets.new.items ≡ sets.old.items ++ sets_of (option_copied event.entry) }
+    ensures room { (vec_capacity sets.new ≡ vec_capacity sets.old) × (vec_len sets.new ≤ vec_len sets.old + 32) }
 {
     if let Some(event) = event {
-        push_set(sets, event.woken);
-        push_set(sets, event.moved);
+        push_set(sets, &event.woken);
+        push_set(sets, &event.moved);
     }
 }
 
-// Puts a set at the end where it isn't empty.
-fn push_set(sets: &mut Vec<ThreadSet>, set: ThreadSet)
-    requires { vec_len sets.old < vec_capacity sets.old }
-    ensures items { sets.new.items ≡ sets.old.items ++ kept set }
-    ensures room { (vec_capacity sets.new ≡ vec_capacity sets.old) × (vec_len sets.new ≤ vec_len sets.old + 1) }
+// Puts the words of a set at the end, where it isn't empty.
+fn push_set(sets: &mut Vec<u64>, set: &ThreadSet)
+    requires { vec_len sets.old + 16 ≤ vec_capacity sets.old }
+    ensures items { sets.new.items ≡ sets.old.items ++ kept set.now }
+    ensures room { (vec_capacity sets.new ≡ vec_capacity sets.old) × (vec_len sets.new ≤ vec_len sets.old + 16) }
 {
-    if !set.is_empty() {
-        sets.push_reserved(set);
+    match set {
+        ThreadSet::Nobody => {}
+        ThreadSet::Single(t) => sets.push_reserved(u64::from(*t)),
+        ThreadSet::Several(words) => push_words(sets, words),
+    }
+}
+
+// Puts the words of a set of several threads at the end.
+fn push_words(sets: &mut Vec<u64>, words: &[u64; 16])
+    requires { vec_len sets.old + 16 ≤ vec_capacity sets.old }
+    ensures items { sets.new.items ≡ sets.old.items ++ words.now }
+    ensures room { (vec_capacity sets.new ≡ vec_capacity sets.old) × (vec_len sets.new ≡ vec_len sets.old + 16) }
+{
+    for word in words {
+        sets.push_reserved(*word);
     }
 }
 
 #[cfg(test)]
 mod tests {
     use super::*;
-    use machine::EventName;
 
     // A requeue that woke two threads and moved one.
     fn requeue() -> Event {
@@ -239,13 +285,18 @@ mod tests {
             log.push(*entry)?;
             assert_eq!(rt; log.len(), before + 1);
             assert_eq!(rt; log.last(), Some(*entry));
+            let mut woken = ThreadSet::of(&[1, 2]);
+            let name = log.last_woken(&mut woken);
+            assert_eq!(rt; name, entry.event.map(|event| event.name));
+            let wanted = entry.event.map_or(ThreadSet::new(), |event| event.woken);
+            assert_eq!(rt; woken, wanted);
         }
         let list = log.to_vec(rt.alloc())?;
         assert_eq!(rt; list.as_slice(), &entries[..]);
         log.make_room()?;
-        log.push_reserved(entries[0]);
+        log.push_parts(5, 3, Some(&requeue()));
         assert_eq!(rt; log.len(), 6);
-        assert_eq!(rt; log.last(), Some(entries[0]));
+        assert_eq!(rt; log.last(), Some(entries[2]));
         assert!(rt; PackedLog::with_capacity(rt.alloc(), 6)?.is_empty());
         let mut reader = LogReader::of(&entries);
         assert_eq!(rt; reader.len(), 5);

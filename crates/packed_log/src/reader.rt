@@ -5,7 +5,7 @@ ghost use Rattle.packed_log.specs.Views.{IsPacked as IsPackedIn};
 
 use crate::head::{entry_at, sets_beside, widen};
 use crate::wide_head::WideHead;
-use machine::{Entry, ThreadSet};
+use machine::Entry;
 use std::marker::Model;
 
 /// The entries of a log that are left to be read. Contracts see their list.
@@ -13,7 +13,7 @@ use std::marker::Model;
 pub struct LogReader<'a> {
     heads: &'a [u64],
     wide: &'a [WideHead],
-    sets: &'a [ThreadSet],
+    sets: &'a [u64],
     // Entries of a list, which stand whole.
     whole: &'a [Entry],
 }
@@ -33,11 +33,7 @@ impl<'a> Model for LogReader<'a> {
 
 impl<'a> LogReader<'a> {
     /// Of the entries of heads of both kinds, with the sets beside them.
-    pub(crate) fn new(
-        heads: &'a [u64],
-        wide: &'a [WideHead],
-        sets: &'a [ThreadSet],
-    ) -> LogReader<'a>
+    pub(crate) fn new(heads: &'a [u64], wide: &'a [WideHead], sets: &'a [u64]) -> LogReader<'a>
         requires { IsPackedIn (heads_of heads.now wide.now) sets.now }
         ensures { result ≡ entries_of (heads_of heads.now wide.now) sets.now }
     {

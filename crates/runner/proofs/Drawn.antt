@@ -34,8 +34,8 @@ one_stopped p limit h t passed now stopped u is =
     ]
 
 -- nobody is passed over at the start
-pub none_stopped : (p : Program) (limit : ℕ) (h : LogState) → AllStopped p limit h (replicate 65 false)
-none_stopped p limit h t is = absurd (none_true 65 t is)
+pub none_stopped : (p : Program) (limit n : ℕ) (h : LogState) → AllStopped p limit h (replicate n false)
+none_stopped p limit n h t is = absurd (none_true n t is)
 
 -- where each thread that can move was refused or is passed over, none can make its next entry
 pub idle_so : (p : Program) (limit : ℕ) (h : LogState) (refused passed : List Bool) → AllPast p limit h refused

@@ -19,7 +19,7 @@ use Rattle.runner.specs.Logs.{Runs, Enters, EntersOwn, Ends, HasOnly, Outside, e
 use Rattle.runner.specs.Logs.{kills_in, opening}
 use Rattle.runner.specs.declared.fault.RunFault.{RunFault}
 use Rattle.runner.specs.declared.fault.RunFault.TheVariants.{Broken}
-use Rattle.runner.specs.Entries.{BreaksAfter, entry_end, entry_end_by, IsFine}
+use Rattle.runner.specs.Entries.{BreaksAfter, entry_end, entry_end_by, event_if, IsFine}
 use Rattle.runner.specs.Legal.{IsLegal}
 use Rattle.runner.specs.Reports.{CanFail}
 use Rattle.runner.proofs.Going.{runs_more}
@@ -69,6 +69,10 @@ enters p k new t count o here event stands moves goes gives = record {
 pub cost_more : (es : List Entry) (t n : ℕ) (e : Option Event)
     → cost (es ++ entry t n e ∷ []) ≡ cost es + (n + event_cost e)
 cost_more es t n e = omega (arith, sum_by-append (λ (x : Entry). x.local + event_cost x.event) es (entry t n e ∷ []))
+
+pub is_shared : (shared : Bool) (event : Event) → bool_byte shared ≡ bool_byte (is_some (event_if shared event))
+is_shared true event = refl
+is_shared false event = refl
 
 event_byte : (e : Option Event) → event_cost e ≡ bool_byte (is_some e)
 event_byte None = refl

@@ -222,8 +222,8 @@ none_true (suc n) zero h = cc
 none_true (suc n) (suc t) h = none_true n t h
 
 -- nobody is refused at the start
-pub none_past : (p : Program) (limit : ℕ) (h : LogState) → AllPast p limit h (replicate 65 false)
-none_past p limit h t is = absurd (none_true 65 t is)
+pub none_past : (p : Program) (limit n : ℕ) (h : LogState) → AllPast p limit h (replicate n false)
+none_past p limit n h t is = absurd (none_true n t is)
 
 -- what comes of an entry that may be
 ended_so : (r : Result (PieceConcrete × Option Event) StepFault) (k : PieceConcrete) (e : Option Event) → r ≡ Ok (k, e)

@@ -36,6 +36,9 @@ pub enum Drawn {
     Living(u32),
 }
 
+// How many threads there can be.
+const PLACES: usize = MOST_THREADS as usize;
+
 // About one entry in so many is a kill, as long as there may be one more: 2 at least, and 2^12 at most.
 const MOST_DOUBLINGS: u64 = 12;
 
@@ -85,7 +88,7 @@ pub fn run_drawn<J: RunName>(
     ensures ok { OnOk result (Idle J.program J.limit (log_state shared.new)) }
     ensures err { IfErr result (λ fault. CanFail J.program J.outside J.limit fault) }
 {
-    let mut refused = [false; MOST_THREADS as usize + 1];
+    let mut refused = [false; PLACES + 1];
     let mut piece = Piece::idle(1);
     while make_next(
         shared,
@@ -122,7 +125,7 @@ fn make_next<J: RunName>(
         → Idle J.program J.limit (log_state shared.new)) }
     ensures err { IfErr result (λ fault. CanFail J.program J.outside J.limit fault) }
 {
-    let mut passed = [false; MOST_THREADS as usize + 1];
+    let mut passed = [false; PLACES + 1];
     while let Some(drawn) = draw_entry(shared, refused, &passed, generator, outside) {
         if make_drawn(shared, refused, &mut passed, image, share, drawn, piece)? {
             return Ok(true);
@@ -270,12 +273,12 @@ fn pick(threads: &[u32], generator: &mut SplitMix64) -> u32
 }
 
 // The threads that can move, weren't refused and aren't passed over, by rising number.
-fn movers(machine: &Machine, refused: &[bool], passed: &[bool]) -> ArrayVec<u32, 64>
+fn movers(machine: &Machine, refused: &[bool], passed: &[bool]) -> ArrayVec<u32, PLACES>
     requires room { (length refused.now ≡ suc most_threads) × (length passed.now ≡ suc most_threads) }
     ensures drawn { All (IsDrawn (concrete machine.now) refused.now passed.now) result.items }
     ensures none { length result.items ≡ 0 → NoneLeft (concrete machine.now) refused.now passed.now }
 {
-    let mut movers: ArrayVec<u32, 64> = ArrayVec::new();
+    let mut movers: ArrayVec<u32, PLACES> = ArrayVec::new();
     for before in 0..machine.threads() {
         add_pickable(&mut movers, machine, refused, passed, before + 1);
     }
@@ -284,13 +287,13 @@ fn movers(machine: &Machine, refused: &[bool], passed: &[bool]) -> ArrayVec<u32,
 
 // Adds thread `t`, if it can move, wasn't refused and isn't passed over.
 fn add_pickable(
-    movers: &mut ArrayVec<u32, 64>,
+    movers: &mut ArrayVec<u32, PLACES>,
     machine: &Machine,
     refused: &[bool],
     passed: &[bool],
     t: u32,
 )
-    requires space { length movers.old.items < 64 }
+    requires space { length movers.old.items < most_threads }
     requires room { (length refused.now ≡ suc most_threads) × (length passed.now ≡ suc most_threads) }
     requires thread { (0 < t) × (t ≤ most_threads) }
     ensures drawn { All (IsDrawn (concrete machine.now) refused.now passed.now) movers.old.items
@@ -318,10 +321,10 @@ fn is_pickable(machine: &Machine, refused: &[bool], passed: &[bool], t: u32) -> 
 }
 
 // The threads that sleep, by rising number.
-fn sleepers(machine: &Machine) -> ArrayVec<u32, 64>
+fn sleepers(machine: &Machine) -> ArrayVec<u32, PLACES>
     ensures { All (IsAsleep (concrete machine.now)) result.items }
 {
-    let mut sleepers: ArrayVec<u32, 64> = ArrayVec::new();
+    let mut sleepers: ArrayVec<u32, PLACES> = ArrayVec::new();
     for before in 0..machine.threads() {
         add_sleeper(&mut sleepers, machine, before + 1);
     }
@@ -329,8 +332,8 @@ fn sleepers(machine: &Machine) -> ArrayVec<u32, 64>
 }
 
 // Adds thread `t`, if it sleeps.
-fn add_sleeper(sleepers: &mut ArrayVec<u32, 64>, machine: &Machine, t: u32)
-    requires space { length sleepers.old.items < 64 }
+fn add_sleeper(sleepers: &mut ArrayVec<u32, PLACES>, machine: &Machine, t: u32)
+    requires space { length sleepers.old.items < most_threads }
     ensures asleep { All (IsAsleep (concrete machine.now)) sleepers.old.items
         → All (IsAsleep (concrete machine.now)) sleepers.new.items }
     ensures few { length sleepers.new.items ≤ length sleepers.old.items + 1 }
@@ -341,11 +344,11 @@ fn add_sleeper(sleepers: &mut ArrayVec<u32, 64>, machine: &Machine, t: u32)
 }
 
 // The threads that live, which aren't dying yet nor ended, and weren't refused, by rising number.
-fn living(machine: &Machine, refused: &[bool]) -> ArrayVec<u32, 64>
+fn living(machine: &Machine, refused: &[bool]) -> ArrayVec<u32, PLACES>
     requires room { length refused.now ≡ suc most_threads }
     ensures { All (IsUnrefused (concrete machine.now) refused.now) result.items }
 {
-    let mut living: ArrayVec<u32, 64> = ArrayVec::new();
+    let mut living: ArrayVec<u32, PLACES> = ArrayVec::new();
     for before in 0..machine.threads() {
         add_living(&mut living, machine, refused, before + 1);
     }
@@ -353,8 +356,8 @@ fn living(machine: &Machine, refused: &[bool]) -> ArrayVec<u32, 64>
 }
 
 // Adds thread `t`, if it lives and wasn't refused.
-fn add_living(living: &mut ArrayVec<u32, 64>, machine: &Machine, refused: &[bool], t: u32)
-    requires space { length living.old.items < 64 }
+fn add_living(living: &mut ArrayVec<u32, PLACES>, machine: &Machine, refused: &[bool], t: u32)
+    requires space { length living.old.items < most_threads }
     requires room { length refused.now ≡ suc most_threads }
     requires thread { (0 < t) × (t ≤ most_threads) }
     ensures living { All (IsUnrefused (concrete machine.now) refused.now) living.old.items

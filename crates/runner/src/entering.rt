@@ -1,5 +1,5 @@
 ghost use Rattle.std.specs.Prelude.{◌≡◌, ◌≢◌, ◌≤◌, ◌<◌, ◌^◌, ◌++◌, ◌∷◌, [], length, true, Some, None, Ok};
-ghost use Rattle.std.specs.Prelude.{IfOk, OnOk, OnErr, IsOk};
+ghost use Rattle.std.specs.Prelude.{IfOk, OnOk, OnErr, IsOk, option_copied};
 ghost use Rattle.locals.specs.Looks.{look};
 ghost use Rattle.locals.specs.Requests.{next_step_of};
 ghost use Rattle.machine.specs.States.{state_of, thread_of};
@@ -11,7 +11,7 @@ ghost use Rattle.runner.specs.Entries.{entry_end, event_if};
 
 use crate::stepping::is_local;
 use locals::{Local, NextStep};
-use machine::{Entry, Event};
+use machine::Event;
 use packed_log::PackedLog;
 use piece_machine::PieceMachine;
 use std::alloc::AllocError;
@@ -23,13 +23,13 @@ pub fn enter(
     log: &mut PackedLog,
     t: u32,
     here: &Local,
-    next: NextStep,
+    next: &NextStep,
     count: u32,
     event: &mut Event,
 ) -> Result<bool, AllocError>
     requires thread { can_move (concrete machine.old.view) t ≡ true }
     requires goes { GoesTo machine.old.view t here.now }
-    requires next { next ≡ next_step_of (look machine.old.view.program t here.now) }
+    requires next { next.now ≡ next_step_of (look machine.old.view.program t here.now) }
     requires fine { IsOk (entry_end machine.old.view.program (parts machine.old) t here.now) }
     ensures gives { IfOk result
         (λ shared. entry_end machine.old.view.program (parts machine.old) t here.now
@@ -44,11 +44,7 @@ pub fn enter(
 {
     make_room(machine, log)?;
     let shared = hand_in(machine, t, here, next, event);
-    log.push_reserved(Entry {
-        thread: t,
-        local: count,
-        event: event_if(shared, event),
-    });
+    log.push_parts(t, count, event_if(shared, event));
     Ok(shared)
 }
 
@@ -70,11 +66,7 @@ pub fn enter_outside(
 {
     make_room(machine, log)?;
     wake_from_outside(machine, t, event);
-    log.push_reserved(Entry {
-        thread: t,
-        local: 0,
-        event: Some(*event),
-    });
+    log.push_parts(t, 0, Some(event));
     Ok(())
 }
 
@@ -97,19 +89,15 @@ pub fn enter_kill(
 {
     make_room(machine, log)?;
     kill_from_outside(machine, t, event);
-    log.push_reserved(Entry {
-        thread: t,
-        local: 0,
-        event: Some(*event),
-    });
+    log.push_parts(t, 0, Some(event));
     Ok(())
 }
 
 /// The event of an entry, if it has a shared step.
-pub fn event_if(shared: bool, event: &Event) -> Option<Event>
-    ensures { result ≡ event_if shared event.now }
+pub fn event_if(shared: bool, event: &Event) -> Option<&Event>
+    ensures { option_copied result ≡ event_if shared event.now }
 {
-    if shared { Some(*event) } else { None }
+    if shared { Some(event) } else { None }
 }
 
 /// Makes room for one more entry, and for the number that it may print.
@@ -128,12 +116,12 @@ fn hand_in(
     machine: &mut PieceMachine,
     t: u32,
     here: &Local,
-    next: NextStep,
+    next: &NextStep,
     event: &mut Event,
 ) -> bool
     requires thread { can_move (concrete machine.old.view) t ≡ true }
     requires goes { GoesTo machine.old.view t here.now }
-    requires next { next ≡ next_step_of (look machine.old.view.program t here.now) }
+    requires next { next.now ≡ next_step_of (look machine.old.view.program t here.now) }
     requires fine { IsOk (entry_end machine.old.view.program (parts machine.old) t here.now) }
     requires room { 1 ≤ machine.old.view.room }
     ensures gives { entry_end machine.old.view.program (parts machine.old) t here.now
@@ -145,7 +133,7 @@ fn hand_in(
     if turn {
         return false;
     }
-    match machine.step_as(t, next, event) {
+    match machine.step_as(t, *next, event) {
         Ok(()) => true,
         Err(_) => unreachable!(),
     }

@@ -1,5 +1,5 @@
 ghost use Rattle.words.specs.Limits.{most_local_steps};
-ghost use Rattle.std.specs.Prelude.{◌≡◌, ◌≢◌, ◌≤◌, ◌<◌, ◌+◌, length, true, None, Some, Err, IfErr, IfNone, IfSome};
+ghost use Rattle.std.specs.Prelude.{◌≡◌, ◌≢◌, ◌≤◌, ◌<◌, ◌+◌, ◌++◌, ◌∷◌, [], length, true, None, Some, Err, IfErr, IfNone, IfSome};
 ghost use Rattle.std.specs.Prelude.{MatchBool, OnOk};
 ghost use Rattle.locals.specs.Looks.{look};
 ghost use Rattle.locals.specs.Requests.{next_step_of};
@@ -21,7 +21,8 @@ use crate::fault::RunFault;
 use crate::stepping::is_local;
 use isa::Image;
 use locals::{Local, NextStep};
-use machine::{Entry, Event, Machine, StepFault};
+use machine::{Event, Machine, StepFault};
+use packed_log::PackedLog;
 use piece_machine::PieceMachine;
 use words::MOST_LOCAL_STEPS;
 
@@ -34,15 +35,13 @@ pub struct Taken {
     pub shared: bool,
 }
 
-/// The entry of thread `t` that was made in its place, with the event of its shared step, if it has one.
-pub fn taken_entry(t: u32, taken: Taken, event: &Event) -> Entry
-    ensures { result ≡ taken_entry t taken event.now }
+/// Puts the entry of thread `t` that was made in its place at the end of a log that has room for it, with the event of its
+/// shared step, if it has one.
+pub fn push_taken(log: &mut PackedLog, t: u32, taken: Taken, event: &Event)
+    requires { 1 ≤ log.old.room }
+    ensures { log.new.items ≡ log.old.items ++ taken_entry t taken event.now ∷ [] }
 {
-    Entry {
-        thread: t,
-        local: taken.local,
-        event: event_if(taken.shared, event),
-    }
+    log.push_parts(t, taken.local, event_if(taken.shared, event));
 }
 
 /// Takes the next entry of thread `t` in its place: its local steps until another step comes or its turn is over, and
@@ -67,7 +66,7 @@ pub fn take_entry(
 {
     let local = machine.run_local(t, MOST_LOCAL_STEPS);
     let next = machine.machine().next_step(t);
-    end_entry(machine, t, local, next, event)
+    end_entry(machine, t, local, &next, event)
 }
 
 /// The same of a thread that may be held up: None where a held bucket is in its way, and then nothing has changed. Where
@@ -103,7 +102,7 @@ pub fn take_if_free(
         return None;
     }
     catch_up(machine, t, local, ahead);
-    Some(end_entry(machine, t, local, next, event))
+    Some(end_entry(machine, t, local, &next, event))
 }
 
 // How many local steps thread `t` takes in its turn, and what its next step is behind them. It takes them in `ahead`,
@@ -115,7 +114,7 @@ fn look_ahead(machine: &Machine, image: &Image, t: u32, ahead: &mut Local) -> (u
         → LooksFrom machine.now.program t origin result.0 result.1 ahead.new }
 {
     let next = machine.next_step(t);
-    if !is_local(next) {
+    if !is_local(&next) {
         return (0, next);
     }
     ahead.copy_from(machine.local(t));
@@ -156,13 +155,13 @@ fn end_entry(
     machine: &mut PieceMachine,
     t: u32,
     local: u32,
-    next: NextStep,
+    next: &NextStep,
     event: &mut Event,
 ) -> (Taken, Result<(), RunFault>)
     requires thread { (0 < t) × (t ≤ length machine.old.view.threads) }
     requires awake { (state_of (concrete machine.old.view)).asleep t ≡ None }
     requires next { (x : Thread) → thread_of (concrete machine.old.view) t ≡ Some x
-        → next ≡ next_step_of (look machine.old.view.program t x) }
+        → next.now ≡ next_step_of (look machine.old.view.program t x) }
     requires room { 1 ≤ machine.old.view.room }
     ensures count { result.0.local ≡ local }
     ensures enters { (k : PieceConcrete) → Walked machine.old.view.program k t local (parts machine.old)
@@ -182,7 +181,7 @@ fn end_entry(
     if is_local(next) {
         return (taken, Ok(()));
     }
-    match machine.step_as(t, next, event) {
+    match machine.step_as(t, *next, event) {
         Ok(()) => {
             taken.shared = true;
             (taken, Ok(()))

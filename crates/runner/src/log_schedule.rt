@@ -191,7 +191,7 @@ fn take_shared(machine: &mut PieceMachine, t: u32) -> Option<Event>
     ensures program { machine.new.view.program ≡ machine.old.view.program }
 {
     let next = machine.machine().next_step(t);
-    if is_local(next) {
+    if is_local(&next) {
         return None;
     }
     let mut event = Event::new(EventName::Local, 0);

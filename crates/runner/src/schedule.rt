@@ -163,7 +163,7 @@ fn take_step(machine: &mut PieceMachine, t: u32) -> Result<Entry, StepFault>
     ensures program { machine.new.view.program ≡ machine.old.view.program }
 {
     let next = machine.machine().next_step(t);
-    if is_local(next) {
+    if is_local(&next) {
         return Ok(Entry {
             thread: t,
             local: machine.run_local(t, 1),

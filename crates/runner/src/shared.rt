@@ -19,7 +19,7 @@ ghost use Rattle.runner.specs.Views.{log_state};
 
 use crate::entering::{enter, enter_kill, enter_outside, make_room};
 use crate::fault::RunFault;
-use crate::in_place::{take_entry, take_if_free, taken_entry};
+use crate::in_place::{push_taken, take_entry, take_if_free};
 use crate::naming::RunName;
 use crate::next::{After, Next};
 use crate::piece::Piece;
@@ -308,7 +308,7 @@ impl<J: RunName> Shared<J> {
             &mut self.log,
             t,
             &piece.here,
-            next,
+            &next,
             count,
             &mut self.event,
         ) else {
@@ -465,9 +465,8 @@ impl<J: RunName> Shared<J> {
             return Err(RunFault::Memory);
         }
         let (taken, outcome) = take_entry(&mut self.machine, t, &mut self.event);
-        let entry = taken_entry(t, taken, &self.event);
-        self.log.push_reserved(entry);
-        self.steps += entry.local + u32::from(entry.event.is_some());
+        push_taken(&mut self.log, t, taken, &self.event);
+        self.steps += taken.local + u32::from(taken.shared);
         share.count_one(&mut self.book);
         outcome
     }
@@ -498,9 +497,8 @@ impl<J: RunName> Shared<J> {
             return Ok(false);
         };
         let (taken, outcome) = made;
-        let entry = taken_entry(t, taken, &self.event);
-        self.log.push_reserved(entry);
-        self.steps += entry.local + u32::from(entry.event.is_some());
+        push_taken(&mut self.log, t, taken, &self.event);
+        self.steps += taken.local + u32::from(taken.shared);
         share.count_one(&mut self.book);
         outcome.and(Ok(true))
     }
@@ -524,7 +522,7 @@ impl<J: RunName> Shared<J> {
             Some(StepFault::Broken) => return Some(RunFault::Broken),
             None => {}
         }
-        let shared = !is_local(next);
+        let shared = !is_local(&next);
         if self.limit - self.steps < count + u32::from(shared) {
             return Some(RunFault::Limit);
         }

@@ -6,8 +6,8 @@ ghost use Rattle.locals.specs.Steps.{local_next};
 use locals::NextStep;
 
 /// Whether a thread's next step is a local one. So who has asked for it once needn't ask the thread again.
-pub fn is_local(next: NextStep) -> bool
-    ensures { (l : Look) → next ≡ next_step_of l → result ≡ is_some (local_next l) }
+pub fn is_local(next: &NextStep) -> bool
+    ensures { (l : Look) → next.now ≡ next_step_of l → result ≡ is_some (local_next l) }
 {
-    next == NextStep::Local
+    *next == NextStep::Local
 }

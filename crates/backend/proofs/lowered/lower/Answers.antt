@@ -1,4 +1,8 @@
+use Rattle.std.proofs.Common.{ap, subst}
+use Rattle.std.specs.Prelude.{MatchResult}
 use Rattle.program.specs.Names.{said_by}
+use Rattle.program.specs.Trees.{as_version}
+use Rattle.lowering.specs.Layout.{Layout}
 use Rattle.backend.specs.Lowered.{IsLowered}
 use Rattle.backend.specs.Refusals.{RefusesCode}
 use Rattle.backend.proofs.Refusing.{of_generate, passed}
@@ -7,6 +11,16 @@ use Rattle.backend.proofs.lowered.lower.Goals as goal
 pub returns-in_err-pieces : goal.returns-in_err-pieces
 returns-in_err-pieces c =
     let p = said_by c.args.checked.now in
-    passed c.from_residual-in_err-pieces.result c.in_err-pieces.field-0.0 (IsLowered p) (RefusesCode p)
+    let e = c.in_err-pieces.field-0.0 in
+    let first = ap (λ (l : Layout). l.version) c.in_ok-layout.ensures.layout in
+    passed c.from_residual-in_err-pieces.result e (IsLowered p) (RefusesCode p)
     c.from_residual-in_err-pieces.ensures
-    (of_generate p c.in_err-pieces.field-0.0 c.in_err-pieces.ensures.refusal)
+    (subst (λ v. RefusesCode (as_version v p) e) first
+    (of_generate (as_version c.in_ok-layout.layout.version p) e c.in_err-pieces.ensures.refusal))
+
+pub returns : goal.returns
+returns c =
+    let p = said_by c.args.checked.now in
+    subst (λ v. MatchResult c.assemble.result (λ lowered. IsLowered (as_version v p) lowered)
+    (λ e. RefusesCode (as_version v p) e)) (ap (λ (l : Layout). l.version) c.in_ok-layout.ensures.layout)
+    c.assemble.ensures

@@ -1,4 +1,5 @@
 use Rattle.std.proofs.Common.{◌++◌, length, ap, ◌∙◌}
+use Rattle.program.specs.Trees.{as_version}
 use Rattle.program.specs.Views.{program_of, procedure_of, block_in}
 use Rattle.lowering.specs.Marks.{sequence}
 use Rattle.lowering.specs.Statements.{block_code}
@@ -10,7 +11,8 @@ use Rattle.codegen.proofs.piece.procedure_code.Goals as goal
 pub returns : goal.returns
 returns c =
     let q = procedure_of c.args.procedure.now in
-    let set = setting_of (program_of c.args.program.now) (λ piece. piece) q in
+    let p = as_version c.args.layout.now.version (program_of c.args.program.now) in
+    let set = setting_of p (λ piece. piece) q in
     let first = c.beginning.new.code.items in
     let body =
     c.in_ok-block.ensures ∙ ap (λ ss. first ++ block_code set (block_in ss) (length first)) c.deref.ensures.value in

@@ -2,10 +2,10 @@ use Rattle.std.proofs.Common.{arith, length-append, ◌≡◌, length, refl, sym
 use Rattle.program.specs.declared.statement.Statement.{If as IfOf, Join as JoinOf}
 use Rattle.program.specs.declared.statement.Statement.TheBlock.{hidden-the_row-Statement-0}
 use Rattle.program.specs.Trees.{If, While, Join, NoPart, SomePart}
-use Rattle.program.specs.Views.{program_of, expression_of, statement_of, block_in, block_of}
+use Rattle.program.specs.Views.{expression_of, statement_of, block_in, block_of}
 use Rattle.lowering.specs.Expressions.{expression_code}
 use Rattle.lowering.specs.Statements.{block_code}
-use Rattle.codegen.specs.Sites.{setting_at}
+use Rattle.codegen.specs.Sites.{said_at, setting_at}
 use Rattle.codegen.proofs.Patches.{patch_if, patch_then, then_place, patch_else, patch_while, patch_join, then_less}
 use Rattle.codegen.proofs.Patches.{else_made, if_block_fits, if_end_fits, while_block_fits, while_end_fits}
 use Rattle.codegen.proofs.Patches.{then_block_fits, then_end_fits, join_first_fits, join_block_fits, join_end_fits}
@@ -78,7 +78,7 @@ else_passed-returns t c =
 
 pub join_aborted-returns : goal.join_aborted-returns
 join_aborted-returns t c =
-    patch_join _ (expression_code (program_of c.args.site.now.program.now) (expression_of c.args.handle.now)) _
+    patch_join _ (expression_code (said_at c.args.site.now) (expression_of c.args.handle.now)) _
     (block_code (setting_at c.args.site.now) (block_in c.args.aborted.now)) _ _ _ _ _ _ _ refl refl
     c.in_ok-join_first.ensures (c.len-passed.ensures ∙ c.join_first.new.code.ok.0) c.in_ok-append.ensures
     c.in_ok-block.ensures
@@ -249,7 +249,7 @@ join_aborted-returns-in_err-join_first t c =
     failed c.from_residual.result c.in_err-join_first.field-0.0 _ _ _ c.from_residual.ensures
     c.in_err-join_first.ensures
     (join_first_fits c.args.code.now.items
-    (expression_code (program_of c.args.site.now.program.now) (expression_of c.args.handle.now)) _ _)
+    (expression_code (said_at c.args.site.now) (expression_of c.args.handle.now)) _ _)
 
 pub join_aborted-returns-in_err-append : goal.join_aborted-returns-in_err-append
 join_aborted-returns-in_err-append t c =
@@ -259,7 +259,7 @@ pub join_aborted-returns-in_err-block : goal.join_aborted-returns-in_err-block
 join_aborted-returns-in_err-block t c =
     failed c.from_residual-in_err-block.result c.in_err-block.field-0.0 _ _ _ c.from_residual-in_err-block.ensures
     c.in_err-block.ensures
-    (join_block_fits _ (expression_code (program_of c.args.site.now.program.now)
+    (join_block_fits _ (expression_code (said_at c.args.site.now)
     (expression_of c.args.handle.now)) _
     (block_code (setting_at c.args.site.now) (block_in c.args.aborted.now)) _ _ _ _ _ refl refl
     c.in_ok-join_first.ensures c.in_ok-append.ensures)
@@ -268,6 +268,6 @@ pub join_aborted-returns-in_err-end : goal.join_aborted-returns-in_err-end
 join_aborted-returns-in_err-end t c =
     failed c.from_residual-in_err-end.result c.in_err-end.field-0.0 _ _ _ c.from_residual-in_err-end.ensures
     c.in_err-end.ensures
-    (join_end_fits _ (expression_code (program_of c.args.site.now.program.now) (expression_of c.args.handle.now)) _
+    (join_end_fits _ (expression_code (said_at c.args.site.now) (expression_of c.args.handle.now)) _
     (block_code (setting_at c.args.site.now) (block_in c.args.aborted.now)) _ _ _ _ _ _ _ refl refl
     c.in_ok-join_first.ensures c.in_ok-append.ensures c.in_ok-block.ensures (ap length c.deref.ensures.value))

@@ -1,4 +1,5 @@
 use Rattle.std.proofs.Common.{◌≡◌, ◌≤◌, length, map, subst}
+use Rattle.program.specs.Trees.{as_version}
 use Rattle.program.specs.Views.{program_of, procedure_of}
 use Rattle.lowering.specs.Pieces.{unlinked_code}
 use Rattle.codegen.specs.Generated.{length_of, piece_of}
@@ -10,7 +11,7 @@ use Rattle.codegen_workers.proofs.share.generate_share.Goals as goal
 pub returns-in_err-code : goal.returns-in_err-code
 returns-in_err-code g c =
     let program = c.args.share.program.now in
-    let p = program_of program in
+    let p = as_version c.args.share.layout.now.version (program_of program) in
     let q = c.procedure-item.result in
     let fits =
     subst (λ qs. length (unlinked_code p (procedure_of q)) ≤ length_of p (map procedure_of qs))

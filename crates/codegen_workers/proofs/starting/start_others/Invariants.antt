@@ -7,5 +7,5 @@ abbrev pub invariant-loop-worker : goal.invariant-loop-worker
 invariant-loop-worker g l = record {
   count : vec_len l.handles + 1 ≡ l.worker;
   room : l.workers ≤ vec_capacity l.handles + 1;
-  each : AreHandles l.program l.workers 1 (vec_items l.handles);
+  each : AreHandles l.program l.layout.version l.workers 1 (vec_items l.handles);
 }

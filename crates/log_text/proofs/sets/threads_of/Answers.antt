@@ -1,6 +1,7 @@
 use Rattle.std.proofs.Common.{◌≡◌, ◌∙◌, ◌++◌, arith, sym, subst, ap, length, length-append, refl, rules, [], ◌∷◌, List, ℕ}
 use Rattle.std.specs.List.{All}
-use Rattle.machine.specs.ThreadSets.{IsThread, set_of}
+use Rattle.machine.specs.ThreadSets.{IsMember, set_of}
+use Rattle.machine.proofs.Sets.{threads_members}
 use Rattle.log_text.specs.Cuts.{Rises}
 use Rattle.log_text.specs.LogLines.{numbers_text}
 use Rattle.log_text.proofs.Rising.{Ends, ReadsOn, ends_more, numbers_more, reads_all, reads_more, reads_none}
@@ -65,7 +66,8 @@ returns-then-last-eq0-clause-reads c = λ ts rest rises some none is.
 
 pub of-requires : goal.of-requires
 of-requires c =
-    subst (All IsThread) (sym c.as_slice.ensures.value) (rising_threads 0 c.walk.threads.items c.walk.invariant.rises)
+    subst (All IsMember) (sym c.as_slice.ensures.value)
+    (threads_members c.walk.threads.items (rising_threads 0 c.walk.threads.items c.walk.invariant.rises))
 
 pub returns-clause-read : goal.returns-clause-read
 returns-clause-read c =

@@ -1,4 +1,5 @@
 use Rattle.std.proofs.Common.{◌≡◌, ◌≤◌, ◌++◌, length}
+use Rattle.words.specs.Limits.{most_threads}
 use Rattle.log_text.specs.Cuts.{Rises}
 use Rattle.log_text.specs.LogLines.{numbers_text}
 use Rattle.log_text.proofs.Rising.{Ends, ReadsOn}
@@ -9,7 +10,7 @@ invariant-walk l = record {
   rises : Rises 0 l.threads.items;
   ends : Ends 0 l.threads.items l.last;
   few : length l.threads.items ≤ l.last;
-  last : l.last ≤ 64;
+  last : l.last ≤ most_threads;
   whole : l.text ≡ numbers_text l.threads.items ++ l.rest;
   on : ReadsOn l.text l.threads.items l.last l.rest;
 }

@@ -17,7 +17,7 @@ step_as-requires-clause-awake c =
 
 pub step_as-requires-clause-next : goal.step_as-requires-clause-next
 step_as-requires-clause-next c =
-    λ x at. put_next c.args.machine.now c.copy_local.new.self c.args.t c.requires.goes.origin c.args.here.now x c.args.next
+    λ x at. put_next c.args.machine.now c.copy_local.new.self c.args.t c.requires.goes.origin c.args.here.now x c.args.next.now
     c.requires.goes.stands c.copy_local.ensures c.requires.next at
 
 pub returns-clause-gives : goal.returns-clause-gives

@@ -1,4 +1,5 @@
-use Rattle.std.proofs.Common.{◌≡◌, ◌<◌, ◌≤◌, ◌-◌, ℕ, true, false}
+use Rattle.std.proofs.Common.{◌≡◌, ◌<◌, ◌≤◌, ◌-◌, ℕ, suc, true, false}
+use Rattle.words.specs.Limits.{most_threads}
 use Rattle.machine.specs.ConcreteSteps.{can_move}
 use Rattle.runner.specs.Logs.{cost}
 use Rattle.runner.specs.Reports.{IsStopped}
@@ -10,7 +11,7 @@ abbrev pub invariant-loop-t : goal.invariant-loop-t
 invariant-loop-t g l = record {
   past : AllPast g.J.RunName.program g.J.RunName.limit (log_state l.shared) l.refused;
   from_one : 0 < l.t;
-  few : l.t ≤ 65;
+  few : l.t ≤ suc most_threads;
   made : l.made ≡ true → (cost l.fn.shared.log < cost l.shared.log) × (cost l.shared.log ≤ g.J.RunName.limit);
   same : l.made ≡ false → log_state l.fn.shared ≡ log_state l.shared;
   none : l.made ≡ false → (u : ℕ) → u < l.t → can_move (log_state l.shared).concrete.concrete u ≡ true
@@ -18,4 +19,4 @@ invariant-loop-t g l = record {
 }
 
 abbrev pub decreases-loop-t : goal.decreases-loop-t
-decreases-loop-t g l = 65 - l.t
+decreases-loop-t g l = suc most_threads - l.t

@@ -1,18 +1,12 @@
-use Rattle.std.proofs.Common.{◌≡◌, Bool, true, false, is_some, refl, [], ◌∷◌, length, length-append, sym, subst, ap, ◌∙◌, arith}
-use mir.Val.{bool_byte}
+use Rattle.std.proofs.Common.{◌≡◌, [], ◌∷◌, length, length-append, sym, subst, ap, ◌∙◌, arith}
 use Rattle.locals.specs.Looks.{look}
 use Rattle.locals.specs.Requests.{next_step_of}
 use Rattle.machine.specs.Views.{View}
 use Rattle.piece_machine.specs.PieceViews.{parts}
 use Rattle.runner.specs.Views.{PieceView, LogState, SharedView, log_state}
-use Rattle.machine.specs.declared.event.Event.{Event}
 use Rattle.runner.specs.Entries.{IsFine, event_if}
-use Rattle.runner.proofs.Growing.{entry, keeps}
+use Rattle.runner.proofs.Growing.{entry, is_shared, keeps}
 use Rattle.runner.proofs.shared.Shared.enter.Goals as goal
-
-is_shared : (shared : Bool) (event : Event) → bool_byte shared ≡ bool_byte (is_some (event_if shared event))
-is_shared true event = refl
-is_shared false event = refl
 
 pub refusal-requires : goal.refusal-requires
 refusal-requires g c =

@@ -1,12 +1,12 @@
 -- The log has one entry more.
 use Rattle.std.proofs.Common.{◌≡◌, true, ◌≤◌, ◌+◌, [], ◌∷◌, length, length-append, ap, sym, subst, ◌∙◌, arith}
-use mir.Val.{bool_byte}
 use Rattle.piece_machine.specs.PieceViews.{parts}
 use Rattle.machine.specs.declared.event.Entry.{Entry}
-use Rattle.runner.specs.Logs.{EntersOwn, cost}
+use Rattle.runner.specs.Logs.{cost}
+use Rattle.runner.specs.Entries.{taken_entry}
 use Rattle.machine.specs.ConcreteSteps.{can_move}
 use Rattle.runner.specs.Views.{SharedView, log_state}
-use Rattle.runner.proofs.Growing.{breaks_can, keeps_entry}
+use Rattle.runner.proofs.Growing.{breaks_can, is_shared, keeps_entry}
 use Rattle.runner.proofs.shared.Shared.go_on.Goals as goal
 
 pub invariant_of-self-2 : goal.invariant_of-self-2
@@ -17,19 +17,14 @@ invariant_of-self-2 g c =
     let limit = g.J.RunName.limit in
     let room = subst (λ (x : SharedView). cost x.log + 257 ≤ limit) (sym c.self.view_is) c.requires.room in
     let counted = c.self.invariant.1 in
-    let grows = ap length c.push_reserved.ensures.entries in
-    let entry = c.taken_entry-entry.result in
-    let enters : EntersOwn m.new.machine.view.program (parts m.new.machine) entry (parts e.new.machine) =
-    subst (λ (x : Entry). EntersOwn m.new.machine.view.program (parts m.new.machine) x (parts e.new.machine))
-    (sym c.taken_entry-entry.ensures) e.ensures.enters in
-    let turn : entry.local ≤ 256 =
-    subst (λ (x : Entry). x.local ≤ 256) (sym c.taken_entry-entry.ensures) e.ensures.turn in (
+    let grows = ap length c.push_taken.ensures in
+    let entry : Entry = taken_entry c.args.t e.result.0 e.new.event in (
       keeps_entry g.J.RunName.program g.J.RunName.outside s.machine.view.program m.new.machine.view.program
           e.new.machine.view.program limit (parts s.machine) (parts m.new.machine)
-          (parts e.new.machine) s.log.items m.new.log.items c.push_reserved.new.self.items entry s.steps
+          (parts e.new.machine) s.log.items m.new.log.items c.push_taken.new.log.items entry s.steps
           s.limit s.kills c.from.result
-          c.self.invariant.0 room m.ensures.program m.ensures.same.0 m.ensures.same.1 e.ensures.program enters
-          turn c.push_reserved.ensures.entries (c.from.ensures ∙ ap bool_byte c.is_some.ensures),
+          c.self.invariant.0 room m.ensures.program m.ensures.same.0 m.ensures.same.1 e.ensures.program
+          e.ensures.enters e.ensures.turn c.push_taken.ensures (c.from.ensures ∙ is_shared e.result.0.shared e.new.event),
       record {
         total = omega (
           arith,

@@ -1,47 +1,52 @@
-use Rattle.std.proofs.Common.{◌≡◌, ◌++◌, ◌∷◌, [], ap, sym, ◌∙◌, arith}
+use Rattle.std.proofs.Common.{◌≡◌, ◌++◌, ◌∷◌, [], ap, sym, option_copied, ◌∙◌, arith}
 use Rattle.std.proofs.lemmas.Bool.{eqb-true}
 use Rattle.std.proofs.lemmas.List.{nil_from_length}
+use Rattle.machine.specs.declared.event.Entry.{Entry}
 use Rattle.packed_log.specs.Packing.{entries_of, heads_of}
 use Rattle.packed_log.specs.Views.{IsPacked, PackedView}
 use Rattle.packed_log.proofs.Entries.{pushed_head, pushed_wide}
-use Rattle.packed_log.proofs.packed_log.PackedLog.push_reserved.Goals as goal
+use Rattle.packed_log.proofs.packed_log.PackedLog.push_parts.Goals as goal
 
 pub invariant_of-self : goal.invariant_of-self
 invariant_of-self c =
     let s = c.self.inside in
+    let entry : Entry = record { thread = c.args.thread; local = c.args.local; event = option_copied c.args.event } in
     let count = eqb-true _ 0 (sym c.if-is_empty.ensures) in
     let none : s.wide.items ≡ [] = nil_from_length s.wide.items (omega (arith, count, s.wide.ok.0)) in
     rw (c.push_reserved.ensures.items, c.push_sets.ensures.items)
-    (pushed_head c.args.entry s.heads.items s.wide.items s.sets.items c.head_of.result none
+    (pushed_head entry s.heads.items s.wide.items s.sets.items c.head_of.result none
     c.head_of.ensures c.self.invariant).1
 
 pub invariant_of-self-else-is_empty : goal.invariant_of-self-else-is_empty
 invariant_of-self-else-is_empty c =
     let s = c.self.inside in
+    let entry : Entry = record { thread = c.args.thread; local = c.args.local; event = option_copied c.args.event } in
     let packed : IsPacked (heads_of s.heads.items c.push_reserved-else-is_empty.new.self.items) c.push_sets.new.sets.items =
     rw (c.push_reserved-else-is_empty.ensures.items, c.push_sets.ensures.items)
-    (pushed_wide c.args.entry s.heads.items s.wide.items s.sets.items c.wide_head_of.result c.wide_head_of.ensures
+    (pushed_wide entry s.heads.items s.wide.items s.sets.items c.wide_head_of.result c.wide_head_of.ensures
     c.self.invariant).1 in
     packed
 
 pub returns-then-has_head-clause-entries : goal.returns-then-has_head-clause-entries
 returns-then-has_head-clause-entries c =
     let s = c.self.inside in
+    let entry : Entry = record { thread = c.args.thread; local = c.args.local; event = option_copied c.args.event } in
     let count = eqb-true _ 0 (sym c.if-is_empty.ensures) in
     let none : s.wide.items ≡ [] = nil_from_length s.wide.items (omega (arith, count, s.wide.ok.0)) in
     let more : entries_of (heads_of c.push_reserved.new.self.items s.wide.items) c.push_sets.new.sets.items
-    ≡ entries_of (heads_of s.heads.items s.wide.items) s.sets.items ++ c.args.entry ∷ [] =
+    ≡ entries_of (heads_of s.heads.items s.wide.items) s.sets.items ++ entry ∷ [] =
     rw (c.push_reserved.ensures.items, c.push_sets.ensures.items)
-    (pushed_head c.args.entry s.heads.items s.wide.items s.sets.items c.head_of.result none
+    (pushed_head entry s.heads.items s.wide.items s.sets.items c.head_of.result none
     c.head_of.ensures c.self.invariant).0 in
-    more ∙ ap (λ (v : PackedView). v.items ++ c.args.entry ∷ []) c.self.view_is
+    more ∙ ap (λ (v : PackedView). v.items ++ entry ∷ []) c.self.view_is
 
 pub returns-else-is_empty-clause-entries : goal.returns-else-is_empty-clause-entries
 returns-else-is_empty-clause-entries c =
     let s = c.self.inside in
+    let entry : Entry = record { thread = c.args.thread; local = c.args.local; event = option_copied c.args.event } in
     let more : entries_of (heads_of s.heads.items c.push_reserved-else-is_empty.new.self.items) c.push_sets.new.sets.items
-    ≡ entries_of (heads_of s.heads.items s.wide.items) s.sets.items ++ c.args.entry ∷ [] =
+    ≡ entries_of (heads_of s.heads.items s.wide.items) s.sets.items ++ entry ∷ [] =
     rw (c.push_reserved-else-is_empty.ensures.items, c.push_sets.ensures.items)
-    (pushed_wide c.args.entry s.heads.items s.wide.items s.sets.items c.wide_head_of.result c.wide_head_of.ensures
+    (pushed_wide entry s.heads.items s.wide.items s.sets.items c.wide_head_of.result c.wide_head_of.ensures
     c.self.invariant).0 in
-    more ∙ ap (λ (v : PackedView). v.items ++ c.args.entry ∷ []) c.self.view_is
+    more ∙ ap (λ (v : PackedView). v.items ++ entry ∷ []) c.self.view_is
