@@ -10,6 +10,7 @@ mod follower;
 mod log_law;
 mod recorder;
 mod requests;
+mod same_event;
 mod walking;
 
 pub use explained_log::{ExplainedLog, LogExplanation, explain_log};

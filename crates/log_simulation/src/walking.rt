@@ -14,6 +14,7 @@ ghost use Rattle.runner.specs.Logs.{Ends, Enters, EntersOutside, EntersOwn, is_o
 ghost use Rattle.log_simulation.specs.Recording.{IsAlong, IsAlongStep, KeepsUp, WalksTo};
 
 use crate::recorder::Recorder;
+use crate::same_event::same_event;
 use isa::Image;
 use locals::Local;
 use machine::{Entry, Event, EventName, Machine};
@@ -47,7 +48,7 @@ fn take_shared(machine: &mut PieceMachine, t: u32, event: &Event, taken: &mut Ev
         return false;
     }
     match machine.step(t, taken) {
-        Ok(()) => *taken == *event,
+        Ok(()) => same_event(taken, event),
         Err(_) => false,
     }
 }
@@ -122,7 +123,7 @@ fn take_stray(machine: &mut PieceMachine, t: u32, event: &Event, stray: &mut Eve
     ensures program { machine.new.view.program ≡ machine.old.view.program }
 {
     match machine.stray(t, stray) {
-        Ok(()) => *stray == *event,
+        Ok(()) => same_event(stray, event),
         Err(_) => false,
     }
 }
@@ -135,7 +136,7 @@ fn take_kill(machine: &mut PieceMachine, t: u32, event: &Event, kill: &mut Event
     ensures program { machine.new.view.program ≡ machine.old.view.program }
 {
     match machine.kill(t, kill) {
-        Ok(()) => *kill == *event,
+        Ok(()) => same_event(kill, event),
         Err(_) => false,
     }
 }
