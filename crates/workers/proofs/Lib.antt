@@ -4,3 +4,4 @@ pub mod Freeing
 pub mod Moving
 pub mod Turning
 pub mod Waiting
+pub mod Waking

@@ -5,12 +5,8 @@ use Rattle.machine.specs.declared.event.Event.{Event}
 use Rattle.machine.specs.declared.event.EventName.{EventName}
 use Rattle.machine.specs.declared.event.EventName.TheVariants.{Fork, Wait, Wake, Requeue, Kill}
 use Rattle.machine.specs.ThreadSets.{set_of}
+use Rattle.packed_log.specs.Views.{step_of}
 use Rattle.workers.specs.declared.shared_run.WakeReason.{WakeReason}
-
--- the event of an entry, if there is one
-abbrev pub event_of : Option Entry → Option Event
-event_of None = None
-event_of (Some entry) = entry.event
 
 -- a futex call gives its buckets up by its last piece, and a thread that is killed gives up what it held
 abbrev pub gives_up_by : EventName → Bool
@@ -36,4 +32,4 @@ Concerns (Some event) wake_reason =
 
 -- the event of the last entry
 abbrev pub last_event : List Entry → Option Event
-last_event log = event_of (slice_get log (length log - 1))
+last_event log = step_of (slice_get log (length log - 1))

@@ -247,12 +247,12 @@ impl<J: RunName> Pool<J> {
         // piece behind another begins where that one has come, and the thread is elsewhere behind a step that does so,
         // which refuses the piece. Further entries are of the only thread there is. Who waited for buckets was noted at
         // each entry.
-        let wake_reason = shared_run.wake_reason();
+        shared_run.tell_last(&mut turns.wake_reason);
         let freed = shared_run.take_freed();
         let is_over = after != After::Goes && self.is_over(&shared_run);
         drop(shared_run);
         self.precedence.pass_on(t, few && after == After::Goes);
-        let _called = self.tell(wake_reason, freed);
+        let _called = self.tell(&turns.wake_reason, freed);
         if is_over {
             let _called = self.call_all();
         }
@@ -318,8 +318,8 @@ impl<J: RunName> Pool<J> {
     // Calls the workers of the threads that an entry woke and those who waited for a bucket, and the calling thread where
     // one was made.
     #[tactic(auto, using(crate::proofs::Calling::called_too))]
-    fn tell(&self, wake_reason: WakeReason, freed: BucketWaiters) -> Called
-        ensures { AreTold wake_reason.woken freed result }
+    fn tell(&self, wake_reason: &WakeReason, freed: BucketWaiters) -> Called
+        ensures { AreTold wake_reason.now.woken freed result }
     {
         let mut called = Called::new();
         if wake_reason.forked {

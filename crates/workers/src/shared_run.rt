@@ -8,12 +8,12 @@ ghost use Rattle.workers.specs.SharedRuns.{HasCause, KeepsWorkers, StartsWorker,
 ghost use Rattle.workers.specs.BucketWaiters.{nobody};
 ghost use Rattle.workers.specs.Handed.{ComesIn, StaysAway, ComeIn, StopsAt, IsNextOf, IsNextOfFirst};
 ghost use Rattle.workers.specs.Handed.{Frees, noted};
-ghost use Rattle.workers.specs.WakeReasons.{Concerns, gives_up, last_event};
+ghost use Rattle.workers.specs.WakeReasons.{Concerns, gives_up, gives_up_by, last_event};
 
 use crate::bucket_waiters::BucketWaiters;
 use crate::parker::Parker;
 use crate::turns::Turns;
-use machine::{Entry, EventName, ThreadSet};
+use machine::{EventName, ThreadSet};
 use runner::{After, Piece, RunFault, RunName, Share, Shared, run_alone};
 use std::marker::Model;
 use words::Gate;
@@ -48,8 +48,8 @@ impl<J: RunName> Model for SharedRun<J> {
     ghost invariant = { λ d. IsSharedRun J.program J.outside J.limit d.shared.given d.started d.fault };
 }
 
-/// Whom an entry concerns.
-#[derive(Clone, Copy)]
+/// Whom an entry concerns. A worker keeps one, so that a set isn't written where nobody was woken.
+#[derive(Drop)]
 pub struct WakeReason {
     /// The threads that it woke.
     pub woken: ThreadSet,
@@ -57,6 +57,17 @@ pub struct WakeReason {
     pub forked: bool,
     /// Whether it gave buckets up.
     pub released: bool,
+}
+
+impl WakeReason {
+    /// That of an entry which concerns nobody.
+    pub fn new() -> WakeReason {
+        WakeReason {
+            woken: ThreadSet::new(),
+            forked: false,
+            released: false,
+        }
+    }
 }
 
 impl<J: RunName> SharedRun<J> {
@@ -278,7 +289,9 @@ impl<J: RunName> SharedRun<J> {
         if self.waiting.is_empty() {
             return;
         }
-        if self.wake_reason().released {
+        let mut wake_reason = WakeReason::new();
+        self.tell_last(&mut wake_reason);
+        if wake_reason.released {
             self.freed.join(self.waiting);
             self.waiting = BucketWaiters::new();
         }
@@ -293,30 +306,18 @@ impl<J: RunName> SharedRun<J> {
         freed
     }
 
-    /// Whom the last entry concerns.
-    pub fn wake_reason(&self) -> WakeReason
-        ensures { Concerns (last_event self.now.shared.log) result }
+    /// Whom the last entry concerns, put in its place.
+    #[tactic(auto, using(crate::proofs::Waking::told, crate::proofs::Waking::untold))]
+    pub fn tell_last(&self, wake_reason: &mut WakeReason)
+        ensures { Concerns (last_event self.now.shared.log) wake_reason.new }
     {
-        match self.shared.log().last() {
-            Some(
-                Entry {
-                    event: Some(event),
-                    ..
-                },
-            ) => WakeReason {
-                woken: event.woken,
-                forked: event.name == EventName::Fork,
-                released: matches!(
-                    event.name,
-                    EventName::Wait | EventName::Wake | EventName::Requeue | EventName::Kill
-                ),
-            },
-            _ => WakeReason {
-                woken: ThreadSet::new(),
-                forked: false,
-                released: false,
-            },
-        }
+        let Some(name) = self.shared.log().last_woken(&mut wake_reason.woken) else {
+            wake_reason.forked = false;
+            wake_reason.released = false;
+            return;
+        };
+        wake_reason.forked = name == EventName::Fork;
+        wake_reason.released = gives_up(name);
     }
 
     /// Takes back what a worker counted.
@@ -345,4 +346,14 @@ impl<J: RunName> SharedRun<J> {
         } = self;
         (shared, fault, kept)
     }
+}
+
+// Whether a step of this kind gives buckets up.
+fn gives_up(name: EventName) -> bool
+    ensures { result ≡ gives_up_by name }
+{
+    matches!(
+        name,
+        EventName::Wait | EventName::Wake | EventName::Requeue | EventName::Kill
+    )
 }

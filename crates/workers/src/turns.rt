@@ -2,6 +2,7 @@ ghost use Rattle.std.specs.Prelude.{◌≡◌, ◌<◌, ◌≤◌, [], ◌∷◌
 ghost use Rattle.workers.specs.Taken.{AreTurns, IsTurn, IsGrown, StartsAt, idle};
 
 use crate::image_ref::ImageRef;
+use crate::shared_run::WakeReason;
 use runner::{Piece, RunName};
 use std::alloc::{AllocError, Global};
 use words::{Gate, MOST_LOCAL_STEPS};
@@ -20,6 +21,8 @@ pub struct Turns<J: RunName> {
     pub pieces: Vec<Piece<J>>,
     /// How many of them are turns that were taken.
     pub taken: usize,
+    /// Whom the last entry concerned.
+    pub wake_reason: WakeReason,
     ghost some: { 0 < vec_len pieces },
     ghost within: { taken ≤ vec_len pieces },
 }
@@ -31,7 +34,11 @@ impl<J: RunName> Turns<J> {
     {
         let mut pieces = Vec::new(alloc);
         pieces.push(Piece::idle(t))?;
-        Ok(Turns { pieces, taken: 0 })
+        Ok(Turns {
+            pieces,
+            taken: 0,
+            wake_reason: WakeReason::new(),
+        })
     }
 
     /// The pieces of the turns, in order.
