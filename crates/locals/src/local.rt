@@ -1,5 +1,5 @@
 ghost use Rattle.std.specs.Prelude.{◌≡◌, ◌≢◌, ◌≤◌, ◌<◌, MatchBool, Some, None, is_some, length, reverse};
-ghost use Rattle.words.specs.declared.outcome.Cause.TheVariants.{Killed};
+ghost use Rattle.words.specs.declared.outcome.Cause.TheVariants.{Faulted, Killed};
 ghost use Rattle.robustexit.specs.declared.phase.ExitPhase.TheVariants.{Ended};
 ghost use Rattle.locals.specs.Limits.{most_operands};
 ghost use Rattle.locals.specs.Threads.{Dies, Exits, is_dying, opening_thread, place_in_code};
@@ -13,7 +13,7 @@ use crate::request::{NextStep, Request};
 use isa::Image;
 use robustexit::{ExitPhase, phase_at};
 use std::marker::Model;
-use words::Cause;
+use words::{Cause, Fault};
 
 /// What a thread does, or is about to do.
 #[derive(Drop)]
@@ -196,12 +196,21 @@ impl Local {
             Stage::Running(activation) => {
                 let (count, failed) = activation.run(image, t, budget);
                 if let Some(fault) = failed {
-                    self.stage = Stage::Dying(Cause::Faulted(fault));
+                    self.die(fault);
                 }
                 count
             }
             Stage::Dying(_) | Stage::Exiting(_) => 0,
         }
+    }
+
+    // Begins to die of a fault. Inlined, it would cost its caller room for a whole stage, which is filled at each call.
+    #[cold]
+    #[inline(never)]
+    fn die(&mut self, fault: Fault)
+        ensures { self.new ≡ Dies (Faulted fault) }
+    {
+        self.stage = Stage::Dying(Cause::Faulted(fault));
     }
 
     /// Takes a local step of thread `t` where the next one is, and says whether it did. Else it stays as it is.
