@@ -5,12 +5,12 @@ use Rattle.words.specs.declared.version.ImageVersion.TheVariants.{One, Two}
 use Rattle.words.specs.Limits.{most_threads}
 use Rattle.words.specs.Versions.{most_of}
 
--- no version has more than a thousand
-pub most_few : (v : ImageVersion) → most_of v ≤ 1000
+-- no version has more than a machine can run
+pub most_few : (v : ImageVersion) → most_of v ≤ most_threads
 most_few One = omega arith
 most_few Two = omega arith
 
--- each has as many as a machine can run
-pub most_some : (v : ImageVersion) → most_threads ≤ most_of v
+-- each has 64
+pub most_some : (v : ImageVersion) → 64 ≤ most_of v
 most_some One = omega arith
 most_some Two = omega arith

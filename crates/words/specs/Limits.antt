@@ -4,7 +4,7 @@ use Rattle.std.specs.Prelude.{ℕ}
 
 -- the most threads that a machine can run: those for which a set of threads and the lists of sleepers have room
 abbrev pub most_threads : ℕ
-most_threads = 64
+most_threads = 1000
 
 -- the buckets of sleepers that a run has
 abbrev pub run_buckets : ℕ

@@ -2,7 +2,7 @@ ghost use Rattle.std.specs.Prelude.{◌≡◌};
 ghost use Rattle.words.specs.Limits.{most_threads, run_buckets, most_local_steps};
 
 /// The most threads that a machine can run: those for which a set of threads and the lists of sleepers have room.
-pub const MOST_THREADS: u32 = 64;
+pub const MOST_THREADS: u32 = 1000;
 
 /// The buckets of sleepers that a run has.
 pub const BUCKETS: u32 = 64;

@@ -1,7 +1,7 @@
-ghost use Rattle.std.specs.Prelude.{◌≡◌, ◌≤◌, ◌+◌};
+ghost use Rattle.std.specs.Prelude.{◌≡◌, ◌≤◌, ◌+◌, MatchBool};
 ghost use Rattle.words.specs.Limits.{most_threads};
 ghost use Rattle.words.specs.Process.{process_word};
-ghost use Rattle.words.specs.Versions.{most_of, base_of};
+ghost use Rattle.words.specs.Versions.{most_of, base_of, IsProcess};
 
 /// The version of an image, which says how many processes there can be, and so where the words of its monitors begin.
 #[derive(Clone, Copy, PartialEq, Eq, PartialOrd, Ord, Debug, Hash)]
@@ -30,13 +30,22 @@ impl ImageVersion {
     {
         1 + 6 * self.most_processes()
     }
+
+    /// Whether there can be a process of this number: they are numbered from 1.
+    #[tactic(auto, using(crate::proofs::Versions::most_few))]
+    pub fn has_process(self, number: u32) -> bool
+        ensures { MatchBool result (IsProcess self number) (IsProcess self number → ⊥) }
+    {
+        (1..=self.most_processes()).contains(&number)
+    }
 }
 
-/// How many processes a version has at the least and at the most, and what follows their words.
+/// How many processes a version has at the least and at the most, which a machine can run as threads, and what follows
+/// their words.
 #[tactic(auto, using(crate::proofs::Versions::most_few, crate::proofs::Versions::most_some))]
 pub fn version_laws()
-    ensures few { (v : ImageVersion) → most_of v ≤ 1000 }
-    ensures some { (v : ImageVersion) → most_threads ≤ most_of v }
+    ensures some { (v : ImageVersion) → 64 ≤ most_of v }
+    ensures fits { (v : ImageVersion) → most_of v ≤ most_threads }
 
     // The words of the last process are followed by the monitors.
     ensures base { (v : ImageVersion) → process_word (most_of v) 5 + 1 ≡ base_of v }
