@@ -217,7 +217,7 @@ impl<'c, 'n> Sheet<'c, 'n> {
     /// Draws the run, from its first action that is drawn to its last, and what its processes wait for at its end.
     pub fn draw_run(&mut self, checked: &'c Checked<'n>) -> Result<(), AllocError> {
         self.look_ahead()?;
-        let mut state = SourceState::opening(self.alloc, checked, ImageVersion::One)?;
+        let mut state = SourceState::opening(self.alloc, checked, ImageVersion::Two)?;
         self.draw_from(checked, &mut state)
     }
 }

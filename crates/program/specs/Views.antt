@@ -1,7 +1,7 @@
 -- What the trees of the code say, without pointers.
 use Rattle.std.specs.Prelude.{List, [], ◌∷◌, Option, Some, None, map, Vec}
 use Rattle.std.specs.Global.{Global}
-use Rattle.words.specs.declared.version.ImageVersion.TheVariants.{One}
+use Rattle.words.specs.declared.version.ImageVersion.TheVariants.{Two}
 use Rattle.program.specs.declared.expression.Expression.{Expression as ExpressionOf}
 use Rattle.program.specs.declared.expression.Expression.TheBlock.{Number as Number', Truth as Truth', Local as Local'}
 use Rattle.program.specs.declared.expression.Expression.TheBlock.{Member as Member', Element', Unary', Both'}
@@ -98,7 +98,7 @@ procedure_of q = record {
 -- a program, whose image has the first version
 abbrev pub program_of : ProgramOf → Program
 program_of p = record {
-  version = One;
+  version = Two;
   monitors = map monitor_of p.monitors.items;
   procedures = map procedure_of p.procedures.items;
 }

@@ -37,7 +37,7 @@ impl<'a, 't> Follower<'a, 't> {
         checked: &'a Checked,
         places: &'a Places<'t>,
     ) -> Result<Follower<'a, 't>, AllocError> {
-        let state = SourceState::opening(alloc, checked, ImageVersion::One)?;
+        let state = SourceState::opening(alloc, checked, ImageVersion::Two)?;
         let program = checked.program();
         let mut follower = Follower {
             alloc,

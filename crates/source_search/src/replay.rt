@@ -117,7 +117,7 @@ fn followed_to<'a>(
 ) -> Result<Vec<Action>, AllocError> {
     let back = places_back(alloc, kept.ways.as_slice(), place)?;
     let mut actions = Vec::new(alloc);
-    let opening = SourceState::opening(alloc, checked, ImageVersion::One)?;
+    let opening = SourceState::opening(alloc, checked, ImageVersion::Two)?;
     let program = checked.program();
     if let Some(packed) = kept.parts.pack(alloc, program, &opening, 0, 0)? {
         let _settled = kept.parts.settle(alloc, checked, packed, &mut actions)?;
@@ -155,7 +155,7 @@ fn interleaved_to<'a>(
 ) -> Result<Vec<Action>, AllocError> {
     let back = places_back(alloc, ways, place)?;
     let mut actions = Vec::new(alloc);
-    let mut state = SourceState::opening(alloc, checked, ImageVersion::One)?;
+    let mut state = SourceState::opening(alloc, checked, ImageVersion::Two)?;
     for at in back.as_slice().iter().rev() {
         let Some(way) = ways.get(*at).copied() else {
             return Ok(actions);

@@ -166,7 +166,7 @@ pub fn explore<P: Progress>(
 {
     let _program = checked.program();
     let mut kept = Kept::new(alloc, most_states);
-    let opening = SourceState::opening(alloc, checked, ImageVersion::One)?;
+    let opening = SourceState::opening(alloc, checked, ImageVersion::Two)?;
     let opens = kept.open(alloc, checked, opening, outside)?;
     let findings = search(alloc, checked, &mut kept, most_states, outside, progress)?;
     let states = kept.states.len();

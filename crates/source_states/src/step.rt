@@ -202,7 +202,7 @@ pub fn accepts<'a>(
         → ⊥)
         (λ s. IsRun (program_of checked.now.tree) (map action_named actions.now) (state_in s))) }
 {
-    let mut state = SourceState::opening(alloc, checked, ImageVersion::One)?;
+    let mut state = SourceState::opening(alloc, checked, ImageVersion::Two)?;
     for action in actions {
         if !state.advance(alloc, checked.program(), action)? {
             return Ok(None);

@@ -11,7 +11,7 @@ use words::ImageVersion;
 pub fn run_length(alloc: Global, checked: &Checked, actions: &[Action]) -> Result<usize, AllocError>
     ensures { IfOk result (λ n. IsRunLength (program_of checked.now.tree) actions.now n) }
 {
-    let mut state = SourceState::opening(alloc, checked, ImageVersion::One)?;
+    let mut state = SourceState::opening(alloc, checked, ImageVersion::Two)?;
     for i in 0..actions.len() {
         if !state.advance(alloc, checked.program(), &actions[i])? {
             return Ok(i);

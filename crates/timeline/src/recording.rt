@@ -241,7 +241,7 @@ pub fn timeline(
         handovers: handovers(alloc, names, actions)?,
         slices: Vec::new(alloc),
     };
-    let mut state = SourceState::opening(alloc, checked, ImageVersion::One)?;
+    let mut state = SourceState::opening(alloc, checked, ImageVersion::Two)?;
     recording.record_all(checked, actions, &mut state)?;
     recording.cut_all()?;
     recording.tape.finish()?;

@@ -1,6 +1,6 @@
 -- The program that a unit is resolved to. A name that means nothing is read as some thing of number 0.
 use Rattle.std.specs.Prelude.{ℕ, ◌+◌, List, [], ◌∷◌, Option, Some, None, map, option_map, length}
-use Rattle.words.specs.declared.version.ImageVersion.TheVariants.{One}
+use Rattle.words.specs.declared.version.ImageVersion.TheVariants.{Two}
 use Rattle.program.specs.Trees.{Monitor, Procedure, Program}
 use Rattle.program.specs.Names.{Naming}
 use Rattle.syntax.specs.Tree.{RecoverTree, MonitorTree, UnitTree}
@@ -38,7 +38,7 @@ procedure u q = record {
 -- the program of a unit, whose image has the first version
 abbrev pub resolved : UnitTree → Program
 resolved u = record {
-  version = One;
+  version = Two;
   monitors = monitors_from u 0 u.monitors;
   procedures = map (procedure u) (pieces u);
 }
