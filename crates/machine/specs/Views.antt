@@ -12,6 +12,7 @@ use Rattle.machine.specs.declared.event.Event.{Event}
 use Rattle.machine.specs.declared.event.EventName.{EventName}
 use Rattle.machine.specs.declared.event.EventName.TheVariants as name
 use Rattle.locals.specs.Threads.{Thread}
+use Rattle.machine.specs.ThreadSets.{has_bit}
 use Rattle.machine.specs.States.{Common, ConcreteState, thread_of}
 use Rattle.machine.specs.Runs.{has_ended}
 use Rattle.machine.specs.ConcreteSteps.{can_move}
@@ -71,6 +72,14 @@ pub record IsCommon (words : List ℕ) (sleepers : Sleepers) : Type 0 where
   pub wide : 1 + 6 * thread_count sleepers ≤ length words
   pub sound : IsSound sleepers
   pub places : thread_count sleepers ≤ most_threads
+
+-- the bit of a thread is set just where the thread can move
+abbrev pub IsBitSo : List ℕ → ConcreteState → ℕ → Type 0
+IsBitSo words k t = has_bit words t ≡ can_move k t
+
+-- the bits show who can move
+abbrev pub ShowsAble : List ℕ → ConcreteState → Type 0
+ShowsAble words k = (t : ℕ) → 1 ≤ t → IsBitSo words k t
 
 -- the program that runs, the parts of its concrete state, and how many numbers can be printed without taking memory
 pub record View : Type 0 where

@@ -7,6 +7,7 @@ use Rattle.locals.specs.Requests.{next_step_of}
 use Rattle.machine.specs.declared.event.StepFault.{StepFault}
 use Rattle.machine.specs.States.{thread_at}
 use Rattle.machine.specs.Views.{View, parts_of, printed_by}
+use Rattle.machine.proofs.Ables.{shows_result}
 use Rattle.machine.proofs.Whole.{kept_after}
 use Rattle.machine.proofs.Printed.{printed_so, at_most_one}
 use Rattle.machine.proofs.machine.Machine.step_as.Goals as goal
@@ -28,6 +29,10 @@ invariant_of-self c =
       kept_after c.self.inside.image k k' c.args.t c.step_parts.result c.step_parts.new.event c.self.invariant.0 s.done
           (on_err c.step_parts.result _ _ (k' ≡ k) (λ v t i. parts_of (v i) (t i)) s.same),
       omega (arith, s.space, c.self.invariant.1),
+      shows_result c.self.inside.image k k' c.args.t c.step_parts.result c.step_parts.new.event
+          c.self.inside.able.words c.refresh_after.new.self.words c.self.invariant.0 s.done
+          (on_err c.step_parts.result _ _ (k' ≡ k) (λ v t i. parts_of (v i) (t i)) s.same) c.self.invariant.2
+          c.refresh_after.ensures.kept c.refresh_after.ensures.right,
     )
 
 on_ok : {U : Type 0} (r : Result U StepFault) (P Q : Type 0) → (P → Q) → OnOk r P → OnOk r Q
