@@ -1,6 +1,6 @@
 -- Whom a step leaves as it was: whether a thread can move is changed by a step no further than for the thread that takes
 -- it, those that it wakes, and the one that it makes. So the bits are right behind it once theirs are.
-use Rattle.std.proofs.Common.{◌≡◌, ◌≢◌, ℕ, zero, suc, ◌+◌, ◌<◌, ◌≤◌, ◌==◌, ◌||◌, Bool, true, false, not, is_some, Option}
+use Rattle.std.proofs.Common.{◌≡◌, ◌≢◌, ℕ, zero, suc, ◌<◌, ◌≤◌, ◌==◌, ◌||◌, Bool, true, false, not, is_some, Option}
 use Rattle.std.proofs.Common.{Some, None, Ok, List, [], ◌∷◌, length, get_or, max, refl, ap, sym, ◌∙◌, subst, arith, ◌⊎◌, inl}
 use Rattle.std.proofs.Common.{inr, ◌-◌, slice_set, replicate, length-set, Result, Err}
 use Rattle.std.specs.Prelude.{if◌then◌else◌, OnOk, OnErr}
@@ -18,10 +18,10 @@ use Rattle.futexcalls.specs.declared.pieces.FutexCall.TheVariants.{Wait, Wake, R
 use Rattle.futexcalls.specs.declared.pieces.FutexPhase.{FutexPhase}
 use Rattle.futexcalls.specs.declared.pieces.FutexPhase.TheVariants.{First, Second, Compare, Act}
 use Rattle.futexcalls.specs.Answers.{word_of}
-use Rattle.futexcalls.specs.Progress.{PieceAnswer, Again, Acted, PieceProgress, Next, Blocked, Done}
+use Rattle.futexcalls.specs.Progress.{PieceAnswer, Again, Acted, PieceProgress, Next, Done}
 use Rattle.futexcalls.specs.Pieces.{after_lock, Acts}
 use Rattle.futexcalls.specs.PieceResults.{PieceSo, TakesSo, ComparesSo}
-use Rattle.robustexit.specs.RobustExit.{Shared, ExitStep, EntryStep, PendingStep, IsIdle, Abandons, WakesOne}
+use Rattle.robustexit.specs.RobustExit.{Shared, ExitStep, EntryStep, PendingStep, IsIdle}
 use Rattle.robustexit.specs.RobustExit.{IsPending, IsForeign, IsOwned, NoEntry, put}
 use Rattle.robustexit.specs.declared.phase.ExitPhase.{ExitPhase}
 use Rattle.robustexit.specs.declared.phase.ExitPhase.TheVariants.{Entry, Pending, ClearId, LastWake, Ended}
@@ -31,7 +31,7 @@ use Rattle.locals.specs.Looks.{AskWait, AskWake, AskRequeue, AskReturn, AskRetur
 use Rattle.locals.specs.Looks.{Leaves, Breaks, Rests, look}
 use Rattle.machine.specs.declared.event.Event.{Event}
 use Rattle.machine.specs.declared.thread_set.ThreadSet.{ThreadSet}
-use Rattle.machine.specs.ThreadSets.{set_of, has, has_bit, IsThread, IsMember, IsLeastFrom}
+use Rattle.machine.specs.ThreadSets.{set_of, has, has_bit, IsMember, IsLeastFrom}
 use Rattle.machine.specs.declared.call_step.CallProgress.TheVariants as common
 use Rattle.machine.specs.declared.event.StepFault.{StepFault}
 use Rattle.machine.specs.States.{State, Common, ConcreteState, thread_at, thread_of, state_of, with_thread, with_word}
@@ -41,7 +41,7 @@ use Rattle.machine.specs.AbstractServing.{Serves}
 use Rattle.machine.specs.Runs.{Moves, has_ended}
 use Rattle.machine.specs.ConcreteSteps.{can_move, thread_can_move, step_of}
 use Rattle.machine.specs.ConcretePieces.{woken_in}
-use Rattle.machine.specs.Views.{View, IsWellFormed, IsBitSo, ShowsAble, concrete}
+use Rattle.machine.specs.Views.{View, IsWellFormed, IsBitSo, KeepsBits, MendsBits, ShowsAble, concrete}
 use Rattle.machine.proofs.CallPieces.{Told, next_told, blocked_told, done_told, blocked_same}
 use Rattle.machine.proofs.Placing.{put-there, get_set_other}
 use Rattle.machine.proofs.Sets.{sets_so, none_set}
@@ -55,9 +55,9 @@ none_past k (suc n) past =
     ap (thread_can_move (k.common.asleep (suc n))) (slice_get_past k.threads n (omega (arith, past)))
 
 -- who sleeps behind a step of thread t that woke these: others as before, and who was woken slept
-record Rouses (t : ℕ) (before after : ℕ → Option ℕ) (woken : List ℕ) : Type 0 where
-  alike : (u : ℕ) → u ≢ t → names woken u ≡ false → is_some (after u) ≡ is_some (before u)
-  slept : (u : ℕ) → names woken u ≡ true → (a : ℕ) × (before u ≡ Some a)
+pub record Rouses (t : ℕ) (before after : ℕ → Option ℕ) (woken : List ℕ) : Type 0 where
+  pub alike : (u : ℕ) → u ≢ t → names woken u ≡ false → is_some (after u) ≡ is_some (before u)
+  pub slept : (u : ℕ) → names woken u ≡ true → (a : ℕ) × (before u ≡ Some a)
 
 nobody : (woken : List ℕ) (u : ℕ) → woken ≡ [] → names woken u ≡ true → ⊥
 nobody woken u none y = let n : names [] u ≡ true = ap (λ xs. names xs u) (sym none) ∙ y in cc
@@ -157,21 +157,21 @@ forks s s' q t x woken none is made thread asleep =
 
 serves : (t : ℕ) (request : Request) (s : State) (woken : List ℕ) (answer : ℕ) (s' : State)
     → Serves t request s woken answer s' → Spares s s' t woken
-serves t (AskLoad a) s woken answer s' h = quiet s s' _ t woken h.1 h.3 refl refl refl
-serves t (AskStore a v) s woken answer s' h = quiet s s' _ t woken h.1 h.3 refl refl refl
-serves t (AskSwap a v) s woken answer s' h = quiet s s' _ t woken h.1 h.3 refl refl refl
+serves t (AskLoad a) s woken answer s' h = quiet s s' _ t woken h.1.0 h.1.1.1 refl refl refl
+serves t (AskStore a v) s woken answer s' h = quiet s s' _ t woken h.1.0 h.1.1.1 refl refl refl
+serves t (AskSwap a v) s woken answer s' h = quiet s s' _ t woken h.1.0 h.1.1.1 refl refl refl
 serves t (AskCompareSwap a expected new) s woken answer s' h =
-    quiet_if s s' t a new woken (s.word a == expected) h.1 h.3
-serves t (AskOr a v) s woken answer s' h = quiet s s' _ t woken h.1 h.3 refl refl refl
-serves t (AskAdd a v) s woken answer s' h = quiet s s' _ t woken h.1 h.3 refl refl refl
+    quiet_if s s' t a new woken (s.word a == expected) h.1.0 h.1.1.1
+serves t (AskOr a v) s woken answer s' h = quiet s s' _ t woken h.1.0 h.1.1.1 refl refl refl
+serves t (AskAdd a v) s woken answer s' h = quiet s s' _ t woken h.1.0 h.1.1.1 refl refl refl
 serves t (AskFork entry arguments has_room) s woken answer s' h = elim h.1 [
   | inl full ↦ quiet s s' s t woken h.0 full.2 refl refl refl
   | inr more ↦ forks s s' _ t _ woken h.0 more.3 refl refl refl
 ]
-serves t (AskPrint number) s woken answer s' h = quiet s s' _ t woken h.0 h.2 refl refl refl
-serves t (AskWait a expected) s woken answer s' h = elim h.2 [
-  | inl slept ↦ sleeping s s' _ t woken slept.0 slept.3 refl refl refl (joins t a s.asleep slept.0 woken h.1 slept.1.joins)
-  | inr again ↦ quiet s s' s t woken h.1 again.2 refl refl refl
+serves t (AskPrint number) s woken answer s' h = quiet s s' _ t woken h.0 h.1.1 refl refl refl
+serves t (AskWait a expected) s woken answer s' h = elim h.1.1 [
+  | inl slept ↦ sleeping s s' _ t woken slept.0 slept.3 refl refl refl (joins t a s.asleep slept.0 woken h.1.0 slept.1.joins)
+  | inr again ↦ quiet s s' s t woken h.1.0 again.2 refl refl refl
 ]
 serves t (AskWake a n) s woken answer s' h =
     sleeping s s' _ t woken h.1 h.4 refl refl refl (wakes t a n s.asleep h.1 woken h.2)
@@ -180,9 +180,9 @@ serves t (AskRequeue a b n m expected) s woken answer s' h = elim h.2 [
       (requeues t a b n m s.asleep went.1 woken went.0 went.2.wakes went.2.moves)
   | inr again ↦ quiet s s' s t woken again.1 again.3 refl refl refl
 ]
-serves t AskReturn s woken answer s' h = quiet s s' _ t woken h.0 h.2 refl refl refl
-serves t (AskReturnValue v) s woken answer s' h = quiet s s' _ t woken h.0 h.2 refl refl refl
-serves t (AskFault cause) s woken answer s' h = quiet s s' _ t woken h.0 h.2 refl refl refl
+serves t AskReturn s woken answer s' h = quiet s s' _ t woken h.0 h.1.1 refl refl refl
+serves t (AskReturnValue v) s woken answer s' h = quiet s s' _ t woken h.0 h.1.1 refl refl refl
+serves t (AskFault cause) s woken answer s' h = quiet s s' _ t woken h.0 h.1.1 refl refl refl
 
 -- the steps of an exit
 idles : (t : ℕ) (before after : Shared) (woken : List ℕ) → IsIdle before woken after
@@ -198,7 +198,7 @@ entry size t e before after woken (IsOwned ne h) = wakes t _ _ before.asleep aft
 
 pending : (size t e : ℕ) (before after : Shared) (woken : List ℕ) → PendingStep size t e before woken after
     → Rouses t before.asleep after.asleep woken
-pending size t e before after woken (NoEntry no h) = idles t before after woken h
+pending size t e before after woken (NoEntry absent h) = idles t before after woken h
 pending size t e before after woken (IsForeign is other h) = wakes t _ _ before.asleep after.asleep woken h.wakes
 pending size t e before after woken (IsOwned is h) = wakes t _ _ before.asleep after.asleep woken h.wakes
 
@@ -269,9 +269,8 @@ spared p k k' t woken u well h le ne out old =
 -- the bits behind it, once those are right that it may have changed
 pub shows_after : (p : Program) (k k' : ConcreteState) (t : ℕ) (woken : List ℕ) (set : ThreadSet) (old new : List ℕ)
     → IsWellFormed p k → IsWellFormed p k' → Spares (state_of k) (state_of k') t woken → set ≡ set_of woken
-    → ShowsAble old k → ((u : ℕ) → 1 ≤ u → IsBitSo old k' u → IsBitSo new k' u)
-    → ((u : ℕ) → IsThread u → (u ≡ t) ⊎ ((length k.threads < length k'.threads) × (u ≡ length k'.threads))
-    ⊎ (has set u ≡ true) → IsBitSo new k' u)
+    → ShowsAble old k → KeepsBits old new k'
+    → MendsBits new k' (length k.threads) t set
     → ShowsAble new k'
 shows_after p k k' t woken set old new well well' h is shows kept right u le =
     let grows : length k.threads ≤ length k'.threads = h.grows in
@@ -299,9 +298,8 @@ shows_after p k k' t woken set old new well well' h is shows kept right u le =
 -- behind the machine's own step
 pub shows_step : (p : Program) (k k' : ConcreteState) (t : ℕ) (e : Event) (old new : List ℕ) → IsWellFormed p k
     → step_of p k t ≡ Ok (k', e) → ShowsAble old k
-    → ((u : ℕ) → 1 ≤ u → IsBitSo old k' u → IsBitSo new k' u)
-    → ((u : ℕ) → IsThread u → (u ≡ t) ⊎ ((length k.threads < length k'.threads) × (u ≡ length k'.threads))
-    ⊎ (has e.woken u ≡ true) → IsBitSo new k' u)
+    → KeepsBits old new k'
+    → MendsBits new k' (length k.threads) t e.woken
     → ShowsAble new k'
 shows_step p k k' t e old new well done shows kept right =
     let s = steps_so p k k' t e well done in
@@ -311,9 +309,8 @@ shows_step p k k' t e old new well done shows kept right =
 -- and where the step may be refused, which changes nothing
 pub shows_result : {A : Type 0} (p : Program) (k k' : ConcreteState) (t : ℕ) (r : Result A StepFault) (e : Event)
     (old new : List ℕ) → IsWellFormed p k → OnOk r (step_of p k t ≡ Ok (k', e)) → OnErr r (k' ≡ k) → ShowsAble old k
-    → ((u : ℕ) → 1 ≤ u → IsBitSo old k' u → IsBitSo new k' u)
-    → ((u : ℕ) → IsThread u → (u ≡ t) ⊎ ((length k.threads < length k'.threads) × (u ≡ length k'.threads))
-    ⊎ (has e.woken u ≡ true) → IsBitSo new k' u)
+    → KeepsBits old new k'
+    → MendsBits new k' (length k.threads) t e.woken
     → ShowsAble new k'
 shows_result p k k' t (Ok a) e old new well done same shows kept right =
     shows_step p k k' t e old new well done shows kept right
@@ -323,7 +320,7 @@ shows_result p k k' t (Err f) e old new well done same shows kept right =
 -- where no more than one thread has changed
 pub shows_one : (k k' : ConcreteState) (t : ℕ) (old new : List ℕ) → ShowsAble old k
     → ((u : ℕ) → u ≢ t → can_move k' u ≡ can_move k u)
-    → ((u : ℕ) → 1 ≤ u → IsBitSo old k' u → IsBitSo new k' u) → IsBitSo new k' t → ShowsAble new k'
+    → KeepsBits old new k' → IsBitSo new k' t → ShowsAble new k'
 shows_one k k' t old new shows others kept right u le = elim (cases_eq u t) [
   | inl e ↦ subst (λ n. IsBitSo new k' n) (sym e) right
   | inr ne ↦ kept u le (shows u le ∙ sym (others u ne))
@@ -405,10 +402,8 @@ next_places t word call Act next s s' h = absurd h
 pub shows_done : (p : Program) (v v' : View) (t : ℕ) (call : FutexCall) (phase : FutexPhase) (value : ℕ) (event : Event)
     (x : Thread) (old new : List ℕ) → IsWellFormed p (concrete v) → IsWellFormed p (concrete v') → 1 ≤ t
     → v'.threads ≡ slice_set v.threads (t - 1) x → Told v t call phase (common.Done value) event v'
-    → ShowsAble old (concrete v) → ((u : ℕ) → 1 ≤ u → IsBitSo old (concrete v') u → IsBitSo new (concrete v') u)
-    → ((u : ℕ) → IsThread u
-    → (u ≡ t) ⊎ ((length v.threads < length v'.threads) × (u ≡ length v'.threads)) ⊎ (has event.woken u ≡ true)
-    → IsBitSo new (concrete v') u)
+    → ShowsAble old (concrete v) → KeepsBits old new (concrete v')
+    → MendsBits new (concrete v') (length v.threads) t event.woken
     → ShowsAble new (concrete v')
 shows_done p v v' t call phase value event x old new well well' some threads told shows kept right =
     let d = done_told call told.0 value event told.2 in
@@ -450,16 +445,14 @@ shows_blocked v v' t call phase event old threads told shows =
     alike v v' old threads
     (ap place_of (blocked_same t (word_of v.words) call phase v.sleepers v'.sleepers piece)) shows
 
--- nobody past the last thread can move
-pub none_beyond : (p : Program) (k : ConcreteState) (u : ℕ) → IsWellFormed p k → most_threads < u → can_move k u ≡ false
-none_beyond p k u well far = none_past k u (omega (arith, far, well.few, well.fits))
-
 -- the first that can move, by the bits
 pub least_able : (words : List ℕ) (k : ConcreteState) (from low : ℕ) (o : Option ℕ) → ShowsAble words k → from ≤ low
     → low ≤ max from 1 → 1 ≤ low → IsLeastFrom (has_bit words) low o → IsLeastFrom (can_move k) from o
-least_able words k from low None shows le most some least zero from_le = refl
-least_able words k from low None shows le most some least (suc u) from_le =
-    sym (shows (suc u) (omega arith)) ∙ least (suc u) (omega (arith, from_le, most))
+least_able words k from low None shows le most some least = none
+  where
+    none : (u : ℕ) → from ≤ u → can_move k u ≡ false
+    none zero from_le = refl
+    none (suc u) from_le = sym (shows (suc u) (omega arith)) ∙ least (suc u) (omega (arith, from_le, most))
 least_able words k from low (Some u) shows le most some least =
     let past : low ≤ u = least.0 in (
       omega (arith, le, past),
@@ -471,3 +464,37 @@ least_able words k from low (Some u) shows le most some least =
     below zero from_le less = refl
     below (suc v) from_le less =
         sym (shows (suc v) (omega arith)) ∙ least.2 (suc v) (omega (arith, from_le, most)) less
+
+-- what always holds is kept where a thread goes on in its place
+pub keeps_put : (p : Program) (k : ConcreteState) (t : ℕ) (x : Thread) → IsWellFormed p k
+    → IsWellFormed p (record { common = k.common; threads = slice_set k.threads (t - 1) x })
+keeps_put p k t x well =
+    let same : length (slice_set k.threads (t - 1) x) ≡ length k.threads = length-set k.threads (t - 1) x in record {
+      most = well.most;
+      fits = well.fits;
+      sized = well.sized;
+      some = omega (arith, same, well.some);
+      few = omega (arith, same, well.few);
+      agree = well.agree;
+      made = λ u a h. let r = well.made u a h in (r.0, omega (arith, same, r.1));
+    }
+
+-- the bits behind that
+pub shows_put : (c : Common) (threads seen : List Thread) (t : ℕ) (x : Thread) (old new : List ℕ) → 1 ≤ t
+    → seen ≡ slice_set threads (t - 1) x → ShowsAble old (record { common = c; threads = threads })
+    → KeepsBits old new (record { common = c; threads = seen }) → IsBitSo new (record { common = c; threads = seen }) t
+    → ShowsAble new (record { common = c; threads = slice_set threads (t - 1) x })
+shows_put c threads seen t x old new some is shows kept right =
+    subst (λ (ts : List Thread). ShowsAble new (record { common = c; threads = ts })) is
+    (shows_one (record { common = c; threads = threads }) (record { common = c; threads = seen }) t old new shows
+    (λ u ne. ap (λ (ts : List Thread). can_move (record { common = c; threads = ts }) u) is
+    ∙ put_spares c threads t x u some ne) kept right)
+
+-- who can move was made
+pub mover_made : (p : Program) (k : ConcreteState) (t : ℕ) → IsWellFormed p k → can_move k t ≡ true
+    → (1 ≤ t) × (t ≤ length k.threads)
+mover_made p k zero well h = absurd cc
+mover_made p k (suc t) well h = elim (cases_lt (length k.threads) (suc t)) [
+  | inl past ↦ absurd (both_ways (can_move k (suc t)) (none_past k (suc t) past) h)
+  | inr near ↦ (omega arith, near)
+]

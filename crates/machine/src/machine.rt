@@ -23,6 +23,7 @@ ghost use Rattle.machine.specs.ThreadSets.{IsLeastFrom};
 ghost use Rattle.machine.specs.Views.{concrete, AllEnded, IsQuiet, variable_address, address_of, printed_by};
 ghost use Rattle.machine.specs.Views.{IsWellFormed};
 
+use crate::able::is_able;
 use crate::call_step::{CallProgress, CallStep};
 use crate::common::Common;
 use crate::event::{Event, EventName, StepFault};
@@ -34,7 +35,7 @@ use locals::{Local, NextStep};
 use robustexit::ExitPhase;
 use std::alloc::{AllocError, Global};
 use std::marker::Model;
-use words::{Addr, MOST_THREADS, Outcome, ProcessWord, block};
+use words::{Addr, Outcome, ProcessWord, block};
 
 /// The machine of an image: the words, who sleeps on which address, the threads that were made, numbered from 1, and
 /// the numbers that were printed. Contracts see a `View`.
@@ -176,17 +177,14 @@ impl Machine {
     pub fn can_move(&self, t: u32) -> bool
         ensures { result ≡ can_move (concrete self.now) t }
     {
-        if t == 0 || t as usize > self.threads.len() {
-            return false;
-        }
-        self.asleep(t).is_none() && !self.threads[t as usize - 1].has_ended()
+        is_able(&self.common, &self.threads, t)
     }
 
     /// The first thread from this number on that can move, if there is one.
     pub fn next_able(&self, from: u32) -> Option<u32>
         ensures { IsLeastFrom (can_move (concrete self.now)) from result }
     {
-        if from > MOST_THREADS {
+        if from as usize > self.threads.len() {
             return None;
         }
         self.able.next_from(from.max(1))
@@ -432,7 +430,8 @@ impl Machine {
             CallProgress::Done(answer) => {
                 self.threads[t as usize - 1].go_on(&self.image, t, answer);
                 let made = self.threads.len();
-                self.able.refresh_after(&self.common, &self.threads, made, t, &event.woken);
+                self.able
+                    .refresh_after(&self.common, &self.threads, made, t, &event.woken);
                 CallStep::Done
             }
         }

@@ -27,6 +27,7 @@ impl ThreadBits {
     }
 
     /// Puts thread `t` in or takes it out. Nothing is written where that is so already.
+    #[tactic(auto, using(crate::proofs::Bits::turned_here, crate::proofs::Bits::turned_there, crate::proofs::Bits::turned_to))]
     pub(crate) fn put(&mut self, t: u32, is_in: bool)
         requires { IsMember t }
         ensures here { has_bit self.new.words t ≡ is_in }
