@@ -18,6 +18,11 @@ with_called called t = record { workers = with_waiter called.workers t }
 abbrev pub was_called : Called → ℕ → Bool
 was_called called t = waits called.workers t
 
+-- those of the threads of a set, and whoever was called before
+pub record AreCalledToo (threads : ThreadSet) (old new : Called) : Type 0 where
+  pub each : (t : ℕ) → IsThread t → has threads t ≡ true → was_called new t ≡ true
+  pub kept : (t : ℕ) → IsThread t → was_called old t ≡ true → was_called new t ≡ true
+
 -- those of the threads that an entry woke, and those who waited until a bucket was given up
 abbrev pub AreTold : ThreadSet → BucketWaiters → Called → Type 0
 AreTold woken freed called = (t : ℕ) → IsThread t → (has woken t || waits freed t) ≡ true → was_called called t ≡ true
