@@ -19,6 +19,7 @@ ghost use Rattle.machine.specs.Runs.{has_ended};
 ghost use Rattle.machine.specs.ConcreteSteps.{step_of, can_move, fault_at};
 ghost use Rattle.machine.specs.ConcreteOutside.{kill_of, stray_of};
 ghost use Rattle.machine.specs.LocalRuns.{RunsOn};
+ghost use Rattle.machine.specs.ThreadSets.{IsLeastFrom};
 ghost use Rattle.machine.specs.Views.{concrete, AllEnded, IsQuiet, variable_address, address_of, printed_by};
 ghost use Rattle.machine.specs.Views.{IsWellFormed};
 
@@ -174,17 +175,24 @@ impl Machine {
         self.asleep(t).is_none() && !self.threads[t as usize - 1].has_ended()
     }
 
+    /// The first thread from this number on that can move, if there is one.
+    pub fn next_able(&self, from: u32) -> Option<u32>
+        ensures { IsLeastFrom (can_move (concrete self.now)) from result }
+    {
+        for t in from..self.threads() + 1 {
+            if self.can_move(t) {
+                return Some(t);
+            }
+        }
+        None
+    }
+
     /// Whether no thread can move.
     pub fn quiet(&self) -> bool
         ensures { MatchBool result (IsQuiet (concrete self.now)) ((t : ℕ)
             × (can_move (concrete self.now) t ≡ true)) }
     {
-        for t in 0..self.threads() {
-            if self.can_move(t + 1) {
-                return false;
-            }
-        }
-        true
+        self.next_able(0).is_none()
     }
 
     /// The word of a member of a monitor. Monitors and their member words are numbered from 0.
