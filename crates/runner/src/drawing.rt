@@ -41,6 +41,7 @@ const PLACES: usize = MOST_THREADS as usize;
 
 // Threads among which one is drawn. Both lists are made once a run and filled anew for each entry, which so writes no more
 // places than there are such threads.
+#[derive(Drop)]
 struct Lists {
     movers: ArrayVec<u32, PLACES>,
     // Those that sleep, or those that live, where one of these is drawn.
