@@ -365,20 +365,20 @@ mover_number p k t fit moves =
     let made = made_within k.concrete t moves in
     (mover_some k.concrete t moves, omega (arith, made, fit.well.few, fit.well.fits))
 
--- what holds of those who can move below a number holds of them below the first from there on
-pub up_to : (k : ConcreteState) (from t : ℕ) (Q : ℕ → Type 0) → ((u : ℕ) → u < from → can_move k u ≡ true → Q u)
-    → IsLeastFrom (can_move k) from (Some t) → (u : ℕ) → u < t → can_move k u ≡ true → Q u
-up_to k from t Q before least u below moves = elim (cases_lt u from) [
-  | inl less ↦ before u less moves
-  | inr at ↦ absurd (both_ways (can_move k u) (least.2 u at below) moves)
+-- what holds of those below a number that pass a test holds of them below the first from there on
+pub up_to : (test : ℕ → Bool) (from t : ℕ) (Q : ℕ → Type 0) → ((u : ℕ) → u < from → test u ≡ true → Q u)
+    → IsLeastFrom test from (Some t) → (u : ℕ) → u < t → test u ≡ true → Q u
+up_to test from t Q before least u below passes = elim (cases_lt u from) [
+  | inl less ↦ before u less passes
+  | inr at ↦ absurd (both_ways (test u) (least.2 u at below) passes)
 ]
 
 -- and of all of them where there is none from there on
-pub all_from : (k : ConcreteState) (from : ℕ) (Q : ℕ → Type 0) → ((u : ℕ) → u < from → can_move k u ≡ true → Q u)
-    → IsLeastFrom (can_move k) from None → (u : ℕ) → can_move k u ≡ true → Q u
-all_from k from Q before none u moves = elim (cases_lt u from) [
-  | inl less ↦ before u less moves
-  | inr at ↦ absurd (both_ways (can_move k u) (none u at) moves)
+pub all_from : (test : ℕ → Bool) (from : ℕ) (Q : ℕ → Type 0) → ((u : ℕ) → u < from → test u ≡ true → Q u)
+    → IsLeastFrom test from None → (u : ℕ) → test u ≡ true → Q u
+all_from test from Q before none u passes = elim (cases_lt u from) [
+  | inl less ↦ before u less passes
+  | inr at ↦ absurd (both_ways (test u) (none u at) passes)
 ]
 
 -- where the limit leaves room for any entry, nobody is past it

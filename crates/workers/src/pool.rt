@@ -2,6 +2,7 @@ ghost use Rattle.std.specs.Prelude.{ℕ, ◌≡◌, ◌<◌, true, false, is_som
 ghost use Rattle.words.specs.Limits.{most_threads};
 ghost use Rattle.machine.specs.ConcreteSteps.{can_move};
 ghost use Rattle.machine.specs.ThreadSets.{IsThread};
+ghost use Rattle.workers.specs.BucketWaiters.{IsWhole};
 ghost use Rattle.workers.specs.Calls.{AreTold, AreAllCalled, AreCalledToo, with_called};
 ghost use Rattle.workers.specs.Hirings.{IsDone, asking_for, asked_all, with_failed};
 ghost use Rattle.workers.specs.SharedRuns.{state_of};
@@ -54,7 +55,7 @@ impl<J: RunName> Pool<J> {
         alloc: Global,
         shared_run: SharedRun<J>,
     ) -> Result<Pool<J>, AllocError> {
-        let mut parkers = Vec::new(alloc);
+        let mut parkers = Vec::with_capacity(alloc, MOST_THREADS as usize + 1)?;
         for _ in 0..=MOST_THREADS {
             parkers.push(CachePadded::new(Parker::new()))?;
         }
@@ -91,7 +92,7 @@ impl<J: RunName> Pool<J> {
 
     // Starts a worker in this scope for each thread that is made, until nobody is left to make one. Where one can't be
     // started the run ends.
-    #[tactic(auto, using(crate::proofs::Calling::started_too, crate::proofs::Calling::failed_too))]
+    #[tactic(auto, using(crate::proofs::Calling::started_too, crate::proofs::Calling::failed_too, crate::proofs::Calling::started_whole, crate::proofs::Calling::failed_whole))]
     fn start_all<'s, E, R: Threads + Wait + Sync, G: Gate>(
         &'s self,
         rt: &'s R,
@@ -351,8 +352,8 @@ impl<J: RunName> Pool<J> {
     }
 
     // Calls the workers of the threads of a set.
-    #[tactic(auto, using(crate::proofs::Calling::called_too))]
     fn call_each(&self, threads: &ThreadSet, called: &mut Called)
+        requires { IsWhole called.old.workers }
         ensures { AreCalledToo threads.now called.old called.new }
     {
         let mut from = 1;
@@ -382,7 +383,7 @@ impl<J: RunName> Pool<J> {
     }
 
     // Calls everybody who is parked.
-    #[tactic(auto, using(crate::proofs::Calling::called_too))]
+    #[tactic(auto, using(crate::proofs::Calling::called_too, crate::proofs::Calling::called_whole))]
     fn call_all(&self) -> Called
         ensures { AreAllCalled result }
     {

@@ -311,9 +311,18 @@ impl<J: RunName> SharedRun<J> {
     {
         freed.clear();
         if !self.freed.is_empty() {
-            *freed = self.freed;
-            self.freed.clear();
+            self.hand_freed(freed);
         }
+    }
+
+    // The same where somebody waited. Apart, since a set is copied whole.
+    #[cold]
+    #[inline(never)]
+    fn hand_freed(&mut self, freed: &mut BucketWaiters)
+        ensures { (freed.new ≡ self.old.freed) × (self.new ≡ record self.old { freed = nobody }) }
+    {
+        *freed = self.freed;
+        self.freed.clear();
     }
 
     /// Whom the last entry concerns, put in its place.

@@ -6,12 +6,6 @@ use Rattle.machine.specs.Views.{concrete}
 use Rattle.runner.proofs.Passing.{all_from, made_within, up_to}
 use Rattle.runner.proofs.drawing.list_movers.Goals as goal
 
-pub add_pickable-requires : goal.add_pickable-requires
-add_pickable-requires c =
-    let least = c.in-Some.ensures in
-    let made = made_within (concrete c.args.machine.now) c.in-Some.t least.1 in
-    ?
-
 pub loop-t-preserved : goal.loop-t-preserved
 loop-t-preserved c =
     let v = c.loop-t.invariant in
@@ -28,7 +22,7 @@ loop-t-preserved c =
       none = λ empty u within moves. elim (cases_eq u t) [
         | inl here ↦ subst refuses (sym here)
             ((e.none empty).1 (subst (λ (w : ℕ). can_move (concrete c.args.machine.now) w ≡ true) here moves))
-        | inr other ↦ up_to (concrete c.args.machine.now) c.loop-t.from t refuses (v.none (e.none empty).0) least u
+        | inr other ↦ up_to (can_move (concrete c.args.machine.now)) c.loop-t.from t refuses (v.none (e.none empty).0) least u
             (omega (arith, within, other)) moves
       ];
     }
@@ -39,6 +33,6 @@ loop-t-smaller c =
     omega (arith, made, c.requires.few, c.in-Some.ensures.0)
 
 pub returns-clause-none : goal.returns-clause-none
-returns-clause-none c = λ empty. all_from (concrete c.args.machine.now) c.loop-t.from
+returns-clause-none c = λ empty. all_from (can_move (concrete c.args.machine.now)) c.loop-t.from
     (λ (u : ℕ). (slice_get c.args.refused.now u ≡ Some true) ⊎ (slice_get c.args.passed.now u ≡ Some true))
     (c.loop-t.invariant.none empty) c.in_default.ensures

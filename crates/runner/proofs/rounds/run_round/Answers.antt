@@ -33,7 +33,7 @@ loop-t-preserved g c =
       same = same_step (log_state c.args.shared.now) old new c.loop-t.made c.in_ok-made.field-0 v.same
           (λ n. (e.none n).0);
       none = none_step g.J.RunName.program g.J.RunName.limit old new c.loop-t.made c.in_ok-made.field-0 t
-          (λ still. up_to old.concrete.concrete c.loop-t.from t
+          (λ still. up_to (can_move old.concrete.concrete) c.loop-t.from t
           (λ (u : ℕ). IsStopped g.J.RunName.program g.J.RunName.limit old.log old.concrete u) (v.none still) least)
           e.none;
     }
@@ -51,6 +51,6 @@ returns-clause-none g c =
     let here = log_state c.loop-t.shared in
     let none = subst (λ (k : ConcreteState). IsLeastFrom (can_move k) c.loop-t.from None) c.machine.ensures.concrete
     c.in_default.ensures in
-    λ still. all_from here.concrete.concrete c.loop-t.from
+    λ still. all_from (can_move here.concrete.concrete) c.loop-t.from
     (λ (u : ℕ). IsStopped g.J.RunName.program g.J.RunName.limit here.log here.concrete u)
     (c.loop-t.invariant.none still) none
