@@ -4,6 +4,7 @@ use isa::Instr;
 use places::{Places, places_of};
 use program::Checked;
 use std::alloc::{AllocError, Global};
+use words::ImageVersion;
 
 /// What stands beside the lines of a listing.
 #[derive(Drop)]
