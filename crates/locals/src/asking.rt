@@ -46,7 +46,7 @@ impl Activation {
                 None => NextStep::Broken,
             },
             Instr::ProcessAddress(_) => match self.operands.top() {
-                Some(h) if (1..=version.most_processes()).contains(&h) => NextStep::Local,
+                Some(h) if version.has_process(h) => NextStep::Local,
                 Some(_) | None => NextStep::Broken,
             },
             Instr::Jump(_) | Instr::Raise(_) => NextStep::Local,
