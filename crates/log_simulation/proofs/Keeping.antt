@@ -179,7 +179,8 @@ some_thread k zero o stands = absurd cc
 some_thread k (suc t) o stands = omega arith
 
 -- a log has as many steps as it costs
-pub cost_steps : (p : Program) (log : List Entry) (k : PieceConcrete) → Runs (code_of p) (opening (code_of p)) log k → cost log ≡ length (steps_of log)
+pub cost_steps : (p : Program) (log : List Entry) (k : PieceConcrete) → Runs (code_of p) (opening (code_of p)) log k
+    → cost log ≡ length (steps_of log)
 cost_steps p log k runs =
     let r = runs_so (code_of p) log k (most_few p.version) runs in
     let many = as_many r.0 (steps_of log) r.3 in

@@ -17,7 +17,8 @@ returns-then-not-branch-clause-catches_up c = λ g ahead matches behind all.
     let caught_up = catches_up_one
     (followed c.args.self.now) c.args.t g ahead c.args.count c.loop.counter c.loop.self
     (c.loop.invariant.catches_up.paying g ahead matches behind all) c.loop-test.true
-    (same_followed c.loop.self c.args.self.now c.loop.invariant.checked c.loop.invariant.layout) c.in_ok-take_internal.field-0 c.take_internal.new.self
+    (same_followed c.loop.self c.args.self.now c.loop.invariant.checked c.loop.invariant.layout)
+    c.in_ok-take_internal.field-0 c.take_internal.new.self
     c.in_ok-take_internal.ensures.takes in
     absurd (false≢true (sym c.if-not-branch.true ∙ caught_up.0))
 
@@ -29,7 +30,8 @@ loop-preserved c = record {
     paying = λ g ahead matches behind all.
         (catches_up_one (followed c.args.self.now) c.args.t g ahead c.args.count c.loop.counter c.loop.self
         (c.loop.invariant.catches_up.paying g ahead matches behind all) c.loop-test.true
-        (same_followed c.loop.self c.args.self.now c.loop.invariant.checked c.loop.invariant.layout) c.in_ok-take_internal.field-0 c.take_internal.new.self
+        (same_followed c.loop.self c.args.self.now c.loop.invariant.checked c.loop.invariant.layout)
+        c.in_ok-take_internal.field-0 c.take_internal.new.self
         c.in_ok-take_internal.ensures.takes).1;
   };
 }
