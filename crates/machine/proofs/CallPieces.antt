@@ -335,7 +335,7 @@ answer_threads s s' word t (Wake a wakes) Compare (Acted r) ok count h = absurd 
 answer_threads s s' word t (Requeue a b wakes moves expected) Compare (Acted r) ok count h = absurd h
 
 -- a piece that was blocked leaves the sleepers as they are
-blocked_same : (t : ℕ) (word : ℕ → ℕ) (call : FutexCall) (phase : FutexPhase) (s s' : Sleepers)
+pub blocked_same : (t : ℕ) (word : ℕ → ℕ) (call : FutexCall) (phase : FutexPhase) (s s' : Sleepers)
     → PieceSo word t call phase s Blocked s' → s' ≡ s
 blocked_same t word call First s s' h = no_take _ h
   where

@@ -22,3 +22,5 @@ pub mod OwnEvents
 pub mod FrontRuns
 pub mod CallPieces
 pub mod Orders
+pub mod Bits
+pub mod Ables

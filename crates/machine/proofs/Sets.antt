@@ -86,7 +86,7 @@ bit_more words t u long is le =
     ]
 
 -- the words of nobody
-abbrev zeros : List ℕ
+abbrev pub zeros : List ℕ
 zeros = replicate 16 0
 
 zero_at : (j : ℕ) → get_or zeros j 0 ≡ 0
@@ -95,7 +95,7 @@ zero_at j = elim (cases_lt j 16) [
   | inr ge ↦ get_or-eq_default zeros 0 ge
 ]
 
-none_set : (u : ℕ) → has (Several zeros) u ≡ false
+pub none_set : (u : ℕ) → has (Several zeros) u ≡ false
 none_set u = ap (λ n. eqb (bit_at n ((u - 1) % 64)) 1) (zero_at ((u - 1) / 64))
     ∙ ap (λ n. eqb n 1) (bit_at-zero ((u - 1) % 64))
 

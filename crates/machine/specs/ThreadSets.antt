@@ -4,7 +4,7 @@ use Rattle.std.specs.Prelude.{ℕ, ◌≡◌, ◌-◌, ◌/◌, ◌%◌, ◌^◌
 use Rattle.std.specs.Prelude.{replicate, slice_index, slice_set, Option, Some, None}
 use Rattle.std.specs.List.{All, fold}
 use Rattle.std.specs.Int.{bit_at}
-use Rattle.std.specs.Int.Bits.{bit_or}
+use Rattle.std.specs.Int.Bits.{bit_or, bit_xor}
 use Rattle.words.specs.Limits.{most_threads}
 use Rattle.buckets.specs.Places.{names}
 use Rattle.machine.specs.declared.thread_set.ThreadSet.{ThreadSet}
@@ -18,6 +18,15 @@ most_members = 1000
 abbrev pub with_bit : List ℕ → ℕ → List ℕ
 with_bit words t =
     slice_set words ((t - 1) / 64) (bit_or (slice_index words ((t - 1) / 64)) (2 ^ ((t - 1) % 64)))
+
+-- the words with the bit of a thread turned over
+abbrev pub with_turned : List ℕ → ℕ → List ℕ
+with_turned words t =
+    slice_set words ((t - 1) / 64) (bit_xor (slice_index words ((t - 1) / 64)) (2 ^ ((t - 1) % 64)))
+
+-- whether words have the bit of a thread set
+abbrev pub has_bit : List ℕ → ℕ → Bool
+has_bit words t = bit_at (slice_index words ((t - 1) / 64)) ((t - 1) % 64) == 1
 
 -- a set, and one thread more
 abbrev pub with_thread : ThreadSet → ℕ → ThreadSet
@@ -33,7 +42,7 @@ set_of threads = fold with_thread Nobody threads
 abbrev pub has : ThreadSet → ℕ → Bool
 has Nobody t = false
 has (Single u) t = t == u
-has (Several words) t = bit_at (slice_index words ((t - 1) / 64)) ((t - 1) % 64) == 1
+has (Several words) t = has_bit words t
 
 -- the least number from t on that passes a test, or none
 abbrev pub IsLeastFrom : (ℕ → Bool) → ℕ → Option ℕ → Type 0

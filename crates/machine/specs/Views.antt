@@ -1,5 +1,5 @@
 -- A machine as contracts see it.
-use Rattle.std.specs.Prelude.{ℕ, ◌+◌, ◌*◌, ◌<◌, ◌≤◌, ◌≡◌, true, false, List, ℤ, length, take, sum, Option, Some}
+use Rattle.std.specs.Prelude.{ℕ, ◌+◌, ◌*◌, ◌<◌, ◌≤◌, ◌≡◌, ◌⊎◌, true, false, List, ℤ, length, take, sum, Option, Some}
 use Rattle.std.specs.Prelude.{None}
 use Rattle.words.specs.declared.mem.Addr.{Addr}
 use Rattle.isa.specs.Programs.{Program, memory_size}
@@ -12,6 +12,8 @@ use Rattle.machine.specs.declared.event.Event.{Event}
 use Rattle.machine.specs.declared.event.EventName.{EventName}
 use Rattle.machine.specs.declared.event.EventName.TheVariants as name
 use Rattle.locals.specs.Threads.{Thread}
+use Rattle.machine.specs.declared.thread_set.ThreadSet.{ThreadSet}
+use Rattle.machine.specs.ThreadSets.{has, has_bit, IsThread}
 use Rattle.machine.specs.States.{Common, ConcreteState, thread_of}
 use Rattle.machine.specs.Runs.{has_ended}
 use Rattle.machine.specs.ConcreteSteps.{can_move}
@@ -71,6 +73,24 @@ pub record IsCommon (words : List ℕ) (sleepers : Sleepers) : Type 0 where
   pub wide : 1 + 6 * thread_count sleepers ≤ length words
   pub sound : IsSound sleepers
   pub places : thread_count sleepers ≤ most_threads
+
+-- the bit of a thread is set just where the thread can move
+abbrev pub IsBitSo : List ℕ → ConcreteState → ℕ → Type 0
+IsBitSo words k t = has_bit words t ≡ can_move k t
+
+-- each bit that was right is right still
+abbrev pub KeepsBits : (old new : List ℕ) → ConcreteState → Type 0
+KeepsBits old new k = (t : ℕ) → 1 ≤ t → IsBitSo old k t → IsBitSo new k t
+
+-- the bits are right of thread t, of those of a set, and of the last thread, should it be new since so many were made
+abbrev pub MendsBits : (new : List ℕ) → ConcreteState → (made t : ℕ) → ThreadSet → Type 0
+MendsBits new k made t set =
+    (u : ℕ) → IsThread u → (u ≡ t) ⊎ ((made < length k.threads) × (u ≡ length k.threads)) ⊎ (has set u ≡ true)
+    → IsBitSo new k u
+
+-- the bits show who can move
+abbrev pub ShowsAble : List ℕ → ConcreteState → Type 0
+ShowsAble words k = (t : ℕ) → 1 ≤ t → IsBitSo words k t
 
 -- the program that runs, the parts of its concrete state, and how many numbers can be printed without taking memory
 pub record View : Type 0 where

@@ -1,6 +1,7 @@
 //! The machine: any number of threads over one memory, and its steps.
 #![tactic(auto)]
 
+mod able;
 mod accesses;
 mod call_pieces;
 mod call_step;
@@ -14,6 +15,7 @@ mod machine;
 mod parts;
 mod refusals;
 mod serving;
+mod thread_bits;
 mod thread_set;
 mod thread_step;
 

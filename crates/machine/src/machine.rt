@@ -19,13 +19,16 @@ ghost use Rattle.machine.specs.Runs.{has_ended};
 ghost use Rattle.machine.specs.ConcreteSteps.{step_of, can_move, fault_at};
 ghost use Rattle.machine.specs.ConcreteOutside.{kill_of, stray_of};
 ghost use Rattle.machine.specs.LocalRuns.{RunsOn};
+ghost use Rattle.machine.specs.ThreadSets.{IsLeastFrom};
 ghost use Rattle.machine.specs.Views.{concrete, AllEnded, IsQuiet, variable_address, address_of, printed_by};
 ghost use Rattle.machine.specs.Views.{IsWellFormed};
 
+use crate::able::is_able;
 use crate::call_step::{CallProgress, CallStep};
 use crate::common::Common;
 use crate::event::{Event, EventName, StepFault};
 use crate::parts::{opening_threads, step_parts, variable};
+use crate::thread_bits::ThreadBits;
 use futexcalls::{FutexCall, FutexPhase};
 use isa::Image;
 use locals::{Local, NextStep};
@@ -42,12 +45,14 @@ pub struct Machine {
     common: Common,
     // With room for all threads that can be made, so that a fork takes no memory.
     threads: Vec<Local>,
+    // Who can move, so that nobody has to ask each thread.
+    able: ThreadBits,
 }
 
 impl Model for Machine {
     ghost use Rattle.std.specs.Prelude.{◌≤◌, ◌-◌, length, vec_capacity};
     ghost use Rattle.words.specs.Versions.{most_of};
-    ghost use Rattle.machine.specs.Views.{View, IsWellFormed, parts_of};
+    ghost use Rattle.machine.specs.Views.{View, IsWellFormed, ShowsAble, parts_of};
 
     ghost Value = { View };
 
@@ -61,7 +66,8 @@ impl Model for Machine {
     } };
 
     ghost invariant = { λ m. IsWellFormed m.image (parts_of m.common m.threads.items)
-        × (most_of m.image.version ≤ vec_capacity m.threads) };
+        × (most_of m.image.version ≤ vec_capacity m.threads)
+        × ShowsAble m.able.words (parts_of m.common m.threads.items) };
 }
 
 impl Machine {
@@ -75,10 +81,13 @@ impl Machine {
         ensures free { IfOk result (λ m. (k : ℕ) → holder_of m.sleepers k ≡ None) }
         ensures holds { IfOk result (λ m. IsWellFormed image.now (concrete m)) }
     {
+        let mut able = ThreadBits::new();
+        able.put(1, true);
         Ok(Machine {
             image: image.copy(alloc)?,
             common: Common::new(alloc, image, buckets)?,
             threads: opening_threads(alloc, image)?,
+            able,
         })
     }
 
@@ -168,10 +177,17 @@ impl Machine {
     pub fn can_move(&self, t: u32) -> bool
         ensures { result ≡ can_move (concrete self.now) t }
     {
-        if t == 0 || t as usize > self.threads.len() {
-            return false;
+        is_able(&self.common, &self.threads, t)
+    }
+
+    /// The first thread from this number on that can move, if there is one.
+    pub fn next_able(&self, from: u32) -> Option<u32>
+        ensures { IsLeastFrom (can_move (concrete self.now)) from result }
+    {
+        if from as usize > self.threads.len() {
+            return None;
         }
-        self.asleep(t).is_none() && !self.threads[t as usize - 1].has_ended()
+        self.able.next_from(from.max(1))
     }
 
     /// Whether no thread can move.
@@ -179,12 +195,7 @@ impl Machine {
         ensures { MatchBool result (IsQuiet (concrete self.now)) ((t : ℕ)
             × (can_move (concrete self.now) t ≡ true)) }
     {
-        for t in 0..self.threads() {
-            if self.can_move(t + 1) {
-                return false;
-            }
-        }
-        true
+        self.next_able(0).is_none()
     }
 
     /// The word of a member of a monitor. Monitors and their member words are numbered from 0.
@@ -243,6 +254,7 @@ impl Machine {
         ensures { self.new ≡ record self.old { threads = slice_set self.old.threads (t - 1) local } }
     {
         self.threads[t as usize - 1] = local;
+        self.able.refresh(&self.common, &self.threads, t);
     }
 
     /// Puts thread `t`, which can move, where its local steps led, by a copy in its place.
@@ -251,6 +263,7 @@ impl Machine {
         ensures { self.new ≡ record self.old { threads = slice_set self.old.threads (t - 1) local.now } }
     {
         self.threads[t as usize - 1].copy_from(local);
+        self.able.refresh(&self.common, &self.threads, t);
     }
 
     /// Takes local steps of thread `t`, which can move, in its place, until another step comes or the budget is used.
@@ -259,7 +272,9 @@ impl Machine {
         requires { can_move (concrete self.old) t ≡ true }
         ensures { RunsOn self.old t budget result self.new }
     {
-        self.threads[t as usize - 1].run(&self.image, t, budget)
+        let count = self.threads[t as usize - 1].run(&self.image, t, budget);
+        self.able.refresh(&self.common, &self.threads, t);
+        count
     }
 
     /// One step of thread `t`, local or shared. A printed number lowers the room by one.
@@ -305,8 +320,12 @@ impl Machine {
             image,
             common,
             threads,
+            able,
         } = self;
-        step_parts(image, common, threads, t, next, event)
+        let made = threads.len();
+        let done = step_parts(image, common, threads, t, next, event);
+        able.refresh_after(common, threads, made, t, &event.woken);
+        done
     }
 
     /// What the next step of thread `t` is.
@@ -410,6 +429,9 @@ impl Machine {
             CallProgress::Blocked => CallStep::Blocked,
             CallProgress::Done(answer) => {
                 self.threads[t as usize - 1].go_on(&self.image, t, answer);
+                let made = self.threads.len();
+                self.able
+                    .refresh_after(&self.common, &self.threads, made, t, &event.woken);
                 CallStep::Done
             }
         }
@@ -432,6 +454,7 @@ impl Machine {
             return Err(StepFault::CannotMove);
         };
         self.common.drop_sleeper(t);
+        self.able.refresh(&self.common, &self.threads, t);
         event.put_with(EventName::Stray, place.0, &[t], &[]);
         Ok(())
     }
@@ -460,6 +483,7 @@ impl Machine {
         }
         self.common.drop_sleeper(t);
         self.threads[t as usize - 1].kill();
+        self.able.refresh(&self.common, &self.threads, t);
         event.put(EventName::Kill, 1);
         Ok(())
     }

@@ -35,7 +35,8 @@ pub fn memory_len(image: &Image) -> usize
     base + 2 * image.monitors().len() + total(image.monitors()) as usize
 }
 
-/// How many threads of an image there can be. A machine can run so many, since each image is of the first version.
+/// How many threads of an image there can be. A machine can run so many.
+#[tactic(auto, using(words::proofs::Versions::most_few))]
 pub fn thread_limit(image: &Image) -> u32
     ensures value { result ≡ most_of image.now.version }
     ensures fits { result ≤ most_threads }

@@ -2,10 +2,11 @@ ghost use Rattle.std.specs.Prelude.{◌≡◌, ◌≢◌, ◌<◌, ◌≤◌, �
 ghost use Rattle.std.specs.List.{All};
 ghost use Rattle.std.specs.Int.{bit_at};
 ghost use Rattle.machine.specs.ThreadSets.{IsLeastFrom, most_members};
-ghost use Rattle.machine.specs.ThreadSets.{set_of, has, with_bit, with_thread, IsMember, HasMember, SetsSo, OneForm};
+ghost use Rattle.machine.specs.ThreadSets.{set_of, has, has_bit, with_bit, with_thread, IsMember, HasMember, SetsSo};
+ghost use Rattle.machine.specs.ThreadSets.{OneForm};
 
 // The words of a set of several threads, with a bit for each number from 1 to 1,024.
-const WORDS: usize = 16;
+pub(crate) const WORDS: usize = 16;
 
 /// A set of threads with numbers from 1 to 1,000. It takes no memory. Each set has one form, so two are equal just where
 /// they have the same threads.
@@ -130,9 +131,9 @@ fn put_bit(words: &mut [u64; WORDS], t: u32)
 
 // Whether the bit of a thread is set.
 #[tactic(auto, using(std::proofs::lemmas::Nat::Bits::shr_and_one))]
-fn has_bit(words: &[u64; WORDS], t: u32) -> bool
+pub(crate) fn has_bit(words: &[u64; WORDS], t: u32) -> bool
     requires { IsMember t }
-    ensures { result ≡ has (ThreadSet.Several words.now) t }
+    ensures { result ≡ has_bit words.now t }
 {
     words[(t as usize - 1) / 64] >> ((t - 1) % 64) & 1 == 1
 }
@@ -152,9 +153,9 @@ fn lowest_from(word: u64, low: u32) -> Option<u32>
 }
 
 // The least thread from `t` on whose bit is set.
-fn least_from(words: &[u64; WORDS], t: u32) -> Option<u32>
+pub(crate) fn least_from(words: &[u64; WORDS], t: u32) -> Option<u32>
     requires { (1 ≤ t) × (t ≤ most_members + 1) }
-    ensures { IsLeastFrom (has (ThreadSet.Several words.now)) t result }
+    ensures { IsLeastFrom (has_bit words.now) t result }
 {
     let mut low = (t - 1) % 64;
     for place in (t as usize - 1) / 64..WORDS {

@@ -1,9 +1,11 @@
 -- Who is killed stands in no list, and is dying; what always holds is kept.
-use Rattle.std.proofs.Common.{◌≡◌, ◌-◌, false, Some, Ok, slice_set, ap, sym, ◌∙◌, subst}
-use Rattle.locals.specs.Threads.{is_dying}
+use Rattle.std.proofs.Common.{rules, List, ◌≡◌, ◌-◌, false, Some, Ok, slice_set, ap, sym, ◌∙◌, subst}
+use Rattle.locals.specs.Threads.{Thread, is_dying}
 use Rattle.machine.specs.States.{ConcreteState, thread_of}
+use Rattle.machine.specs.ConcreteSteps.{can_move}
 use Rattle.machine.specs.ConcreteOutside.{killed_in, kill_by, kill_at, kill_of}
-use Rattle.machine.specs.Views.{IsWellFormed, concrete, parts_of}
+use Rattle.machine.specs.Views.{IsWellFormed, ShowsAble, concrete, common, parts_of}
+use Rattle.machine.proofs.Ables.{shows_one, drop_spares, put_spares}
 use Rattle.machine.proofs.Killing.{keeps_killed}
 use Rattle.machine.proofs.machine.Machine.kill.Goals as goal
 
@@ -19,6 +21,15 @@ invariant_of-self c =
       subst (λ (x : ConcreteState). IsWellFormed c.self.inside.image x) killed
           (keeps_killed c.self.inside.image k c.args.t c.self.invariant.0),
       c.self.invariant.1,
+      subst (λ (ts : List Thread). ShowsAble c.refresh.new.self.words (parts_of c.drop_sleeper.new.self ts))
+          c.deref.ensures.value
+          (shows_one k (parts_of c.drop_sleeper.new.self c.deref.result.now) c.args.t c.self.inside.able.words
+          c.refresh.new.self.words c.self.invariant.2
+          (λ u ne. ap (λ (ts : List Thread). can_move (parts_of c.drop_sleeper.new.self ts) u) c.deref.ensures.value
+          ∙ drop_spares k.common (common c.drop_sleeper.new.self)
+          (slice_set k.threads (c.args.t - 1) c.kill.new.self) c.args.t u c.drop_sleeper.ensures.dropped ne
+          ∙ put_spares k.common k.threads c.args.t c.kill.new.self u (search rules) ne)
+          c.refresh.ensures.kept c.refresh.ensures.right),
     )
 
 pub returns-clause-holds : goal.returns-clause-holds

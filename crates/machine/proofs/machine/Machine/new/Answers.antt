@@ -1,9 +1,10 @@
 -- The parts are those of the opening.
-use Rattle.std.proofs.Common.{◌≡◌, ◌≤◌, ap, ◌∙◌, arith}
+use Rattle.std.proofs.Common.{◌≡◌, ◌≤◌, ap, sym, ◌∙◌, subst, arith}
 use Rattle.words.specs.Limits.{most_threads}
 use Rattle.words.specs.Versions.{most_of}
-use Rattle.machine.specs.States.{opening_concrete}
-use Rattle.machine.specs.Views.{concrete_of, parts_of}
+use Rattle.machine.specs.States.{ConcreteState, opening_concrete}
+use Rattle.machine.specs.Views.{ShowsAble, concrete_of, parts_of}
+use Rattle.machine.proofs.Ables.{shows_opening}
 use Rattle.machine.proofs.Stepping.{opens_so}
 use Rattle.machine.proofs.Whole.{opened}
 use Rattle.machine.proofs.machine.Machine.new.Goals as goal
@@ -26,4 +27,7 @@ invariant_of-result c =
     let fits : most_of c.args.image.now.version ≤ most_threads = omega (arith, most, few) in (
       rw (c.in_ok-copy.ensures, is) ((opens_so c.args.image.now).1 fits),
       rw c.in_ok-copy.ensures c.in_ok-opening_threads.ensures.space,
+      subst (λ (k : ConcreteState). ShowsAble c.put.new.self.words k) (sym is)
+          (shows_opening c.args.image.now c.new-able.result.words c.put.new.self.words c.new-able.ensures
+          c.put.ensures.here c.put.ensures.others),
     )

@@ -1,5 +1,5 @@
 -- A piece of the thread's call is one of the machine with pieces.
-use Rattle.std.proofs.Common.{◌≡◌, ℕ, ◌-◌, length, slice_set, Some, refl, sym, ap, ◌∙◌, subst, arith}
+use Rattle.std.proofs.Common.{rules, List, ◌≡◌, ℕ, ◌-◌, length, slice_set, Some, refl, sym, ap, ◌∙◌, subst, arith}
 use Rattle.std.proofs.Common.{length-set}
 use Rattle.futexcalls.specs.declared.pieces.FutexPhase.{FutexPhase}
 use Rattle.futexcalls.specs.Pieces.{LiesIn}
@@ -9,7 +9,8 @@ use Rattle.locals.specs.Requests.{after_answer}
 use Rattle.machine.specs.declared.call_step.CallStep.TheVariants.{Next, Blocked, Done}
 use Rattle.machine.specs.States.{thread_of}
 use Rattle.machine.specs.ConcretePieces.{MakesCall, DoesPiece, QueuesSo}
-use Rattle.machine.specs.Views.{View, concrete}
+use Rattle.machine.specs.Views.{View, IsWellFormed, KeepsBits, MendsBits, concrete, parts_of}
+use Rattle.machine.proofs.Ables.{shows_next, shows_done}
 use Rattle.machine.proofs.CallPieces.{next_so, blocked_so, done_so, well_so, can_be_answered}
 use Rattle.machine.proofs.Landing.{has_place}
 use Rattle.machine.proofs.Orders.{next_order, blocked_order, done_order}
@@ -38,6 +39,8 @@ invariant_of-self c =
           c.self.invariant.0
           (record { words = p.words; output = p.output; count = p.count; most = p.threads }) refl p.sound p.piece,
       c.self.invariant.1,
+      shows_next v v' c.args.t c.args.call c.args.phase c.in-Next.next c.call_piece.new.event
+          c.self.inside.able.words refl c.in-Next.ensures.piece c.self.invariant.2,
     )
 
 pub returns-in-Next-clause-holds : goal.returns-in-Next-clause-holds
@@ -160,12 +163,25 @@ invariant_of-self-in-Done c =
     } in
     let p = c.call_piece.ensures in
     let makes : MakesCall v c.args.t c.args.call =
-    subst (λ (q : View). MakesCall q c.args.t c.args.call) (sym c.self.view_is) c.requires.makes in (
-      well_so v v' c.args.t c.args.call c.args.phase c.call_piece.result c.call_piece.new.event makes
-          c.self.invariant.0
-          (record { words = p.words; output = p.output; count = p.count; most = p.threads })
-          (length-set v.threads (c.args.t - 1) c.go_on.new.self) p.sound p.piece,
+    subst (λ (q : View). MakesCall q c.args.t c.args.call) (sym c.self.view_is) c.requires.makes in
+    let long : length v'.threads ≡ length v.threads = length-set v.threads (c.args.t - 1) c.go_on.new.self in
+    let well' : IsWellFormed v.program (concrete v') =
+    well_so v v' c.args.t c.args.call c.args.phase c.call_piece.result c.call_piece.new.event makes
+    c.self.invariant.0 (record { words = p.words; output = p.output; count = p.count; most = p.threads }) long p.sound
+    p.piece in
+    let place = has_place v.program (concrete v) c.args.t makes.thread c.self.invariant.0 makes.stands in
+    let counted : c.len-made.result ≡ length v.threads = search rules in (
+      well',
       c.self.invariant.1,
+      shows_done v.program v v' c.args.t c.args.call c.args.phase c.in-Done.answer c.call_piece.new.event
+          c.go_on.new.self c.self.inside.able.words c.refresh_after.new.self.words c.self.invariant.0 well'
+          place.some refl c.in-Done.ensures.piece c.self.invariant.2
+          (subst (λ (ts : List Thread). KeepsBits c.self.inside.able.words c.refresh_after.new.self.words
+          (parts_of after ts)) c.deref.ensures.value c.refresh_after.ensures.kept)
+          (subst (λ (n : ℕ). MendsBits c.refresh_after.new.self.words (concrete v') n c.args.t
+          c.call_piece.new.event.woken) counted
+          (subst (λ (ts : List Thread). MendsBits c.refresh_after.new.self.words (parts_of after ts) c.len-made.result
+          c.args.t c.call_piece.new.event.woken) c.deref.ensures.value c.refresh_after.ensures.right)),
     )
 
 pub returns-in-Done-clause-holds : goal.returns-in-Done-clause-holds

@@ -1,8 +1,9 @@
 -- Nobody holds a bucket, and no thread is within a call.
-use Rattle.std.proofs.Common.{◌≡◌, ℕ, zero, suc, ◌<◌, [], length, replicate, refl, sym, ap, ◌∙◌, arith}
+use Rattle.std.proofs.Common.{◌≡◌, ℕ, zero, suc, ◌+◌, ◌<◌, [], length, replicate, refl, sym, ap, ◌∙◌, arith}
 use Rattle.std.specs.Prelude.{slice_index_or}
 use Rattle.std.proofs.Math.Path.{fun_ext}
 use Rattle.std.proofs.lemmas.List.{length-replicate}
+use Rattle.words.specs.Limits.{most_threads}
 use Rattle.buckets.proofs.Outcomes.{some_bucket}
 use Rattle.futexcalls.specs.declared.pieces.FutexPhase.TheVariants.{First}
 use Rattle.machine.specs.States.{state_of}
@@ -24,7 +25,7 @@ returns-clause-parts c =
     let items = c.in_ok-new-2.ensures in
     λ i. record {
       concrete = e.opening i;
-      phase = (ap phase_in items ∙ fun_ext (all_first 65)) i;
+      phase = (ap phase_in items ∙ fun_ext (all_first (most_threads + 1))) i;
       holder = fun_ext e.free i;
       buckets = e.buckets i;
     }
@@ -36,7 +37,7 @@ returns-clause-opening c =
     let items = c.in_ok-new-2.ensures in
     λ i. record {
       base = (ap state_of e.opening ∙ (opens_so c.args.image.now).0) i;
-      phase = (ap phase_in items ∙ fun_ext (all_first 65)) i;
+      phase = (ap phase_in items ∙ fun_ext (all_first (most_threads + 1))) i;
       holder = fun_ext e.free i;
       buckets = e.buckets i;
     }
@@ -53,5 +54,5 @@ invariant_of-result c =
       well = rw e.program e.holds;
       come = rw e.program (record { buckets = c.args.buckets; some = some; steps = []; run = sym opening });
       right = rw (e.program, opening) (runs_so c.args.image.now c.args.buckets [] _ some refl).0;
-      long = omega (arith, ap length items, length-replicate 65 First);
+      long = omega (arith, ap length items, length-replicate (most_threads + 1) First);
     }

@@ -1,0 +1,57 @@
+//! Which threads can move, with a bit for each.
+ghost use Rattle.std.specs.Prelude.{◌≡◌, ◌≢◌, ◌≤◌, ◌+◌, ℕ, replicate};
+ghost use Rattle.machine.specs.ThreadSets.{IsLeastFrom, IsMember, has_bit, most_members, with_turned};
+
+use crate::thread_set::{WORDS, has_bit, least_from};
+
+/// Threads from 1 to 1,000, of which any may come in and go out: thread t has bit (t - 1) % 64 of word (t - 1) / 64.
+#[derive(Drop)]
+pub(crate) struct ThreadBits {
+    words: [u64; WORDS],
+}
+
+impl ThreadBits {
+    /// No thread.
+    pub(crate) fn new() -> ThreadBits
+        ensures { result.words ≡ replicate 16 0 }
+    {
+        ThreadBits { words: [0; WORDS] }
+    }
+
+    /// Whether thread `t` is one of them.
+    pub(crate) fn contains(&self, t: u32) -> bool
+        requires { IsMember t }
+        ensures { result ≡ has_bit self.now.words t }
+    {
+        has_bit(&self.words, t)
+    }
+
+    /// Puts thread `t` in or takes it out. Nothing is written where that is so already.
+    #[tactic(auto, using(crate::proofs::Bits::turned_here, crate::proofs::Bits::turned_there, crate::proofs::Bits::turned_to))]
+    pub(crate) fn put(&mut self, t: u32, is_in: bool)
+        requires { IsMember t }
+        ensures here { has_bit self.new.words t ≡ is_in }
+        ensures others { (u : ℕ) → 1 ≤ u → u ≢ t → has_bit self.new.words u ≡ has_bit self.old.words u }
+    {
+        if self.contains(t) != is_in {
+            turn_bit(&mut self.words, t);
+        }
+    }
+
+    /// The least thread from `t` on, if there is one.
+    pub(crate) fn next_from(&self, t: u32) -> Option<u32>
+        requires { (1 ≤ t) × (t ≤ most_members + 1) }
+        ensures { IsLeastFrom (has_bit self.now.words) t result }
+    {
+        least_from(&self.words, t)
+    }
+}
+
+// Turns the bit of a thread over.
+#[tactic(auto, using(crate::proofs::Sets::bit_fits))]
+fn turn_bit(words: &mut [u64; WORDS], t: u32)
+    requires { IsMember t }
+    ensures { words.new ≡ with_turned words.old t }
+{
+    words[(t as usize - 1) / 64] ^= 1 << ((t - 1) % 64);
+}
