@@ -4,7 +4,6 @@ use Rattle.std.proofs.Common.{refl, ap, sym, ◌∙◌, subst, arith, option_map
 use Rattle.std.specs.Prelude.{Result, Ok, Err, IfOk}
 use Rattle.words.specs.Updates.{put}
 use Rattle.machine.specs.States.{State}
-use Rattle.program.specs.Names.{said_by}
 use Rattle.program.specs.Trees.{Program}
 use Rattle.program.specs.declared.kinds.Member.{Member}
 use Rattle.meaning.specs.Labels.{Action, Kind, Label, kind_of}
@@ -28,7 +27,7 @@ use Rattle.proof_simulation.proofs.Sourcing.{action}
 use Rattle.proof_simulation.proofs.Worlds.{put_put}
 use Rattle.log_simulation.specs.declared.follower.Follower.{Follower}
 use Rattle.log_simulation.specs.Choosing.{visible_kind, resumed_only}
-use Rattle.log_simulation.specs.Going.{Matches, Takes, TakesInternal}
+use Rattle.log_simulation.specs.Going.{Matches, Takes, TakesInternal, followed}
 use Rattle.log_simulation.proofs.Choices.{visible_found}
 use Rattle.log_simulation.proofs.Taking.{further}
 
@@ -96,7 +95,7 @@ begins_paying p t count f = record {
 module _ (p : Program) (t : ℕ) (g : Progress) (ahead : SourceState) (count taken : ℕ) (now : Follower)
     (paying : IsPaying p t g ahead count taken now) where
   -- one more is deferred, and is paid
-  pub catches_up_one : taken < count → said_by now.checked.now ≡ p → (b : Bool) (new : Follower)
+  pub catches_up_one : taken < count → followed now ≡ p → (b : Bool) (new : Follower)
       → TakesInternal now t b new
       → (b ≡ true) × IsPaying p t g ahead count (taken + 1) new
   catches_up_one more same b new act_taken = by_rest (paying.so_far.deferred t) refl
@@ -163,9 +162,9 @@ module _ (p : Program) (s : State) (t : ℕ) (g : Progress) (label : Label) (can
       (sym (visible_so p g.source t label can s visible who))
       (action p g.source t can.before can.after label can.effect can.table can.stands can.takes can.allows)
 
-  module _ (f : Follower) (same : said_by f.checked.now ≡ p) (matches : Matches f g) where
-    pub found_so : (found : Option Kind) → ((label : Label) → CanTake (said_by f.checked.now) (state_of f.state) t label
-        → is_internal label ≡ false → Resumes (said_by f.checked.now) s (state_of f.state).table label
+  module _ (f : Follower) (same : followed f ≡ p) (matches : Matches f g) where
+    pub found_so : (found : Option Kind) → ((label : Label) → CanTake (followed f) (state_of f.state) t label
+        → is_internal label ≡ false → Resumes (followed f) s (state_of f.state).table label
         → found ≡ Some (kind_of label)) → found ≡ Some (kind_of label)
     found_so found finds = finds label
         (subst (λ i. CanTake i (state_of f.state) t label) (sym same)
@@ -177,7 +176,7 @@ module _ (p : Program) (s : State) (t : ℕ) (g : Progress) (label : Label) (can
         → Takes f (act t k) b new → (b ≡ true) × Matches new (progress_next p s t g)
     follows_so k is b new act_taken =
         let kind : k ≡ kind_of label = same_kind k (kind_of label) is in
-        let possible : IsStep (said_by f.checked.now) g.source (act t k) after =
+        let possible : IsStep (followed f) g.source (act t k) after =
         subst (λ i. IsStep i g.source (act t k) after) (sym same)
         (subst (λ i. IsStep p g.source (act t i) after) (sym kind) step) in
         let took = act_taken g after matches possible in (

@@ -4,7 +4,6 @@ use Rattle.std.proofs.Common.{ap, sym, ◌∙◌, arith, subst, length-append}
 use Rattle.std.specs.Prelude.{◌^◌, ◌++◌, replicate}
 use Rattle.std.proofs.lemmas.List.{length-replicate}
 use Rattle.words.specs.Limits.{most_threads}
-use Rattle.words.specs.Versions.{most_of}
 use Rattle.locals.specs.Threads.{Thread}
 use Rattle.locals.specs.Looks.{look}
 use Rattle.locals.specs.Steps.{local_after}
@@ -179,15 +178,11 @@ pub some_thread : (k : PieceConcrete) (t : ℕ) (o : Thread) → thread_of k.con
 some_thread k zero o stands = absurd cc
 some_thread k (suc t) o stands = omega arith
 
--- a machine that came somewhere can run all threads that there can be
-pub can_run : (p : Program) (k : PieceConcrete) → IsWellFormed (code_of p) k.concrete → most_of p.version ≤ most_threads
-can_run p k kept = subst (λ n. n ≤ most_threads) kept.most kept.fits
-
 -- a log has as many steps as it costs
-pub cost_steps : (p : Program) (log : List Entry) (k : PieceConcrete) → most_of p.version ≤ most_threads
-    → Runs (code_of p) (opening (code_of p)) log k → cost log ≡ length (steps_of log)
-cost_steps p log k fits runs =
-    let r = runs_so (code_of p) log k fits runs in
+pub cost_steps : (p : Program) (log : List Entry) (k : PieceConcrete) → Runs (code_of p) (opening (code_of p)) log k
+    → cost log ≡ length (steps_of log)
+cost_steps p log k runs =
+    let r = runs_so (code_of p) log k (most_few p.version) runs in
     let many = as_many r.0 (steps_of log) r.3 in
     let count = r.2 in
     omega (arith, many, count)

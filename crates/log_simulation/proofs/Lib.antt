@@ -1,3 +1,4 @@
+pub mod Versions
 pub mod Choices
 pub mod CatchingUp
 pub mod Waiting

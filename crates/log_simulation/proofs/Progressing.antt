@@ -2,11 +2,11 @@
 use Rattle.std.proofs.Common.{◌≡◌, ℕ, zero, suc, ◌+◌, ◌<◌, true, List, [], ◌∷◌, Option, Some, None, Ok, refl, ap}
 use Rattle.std.proofs.Common.{sym, ◌∙◌, subst, arith, length, length-append, Bool, false, inl, inr, ◌==◌}
 use Rattle.std.proofs.lemmas.Bool.{eq-eqb}
-use Rattle.std.specs.Prelude.{◌^◌, ◌++◌, ◌≤◌, not, replicate}
+use Rattle.std.specs.Prelude.{◌^◌, ◌++◌, not, replicate}
 use Rattle.std.proofs.lemmas.List.{append-nil, append_assoc, length-replicate, replicate_more}
-use Rattle.words.specs.Limits.{most_threads, run_buckets}
+use Rattle.words.specs.Limits.{run_buckets}
 use Rattle.words.specs.Updates.{put}
-use Rattle.words.specs.Versions.{most_of}
+use Rattle.words.proofs.Versions.{most_few}
 use Rattle.words.proofs.Updates.{put_same}
 use Rattle.locals.specs.Threads.{Thread, is_dying}
 use Rattle.locals.specs.Looks.{Look, Goes, look}
@@ -265,5 +265,5 @@ module _ (p : Program) where
       alive true e = absurd cc
       alive false e = refl
 
-  pub opens_so : most_of p.version ≤ most_threads → ComesTo p [] (opening (code_of p)) (opening_progress p)
-  opens_so fits = opens p run_buckets (omega arith) fits
+  pub opens_so : ComesTo p [] (opening (code_of p)) (opening_progress p)
+  opens_so = opens p run_buckets (omega arith) (most_few p.version)

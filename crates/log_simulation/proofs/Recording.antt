@@ -4,7 +4,6 @@ use Rattle.std.proofs.Common.{refl, ap, sym, ◌∙◌, arith, subst}
 use Rattle.std.specs.Prelude.{◌^◌, ◌++◌, ◌||◌, MatchBool, map}
 use Rattle.std.proofs.lemmas.List.{append-nil, append_assoc}
 use Rattle.words.specs.Updates.{put}
-use Rattle.words.specs.declared.version.ImageVersion.{ImageVersion}
 use Rattle.locals.specs.Threads.{Thread}
 use Rattle.locals.specs.Looks.{look}
 use Rattle.locals.specs.Steps.{local_after}
@@ -23,7 +22,6 @@ use Rattle.piece_machine.specs.PieceConcrete.{PieceConcrete}
 use Rattle.words.specs.Limits.{run_buckets}
 use Rattle.meaning.specs.Labels.{Kind, Action}
 use Rattle.meaning.specs.States.{SourceState}
-use Rattle.program.specs.Names.{said_by}
 use Rattle.program.specs.Trees.{Program}
 use Rattle.program.specs.declared.kinds.Member.{Member}
 use Rattle.program.specs.WellFormed.{WellFormed}
@@ -44,7 +42,7 @@ use Rattle.log_simulation.specs.Entries.{is_visible, progress_locally, progress_
 use Rattle.log_simulation.specs.Entries.{deferred_locally}
 use Rattle.log_simulation.specs.declared.follower.Follower.{Follower}
 use Rattle.log_simulation.specs.Going.{Follows, FollowsKill, FollowsStray, IsKillDue, IsStrayDue, Matches, CatchesUp}
-use Rattle.log_simulation.specs.Going.{progress_left}
+use Rattle.log_simulation.specs.Going.{followed, progress_left}
 use Rattle.log_simulation.specs.Requests.{visible_step}
 use Rattle.log_simulation.proofs.Visible.{visible_so}
 use Rattle.log_simulation.specs.declared.recorder.Recorder.{Recorder}
@@ -52,6 +50,7 @@ use Rattle.log_simulation.specs.Explanations.{IsExplanationOf}
 use Rattle.log_simulation.specs.Recording.{Counts, IsAlong, IsOf, Records, RecordsUnlessLong, progress_rest}
 use Rattle.log_simulation.specs.Deferred.{deferral_of, deferred_by_next_step, CountsDeferred, Raises}
 use Rattle.log_simulation.specs.declared.deferral.Deferral.{Deferral}
+use Rattle.log_simulation.proofs.Versions.{same_followed}
 use Rattle.log_simulation.proofs.Records.{deferral_so, when_false, when_true, few_deferred, then_few}
 
 -- what is told behind more steps
@@ -81,7 +80,7 @@ pub still_of : (p : Program) (r r' : Recorder) → IsOf p r → r'.follower.chec
     → r'.follower.layout ≡ r.follower.layout → r'.marks ≡ r.marks → length r'.deferred.items ≡ length r.deferred.items
     → length r'.raised.items ≡ length r.raised.items → IsOf p r'
 still_of p r r' of checked layout marks places bits = record {
-  program = ap (λ x. said_by x.now) checked ∙ of.program;
+  program = same_followed r'.follower r.follower checked layout ∙ of.program;
   layout = layout ∙ of.layout;
   marks = ap (λ x. x.items) marks ∙ of.marks;
   places = places ∙ of.places;
@@ -89,23 +88,19 @@ still_of p r r' of checked layout marks places bits = record {
 }
 
 -- what is heard of a step
-pub is_visible_so : (p : Program) (f : Follower) (image : Image) (word : ℕ → ℕ) (t : ℕ) (here : Thread)
-    (step : NextStep) (v : ℕ) (b : Bool) (version : ImageVersion) → version ≡ image.version
-    → said_by f.checked.now ≡ p → f.layout ≡ layout_of p → image ≡ code_of p
-    → step ≡ next_step_of (look (code_of p) t here)
-    → (version ≡ (said_by f.checked.now).version → f.layout ≡ layout_of (said_by f.checked.now)
-    → b ≡ visible_step (said_by f.checked.now) word t step v)
+pub is_visible_so : (p : Program) (f : Follower) (word : ℕ → ℕ) (t : ℕ) (here : Thread) (step : NextStep) (v : ℕ)
+    (b : Bool) → followed f ≡ p → f.layout ≡ layout_of p → step ≡ next_step_of (look (code_of p) t here)
+    → (f.layout ≡ layout_of (followed f) → b ≡ visible_step (followed f) word t step v)
     → b ≡ is_visible p word t (look (code_of p) t here) v
-is_visible_so p f image word t here step v b version same program layout own is is_visible =
+is_visible_so p f word t here step v b program layout is is_visible =
     let told : b ≡ visible_step p word t step v =
-    subst (λ (q : Program). version ≡ q.version → f.layout ≡ layout_of q → b ≡ visible_step q word t step v) program
-    is_visible (same ∙ ap (λ (i : Image). i.version) own) layout in
+    subst (λ (q : Program). f.layout ≡ layout_of q → b ≡ visible_step q word t step v) program is_visible layout in
     told ∙ ap (λ s. visible_step p word t s v) is ∙ visible_so p word t (look (code_of p) t here) v
 
 -- the monitor that is found to come last
-pub last_so : (p : Program) (f : Follower) (word : ℕ → ℕ) (t : ℕ) (o : Option ℕ) → said_by f.checked.now ≡ p
+pub last_so : (p : Program) (f : Follower) (word : ℕ → ℕ) (t : ℕ) (o : Option ℕ) → followed f ≡ p
     → f.layout ≡ layout_of p
-    → (f.layout ≡ layout_of (said_by f.checked.now) → o ≡ killed_last (said_by f.checked.now) word t)
+    → (f.layout ≡ layout_of (followed f) → o ≡ killed_last (followed f) word t)
     → o ≡ killed_last p word t
 last_so p f word t o program layout finds =
     subst (λ (q : Program). f.layout ≡ layout_of q → o ≡ killed_last q word t) program finds layout
@@ -212,10 +207,10 @@ module _ (p : Program) (n t a : ℕ) (g : Progress) where
       })
 
   -- the condition that the follower finds
-  pub condition_so : (f : Follower) (o : Option Member) → said_by f.checked.now ≡ p → f.layout ≡ layout_of p
+  pub condition_so : (f : Follower) (o : Option Member) → followed f ≡ p → f.layout ≡ layout_of p
       → Matches f g
-      → (f.layout ≡ layout_of (said_by f.checked.now)
-      → o ≡ stray_condition (said_by f.checked.now) a ((state_of f.state).table.waits t))
+      → (f.layout ≡ layout_of (followed f)
+      → o ≡ stray_condition (followed f) a ((state_of f.state).table.waits t))
       → o ≡ stray_condition p a (g.source.table.waits t)
   condition_so f o program layout matches finds =
       subst
@@ -225,7 +220,7 @@ module _ (p : Program) (n t a : ℕ) (g : Progress) where
 
 -- the follower follows the wake of a process that waits
 pub follows_stray_due : (p : Program) (f f' : Follower) (t count : ℕ) (c : Member) (b : Bool) (g : Progress)
-    → said_by f.checked.now ≡ p → Matches f g → IsStrayDue p t c g → count ≡ length (g.deferred t)
+    → followed f ≡ p → Matches f g → IsStrayDue p t c g → count ≡ length (g.deferred t)
     → FollowsStray f t c count b f' → (b ≡ true) × Matches f' (progress_stray p (Some c) t g)
 follows_stray_due p f f' t count c b g program matches due many follows =
     subst (λ q. IsStrayDue q t c g → (b ≡ true) × Matches f' (progress_stray q (Some c) t g)) program
@@ -260,7 +255,7 @@ nothing_so n g r last h steps few follower deferred raised = record {
 -- the follower follows the kill of a process
 pub follows_kill_due : (p : Program) (f f' : Follower) (s : State) (t count : ℕ) (raised : Bool) (m : Option ℕ)
     (b : Bool) (g : Progress)
-    → said_by f.checked.now ≡ p → f.layout ≡ layout_of p → Matches f g → IsKillDue p s t m g
+    → followed f ≡ p → f.layout ≡ layout_of p → Matches f g → IsKillDue p s t m g
     → count ≡ length (g.deferred t) → raised ≡ g.raised t → FollowsKill f s t count raised m b f'
     → (b ≡ true) × Matches f' (progress_left p s t m g)
 follows_kill_due p f f' s t count raised m b g program layout matches due many bit follows =
@@ -269,7 +264,7 @@ follows_kill_due p f f' s t count raised m b g program layout matches due many b
 
 -- the follower follows what is due
 pub follows_due : (p : Program) (f f' : Follower) (s : State) (t count : ℕ) (b : Bool) (g : Progress)
-    → said_by f.checked.now ≡ p → f.layout ≡ layout_of p → Matches f g → IsDue p s t g
+    → followed f ≡ p → f.layout ≡ layout_of p → Matches f g → IsDue p s t g
     → count ≡ length (g.deferred t) → Follows f s t count b f'
     → (b ≡ true) × Matches f' (progress_next p s t (progress_caught_up p t g))
 follows_due p f f' s t count b g program layout matches due many follows =
@@ -303,7 +298,7 @@ module _ (p : Program) where
 
   -- the next process pays
   pub catches_up_next : (f f' : Follower) (t count : ℕ) (b : Bool) (g : Progress) (ahead : SourceState)
-      → said_by f.checked.now ≡ p → Matches f g → IsBehind p g.deferred g.source ahead → count ≡ length (g.deferred t)
+      → followed f ≡ p → Matches f g → IsBehind p g.deferred g.source ahead → count ≡ length (g.deferred t)
       → CatchesUp f t count b f'
       → (b ≡ true) × Matches f' (progress_caught_up p t g)
       × IsBehind p (progress_caught_up p t g).deferred (progress_caught_up p t g).source ahead

@@ -19,7 +19,7 @@ use Rattle.log_simulation.specs.Entries.{entry_steps}
 use Rattle.log_simulation.specs.Explanations.{IsNoLog, LeadsTo, StopsAt}
 use Rattle.log_simulation.specs.Recording.{IsAlong, IsWhole, Records}
 use Rattle.log_simulation.specs.declared.recorder.Recorder.{Recorder}
-use Rattle.log_simulation.proofs.Keeping.{can_run, cost_steps}
+use Rattle.log_simulation.proofs.Keeping.{cost_steps}
 use Rattle.log_simulation.proofs.Records.{when_true}
 
 -- what was read of a log and the next entry are its front, and what was read up to its end is all of it
@@ -69,7 +69,7 @@ pub few_steps : (p : Program) (log : List Entry) (k : PieceConcrete) (r : Record
     → cost log < 2 ^ 32
 few_steps p log k r w =
     let few = (when_true _ _ r.is_whole w.along.told w.whole).few in
-    let many = cost_steps p log k (can_run p k w.along.comes.fit.well) w.legal in
+    let many = cost_steps p log k w.legal in
     omega (arith, few, many)
 
 -- where nothing was recorded, all of it was
@@ -120,7 +120,7 @@ module _ (p : Program) (log done after : List Entry) (next : Entry) (read : log 
   pub stops_long : (new : PieceConcrete) → Enters (code_of p) k next new
       → 2 ^ 32 ≤ length (steps_of done ++ entry_steps next) → StopsAt (code_of p) log number
   stops_long new enters over = stops_by (λ end leads.
-      let many = cost_steps p (done ++ next ∷ []) new (can_run p k whole.along.comes.fit.well)
+      let many = cost_steps p (done ++ next ∷ []) new
       (leads_next done next (code_of p) k whole.legal new enters) in
       let steps = ap length (steps_next done next) in
       omega (arith, over, many, steps))

@@ -3,7 +3,7 @@ use Rattle.std.specs.Prelude.{ℕ, ◌≡◌, Bool, true, false, List, [], ◌�
 use Rattle.words.specs.Updates.{put}
 use Rattle.machine.specs.States.{State}
 use Rattle.program.specs.Names.{said_by}
-use Rattle.program.specs.Trees.{Program}
+use Rattle.program.specs.Trees.{Program, as_version}
 use Rattle.program.specs.declared.kinds.Member.{Member}
 use Rattle.lowering.specs.Layout.{layout_of}
 use Rattle.meaning.specs.Labels.{Action, Label, Stray, Kill, kind_of}
@@ -20,6 +20,10 @@ use Rattle.source_states.specs.Actions.{action_of}
 use Rattle.source_states.specs.States.{state_of}
 use Rattle.log_simulation.specs.declared.follower.Follower.{Follower}
 
+-- the program that a follower follows, for an image of the version that its layout has
+abbrev pub followed : Follower → Program
+followed f = as_version f.layout.version (said_by f.checked.now)
+
 -- a follower has come as far as this
 pub record Matches (f : Follower) (g : Progress) : Type 0 where
   pub actions : map action_of f.actions.items ≡ g.actions
@@ -29,13 +33,13 @@ pub record Matches (f : Follower) (g : Progress) : Type 0 where
 abbrev pub Takes : Follower → Action → (is_possible : Bool) → Follower → Type 0
 Takes old action is_possible new =
     (g : Progress) (after : SourceState) → Matches old g
-    → IsStep (said_by old.checked.now) g.source action after
+    → IsStep (followed old) g.source action after
     → (is_possible ≡ true) × Matches new (record g { actions = g.actions ++ action ∷ []; source = after })
 
 -- where process t can take an internal action, it takes that
 abbrev pub TakesInternal : Follower → (t : ℕ) → (is_possible : Bool) → Follower → Type 0
 TakesInternal old t is_possible new =
-    let p = said_by old.checked.now in
+    let p = followed old in
     (g : Progress) (label : Label) (after : SourceState) → Matches old g
     → CanTake p g.source t label → is_internal label ≡ true → IsStep p g.source (act t (kind_of label)) after
     → (is_possible ≡ true)
@@ -44,14 +48,14 @@ TakesInternal old t is_possible new =
 -- where so many actions of process t are deferred, it takes them
 abbrev pub CatchesUp : Follower → (t count : ℕ) → (is_possible : Bool) → Follower → Type 0
 CatchesUp old t count is_possible new =
-    let p = said_by old.checked.now in
+    let p = followed old in
     (g : Progress) (ahead : SourceState) → Matches old g → IsBehind p g.deferred g.source ahead
     → length (g.deferred t) ≡ count → (is_possible ≡ true) × Matches new (progress_caught_up p t g)
 
 -- and then the next visible action of process t, by a step of the machine to this state
 abbrev pub Follows : Follower → State → (t count : ℕ) → (is_possible : Bool) → Follower → Type 0
 Follows old s t count is_possible new =
-    let p = said_by old.checked.now in
+    let p = followed old in
     (g : Progress) (ahead : SourceState) (label : Label) → old.layout ≡ layout_of p
     → Matches old g → IsBehind p g.deferred g.source ahead → length (g.deferred t) ≡ count
     → let caught_up = progress_caught_up p t g in
@@ -70,7 +74,7 @@ pub record IsStrayDue (p : Program) (t : ℕ) (c : Member) (g : Progress) : Type
 -- where so many actions of process t are deferred, and it may stop waiting on the condition behind them, it does so
 abbrev pub FollowsStray : Follower → (t : ℕ) → Member → (count : ℕ) → (is_possible : Bool) → Follower → Type 0
 FollowsStray old t c count is_possible new =
-    let p = said_by old.checked.now in
+    let p = followed old in
     (g : Progress) → Matches old g → length (g.deferred t) ≡ count → IsStrayDue p t c g
     → (is_possible ≡ true) × Matches new (progress_stray p (Some c) t g)
 
@@ -105,6 +109,6 @@ progress_left p s t last g =
 abbrev pub FollowsKill : Follower → State → (t count : ℕ) → (raised : Bool) → (last : Option ℕ) → (is_possible : Bool)
     → Follower → Type 0
 FollowsKill old s t count raised last is_possible new =
-    let p = said_by old.checked.now in
+    let p = followed old in
     (g : Progress) → old.layout ≡ layout_of p → Matches old g → length (g.deferred t) ≡ count → g.raised t ≡ raised
     → IsKillDue p s t last g → (is_possible ≡ true) × Matches new (progress_left p s t last g)

@@ -7,7 +7,6 @@ use Rattle.piece_machine.specs.PieceViews.{parts}
 use Rattle.machine.specs.declared.event.Entry.{Entry}
 use Rattle.machine.specs.declared.event.Event.{Event}
 use Rattle.runner.specs.LogRuns.{steps_of}
-use Rattle.program.specs.Names.{said_by}
 use Rattle.program.specs.Trees.{Program}
 use Rattle.program.specs.WellFormed.{WellFormed}
 use Rattle.lowering.specs.Layout.{layout_of}
@@ -15,7 +14,7 @@ use Rattle.lowering.specs.Pieces.{code_of, marks_of}
 use Rattle.proof_simulation.specs.Progress.{Progress, progress_caught_up}
 use Rattle.log_simulation.specs.Entries.{ComesTo, entry_steps}
 use Rattle.log_simulation.specs.Explanations.{LeadsTo, StopsAt}
-use Rattle.log_simulation.specs.Going.{Matches}
+use Rattle.log_simulation.specs.Going.{Matches, followed}
 use Rattle.log_simulation.specs.Deferred.{CountsDeferred, Raises}
 use Rattle.log_simulation.specs.declared.recorder.Recorder.{Recorder}
 use Rattle.log_simulation.specs.declared.walking.Walked.{Walked}
@@ -23,7 +22,7 @@ use Rattle.log_simulation.specs.declared.walking.Walked.TheVariants as walked
 
 -- a recorder of the program's logs
 pub record IsOf (p : Program) (r : Recorder) : Type 0 where
-  pub program : said_by r.follower.checked.now ≡ p
+  pub program : followed r.follower ≡ p
   pub layout : r.follower.layout ≡ layout_of p
   pub marks : r.marks.items ≡ marks_of p
   pub places : length r.deferred.items ≡ most_threads + 1

@@ -2,6 +2,7 @@ ghost use Rattle.std.specs.Prelude.{◌≡◌, IfOk};
 ghost use Rattle.lowering.specs.Layout.{layout_of};
 ghost use Rattle.lowering.specs.Pieces.{code_of, marks_of};
 ghost use Rattle.program.specs.Names.{said_by};
+ghost use Rattle.program.specs.Trees.{as_version};
 ghost use Rattle.program.specs.WellFormed.{WellFormed};
 ghost use Rattle.log_simulation.specs.Explanations.{ExplainsLog};
 
@@ -42,9 +43,9 @@ fn checked_is_well_formed(checked: &Checked)
     checked.program();
 }
 
-/// The source behind a log of a program's image: the log is walked once, by the machine's own steps, with the layout
-/// of the program and the marks of its code. The marks say which actions are deferred until the next visible one of
-/// their process. The walk ends at the first entry that isn't legal.
+/// The source behind a log of a program's image of either version: the log is walked once, by the machine's own steps,
+/// with the layout of the program for that version and the marks of its code. The marks say which actions are deferred
+/// until the next visible one of their process. The walk ends at the first entry that isn't legal.
 pub fn explain_log(
     alloc: Global,
     checked: &Checked,
@@ -53,10 +54,11 @@ pub fn explain_log(
     layout: Layout,
     marks: Vec<Mark>,
 ) -> Result<LogExplanation, AllocError>
-    requires own { image.now ≡ code_of (said_by checked.now) }
-    requires layout { layout ≡ layout_of (said_by checked.now) }
-    requires marks { marks.items ≡ marks_of (said_by checked.now) }
-    ensures { IfOk result (λ told. ExplainsLog (said_by checked.now) log.entry told) }
+    requires own { image.now ≡ code_of (as_version layout.version (said_by checked.now)) }
+    requires layout { layout ≡ layout_of (as_version layout.version (said_by checked.now)) }
+    requires marks { marks.items ≡ marks_of (as_version layout.version (said_by checked.now)) }
+    ensures { let p = as_version layout.version (said_by checked.now) in
+        IfOk result (λ told. ExplainsLog p log.entry told) }
 {
     checked_is_well_formed(checked);
     let mut recorder = Recorder::new(alloc, checked, layout, marks)?;

@@ -3,6 +3,7 @@ ghost use Rattle.words.specs.Limits.{most_threads};
 ghost use Rattle.machine.specs.States.{state_of as machine_state};
 ghost use Rattle.machine.specs.Views.{address_of, concrete};
 ghost use Rattle.program.specs.Names.{said_by};
+ghost use Rattle.program.specs.Trees.{as_version};
 ghost use Rattle.program.specs.declared.kinds.Member.{Member as MemberOf};
 ghost use Rattle.lowering.specs.Layout.{layout_of};
 ghost use Rattle.proof_commutation.specs.Deferring.{is_internal};
@@ -14,7 +15,7 @@ ghost use Rattle.proof_simulation.specs.Progress.{opening_progress};
 ghost use Rattle.proof_simulation.specs.Tracking.{CanTake};
 ghost use Rattle.log_simulation.specs.Choosing.{resumed_only};
 ghost use Rattle.log_simulation.specs.Going.{Follows, FollowsKill, FollowsStray, Matches, CatchesUp, Takes};
-ghost use Rattle.log_simulation.specs.Going.{TakesInternal};
+ghost use Rattle.log_simulation.specs.Going.{TakesInternal, followed};
 ghost use Rattle.proof_simulation.specs.Kills.{killed_last, killed_resumed};
 ghost use Rattle.proof_simulation.specs.Next.{offer_of_process};
 ghost use Rattle.proof_simulation.specs.Strays.{stray_condition};
@@ -32,7 +33,7 @@ use program::{Checked, Member};
 use source_offers::Offer;
 use source_states::{Action, ActionKind, SourceState};
 use std::alloc::{AllocError, Global};
-use words::{Addr, ImageVersion};
+use words::Addr;
 
 // Where thread `t` sleeps, or has committed to.
 fn sleeps_at(machine: &PieceMachine, t: u32) -> Option<Addr>
@@ -55,22 +56,22 @@ pub struct Follower<'a> {
 }
 
 impl<'a> Follower<'a> {
-    /// At the opening states of both, with the layout of the program.
+    /// At the opening states of both, with the layout of the program for an image of its version.
     pub fn new(
         alloc: Global,
         checked: &'a Checked<'a>,
         layout: Layout,
     ) -> Result<Follower<'a>, AllocError>
-        requires { layout ≡ layout_of (said_by checked.now) }
-        ensures opens { IfOk result (λ f. Matches f (opening_progress (said_by checked.now))) }
-        ensures kept { IfOk result (λ f. (f.checked.now ≡ checked.now)
-            × (f.layout ≡ layout_of (said_by checked.now))) }
+        ensures opens { let p = as_version layout.version (said_by checked.now) in
+            IfOk result (λ f. Matches f (opening_progress p)) }
+        ensures kept { IfOk result (λ f. (f.checked.now ≡ checked.now) × (f.layout ≡ layout)) }
     {
+        let state = SourceState::opening(alloc, checked, layout.version())?;
         Ok(Follower {
             alloc,
             checked,
             layout,
-            state: SourceState::opening(alloc, checked, ImageVersion::One)?,
+            state,
             actions: Vec::new(alloc),
         })
     }
@@ -83,28 +84,21 @@ impl<'a> Follower<'a> {
     }
 
     /// Whether the step of thread `t` that comes to this, with this value in its event, is a visible action of its
-    /// process, in the program's image of this version. It is asked before the step.
-    pub fn is_visible(
-        &self,
-        version: ImageVersion,
-        machine: &Machine,
-        t: u32,
-        step: NextStep,
-        value: u32,
-    ) -> bool
-        ensures { let p = said_by self.now.checked.now in version ≡ p.version
-            → self.now.layout ≡ layout_of p → 0 < t → t ≤ most_threads
+    /// process. It is asked before the step.
+    pub fn is_visible(&self, machine: &Machine, t: u32, step: NextStep, value: u32) -> bool
+        ensures { let p = followed self.now in self.now.layout ≡ layout_of p → 0 < t → t ≤ most_threads
             → length machine.now.words < 2 ^ 32
             → result ≡ visible_step p (machine_state (concrete machine.now)).word t step value }
     {
         let monitors = self.checked.program().monitors.len() as u32;
+        let version = self.layout.version();
         is_visible(version, &self.layout, monitors, machine, t, step, value)
     }
 
     /// The monitor that process `t` abandons last if it is killed now: the one that its thread is just taking or giving
     /// up, if the thread owns it.
     pub fn killed_last(&self, machine: &Machine, t: u32) -> Option<u32>
-        ensures { let p = said_by self.now.checked.now in self.now.layout ≡ layout_of p
+        ensures { let p = followed self.now in self.now.layout ≡ layout_of p
             → 0 < t → t ≤ most_threads → length machine.now.words < 2 ^ 32
             → result ≡ killed_last p (machine_state (concrete machine.now)).word t }
     {
@@ -173,10 +167,8 @@ impl<'a> Follower<'a> {
 
     // Who waits on a condition, and doesn't sleep on its word.
     fn waiters(&self, machine: &PieceMachine, condition: Member) -> Result<Vec<u64>, AllocError>
-        ensures { IfOk result (λ v. self.now.layout ≡ layout_of (said_by self.now.checked.now)
-            → v.items ≡ awake_waiters (said_by self.now.checked.now)
-            (shown machine.now)
-            (state_of self.now.state).table condition) }
+        ensures { let p = followed self.now in IfOk result (λ v. self.now.layout ≡ layout_of p
+            → v.items ≡ awake_waiters p (shown machine.now) (state_of self.now.state).table condition) }
     {
         let word = Addr(self.layout.address(condition));
         let mut waiters = Vec::new(self.alloc);
@@ -191,11 +183,9 @@ impl<'a> Follower<'a> {
 
     // Whom a process with this offer resumes, where it notifies or broadcasts a condition.
     fn resumed(&self, machine: &PieceMachine, offer: &Offer) -> Result<Vec<u64>, AllocError>
-        ensures some { IfOk result (λ v. self.now.layout ≡ layout_of (said_by self.now.checked.now)
+        ensures some { let p = followed self.now in IfOk result (λ v. self.now.layout ≡ layout_of p
             → (c : MemberOf) → resumed_only offer.now ≡ Some c
-            → v.items ≡ awake_waiters (said_by self.now.checked.now)
-            (shown machine.now)
-            (state_of self.now.state).table c) }
+            → v.items ≡ awake_waiters p (shown machine.now) (state_of self.now.state).table c) }
         ensures none { IfOk result (λ v. resumed_only offer.now ≡ None → v.items ≡ []) }
     {
         match notified(offer) {
@@ -206,12 +196,10 @@ impl<'a> Follower<'a> {
 
     // The visible action that a process takes next, where it can take one.
     fn next_visible(&self, machine: &PieceMachine, t: u32) -> Result<Option<ActionKind>, AllocError>
-        ensures { IfOk result (λ o. (label : Label)
-            → self.now.layout ≡ layout_of (said_by self.now.checked.now)
-            → CanTake (said_by self.now.checked.now) (state_of self.now.state) t label
-            → is_internal label ≡ false
-            → Resumes (said_by self.now.checked.now) (shown machine.now)
-            (state_of self.now.state).table label → option_map kind_of o ≡ Some (name_of label)) }
+        ensures { let p = followed self.now in let a = state_of self.now.state in
+            IfOk result (λ o. (label : Label) → self.now.layout ≡ layout_of p → CanTake p a t label
+            → is_internal label ≡ false → Resumes p (shown machine.now) a.table label
+            → option_map kind_of o ≡ Some (name_of label)) }
     {
         let Some((offer, _)) = self.state.offered(self.alloc, self.checked, u64::from(t))? else {
             return Ok(None);
@@ -239,9 +227,8 @@ impl<'a> Follower<'a> {
 
     /// The condition that process `t` waits on, if its word has this address.
     pub fn stray_condition(&self, t: u32, address: u32) -> Option<Member>
-        ensures { self.now.layout ≡ layout_of (said_by self.now.checked.now)
-            → result ≡ stray_condition (said_by self.now.checked.now) address
-            ((state_of self.now.state).table.waits t) }
+        ensures { let p = followed self.now in self.now.layout ≡ layout_of p
+            → result ≡ stray_condition p address ((state_of self.now.state).table.waits t) }
     {
         let condition = self.state.waits(u64::from(t))?;
         if is_condition(self.checked.program(), condition)
@@ -278,7 +265,7 @@ impl<'a> Follower<'a> {
         t: u32,
         raised: bool,
     ) -> Result<Vec<u64>, AllocError>
-        ensures { let p = said_by self.now.checked.now in let a = state_of self.now.state in
+        ensures { let p = followed self.now in let a = state_of self.now.state in
             IfOk result (λ v. self.now.layout ≡ layout_of p
             → v.items ≡ killed_resumed p (shown machine.now) a.table raised
             (offer_of_process p a.variable (a.process t))) }

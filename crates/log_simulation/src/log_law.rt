@@ -1,5 +1,3 @@
-ghost use Rattle.words.specs.Limits.{most_threads};
-ghost use Rattle.words.specs.Versions.{most_of};
 ghost use Rattle.lowering.specs.Pieces.{code_of};
 ghost use Rattle.locals.specs.Looks.{look};
 ghost use Rattle.machine.specs.ConcretePieces.{is_piece};
@@ -18,7 +16,7 @@ ghost use Rattle.program.specs.Trees.{Program};
 ghost use Rattle.program.specs.WellFormed.{WellFormed};
 ghost use Rattle.machine.specs.FrontRuns.{EventStep};
 ghost use Rattle.runner.specs.Logs.{EntersOutside, EntersOwn, opening};
-ghost use Rattle.std.specs.Prelude.{[], ◌≡◌, ◌+◌, ◌++◌, ◌<◌, ◌≤◌, ◌^◌, false, List, Ok, Some, length, true};
+ghost use Rattle.std.specs.Prelude.{[], ◌≡◌, ◌+◌, ◌++◌, ◌<◌, ◌^◌, false, List, Ok, Some, length, true};
 ghost use Rattle.log_simulation.specs.Entries.{ComesTo, entry_steps, is_visible, progress_entry, progress_locally};
 ghost use Rattle.log_simulation.specs.Entries.{progress_outside};
 ghost use Rattle.log_simulation.specs.Going.{IsKillDue, IsStrayDue};
@@ -34,7 +32,7 @@ ghost use Rattle.log_simulation.specs.Going.{IsKillDue, IsStrayDue};
 /// of a condition's word and not yet woken who slept on it, and it abandons last the monitor that the thread was just
 /// taking or giving up, if the thread owned it. Behind a kill of a thread that is dying or has ended, nothing is.
 pub fn progress_follows_logs()
-    ensures opens { (p : Program) → most_of p.version ≤ most_threads
+    ensures opens { (p : Program)
         → ComesTo p [] (opening (code_of p)) (opening_progress p) }
     ensures entries { (p : Program) (events : List EventStep) (k k' : PieceConcrete) (e : Entry)
         (g : Progress)

@@ -23,7 +23,7 @@ ghost use Rattle.proof_simulation.specs.Progress.{Progress};
 ghost use Rattle.proof_simulation.specs.Deferred.{deferred_then};
 ghost use Rattle.proof_simulation.specs.Strays.{stray_condition};
 ghost use Rattle.program.specs.Names.{said_by};
-ghost use Rattle.program.specs.Trees.{Program};
+ghost use Rattle.program.specs.Trees.{Program, as_version};
 ghost use Rattle.program.specs.declared.kinds.Member.{Member};
 ghost use Rattle.program.specs.WellFormed.{WellFormed};
 ghost use Rattle.source_states.specs.Actions.{action_of};
@@ -95,9 +95,9 @@ impl<'a> Recorder<'a> {
         layout: Layout,
         marks: Vec<Mark>,
     ) -> Result<Recorder<'a>, AllocError>
-        requires layout { layout ≡ layout_of (said_by checked.now) }
-        requires marks { marks.items ≡ marks_of (said_by checked.now) }
-        ensures { let p = said_by checked.now in
+        requires layout { layout ≡ layout_of (as_version layout.version (said_by checked.now)) }
+        requires marks { marks.items ≡ marks_of (as_version layout.version (said_by checked.now)) }
+        ensures { let p = as_version layout.version (said_by checked.now) in
             IfOk result (λ r. IsAlong p [] (opening (code_of p)) r) }
     {
         Ok(Recorder {
@@ -228,22 +228,14 @@ impl<'a> Recorder<'a> {
 
     /// Whether the shared step of thread `t` that comes to this, with this value in its event, is a visible action of
     /// its process. It is asked before the step.
-    pub fn is_visible(
-        &self,
-        image: &Image,
-        machine: &Machine,
-        t: u32,
-        step: NextStep,
-        value: u32,
-    ) -> bool
-        ensures { (p : Program) (here : Thread) → image.now ≡ code_of p → IsOf p self.now
+    pub fn is_visible(&self, machine: &Machine, t: u32, step: NextStep, value: u32) -> bool
+        ensures { (p : Program) (here : Thread) → IsOf p self.now
             → 0 < t → t ≤ most_threads → length machine.now.words < 2 ^ 32
             → step ≡ next_step_of (look (code_of p) t here)
             → result ≡ is_visible p (machine_state (concrete machine.now)).word t
             (look (code_of p) t here) value }
     {
-        self.follower
-            .is_visible(image.version(), machine, t, step, value)
+        self.follower.is_visible(machine, t, step, value)
     }
 
     /// Takes in the shared step of thread `t`, which stood here before it, came to this with this value in its event,

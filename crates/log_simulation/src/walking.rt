@@ -103,7 +103,7 @@ fn go_own(
         return Ok(true);
     };
     let step = here.next_step(image, t);
-    let visible = recorder.is_visible(image, machine.machine(), t, step, event.value);
+    let visible = recorder.is_visible(machine.machine(), t, step, event.value);
     if !take_shared(machine, t, &event, taken) {
         return Ok(false);
     }

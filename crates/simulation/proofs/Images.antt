@@ -6,7 +6,8 @@ use Rattle.piece_machine.specs.PieceViews.{parts}
 use Rattle.machine.specs.declared.event.Entry.{Entry}
 use Rattle.scanner.specs.declared.refusal.Refusal.{Refusal}
 use Rattle.scanner.specs.declared.refusal.RefusalKind.TheVariants.{Memory}
-use Rattle.program.specs.Trees.{Program}
+use Rattle.program.specs.Trees.{Program, as_version}
+use Rattle.lowering.specs.Layout.{Layout, layout_of}
 use Rattle.lowering.specs.Pieces.{code_of}
 use Rattle.backend.specs.Refusals.{RefusesCode}
 use Rattle.log_simulation.specs.Explanations.{IsExplained, LeadsTo}
@@ -20,6 +21,10 @@ other_image p i e within other (inr (t, long)) same =
     let short = within.short in
     let lengths : length i.code ≡ length (code_of p).code = ap (λ (x : Image). length x.code) same in
     absurd (omega (arith, short, lengths, long))
+
+-- a layout has the version of the program whose layout it is
+pub by_layout : (p q : Program) (l : Layout) → l ≡ layout_of q → as_version l.version p ≡ as_version q.version p
+by_layout p q l is = ap (λ (x : Layout). as_version x.version p) is
 
 -- what explains a log of the program's code explains it of an image that is this code
 pub explains_entries : (p : Program) (i : Image) (entries : List Entry) (e : ExplainedLog) → i ≡ code_of p

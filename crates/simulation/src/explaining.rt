@@ -2,6 +2,7 @@ ghost use Rattle.std.specs.Prelude.{◌≡◌, ◌≢◌, IfOk, MatchBool, Match
 ghost use Rattle.isa.specs.Programs.{IsProgram};
 ghost use Rattle.scanner.specs.declared.refusal.RefusalKind.TheVariants.{Memory};
 ghost use Rattle.program.specs.Names.{said_by};
+ghost use Rattle.program.specs.Trees.{as_version};
 ghost use Rattle.lowering.specs.Pieces.{code_of};
 ghost use Rattle.backend.specs.Lowered.{IsLowered};
 ghost use Rattle.source_states.specs.Actions.{action_of};
@@ -47,15 +48,15 @@ fn is_too_long(refusal: Refusal) -> bool
     refusal.kind != RefusalKind::Memory
 }
 
-// What the program is lowered to, where the image is its code.
+// What the program is lowered to for the image's version, where the image is its code.
 #[tactic(auto, using(crate::proofs::Images::other_image))]
 fn lower_as(alloc: Global, checked: &Checked, image: &Image) -> Result<Option<Lowered>, AllocError>
-    ensures { let p = said_by checked.now in
+    ensures { let p = as_version image.now.version (said_by checked.now) in
         IfOk result (λ o. MatchOption o (image.now ≡ code_of p → ⊥)
         (λ lowered. (lowered.image ≡ image.now) × IsLowered p lowered)) }
 {
     image_is_within_limits(image);
-    match lower(alloc, checked) {
+    match lower(alloc, checked, image.version()) {
         Ok(lowered) => {
             if are_equal(alloc, image, &lowered.image)? {
                 Ok(Some(lowered))
@@ -87,8 +88,8 @@ pub fn explain_log_lowered(
     lowered: Lowered,
     log: LogReader<'_>,
 ) -> Result<ExplainedLog, LogFault>
-    requires { IsLowered (said_by checked.now) lowered }
-    ensures { let p = said_by checked.now in MatchResult result
+    requires { IsLowered (as_version lowered.image.version (said_by checked.now)) lowered }
+    ensures { let p = as_version lowered.image.version (said_by checked.now) in MatchResult result
         (λ explained. ExplainsEntries p lowered.image log.entry explained)
         (λ fault. RefusesLogEntry lowered.image log.entry fault) }
 {
@@ -111,8 +112,8 @@ pub fn explain_lowered(
     lowered: Lowered,
     log: LogReader<'_>,
 ) -> Result<Vec<Action>, ExplainFault>
-    requires { IsLowered (said_by checked.now) lowered }
-    ensures { let p = said_by checked.now in MatchResult result
+    requires { IsLowered (as_version lowered.image.version (said_by checked.now)) lowered }
+    ensures { let p = as_version lowered.image.version (said_by checked.now) in MatchResult result
         (λ actions. IsExplainedLog p lowered.image log.entry (map action_of actions.items))
         (λ fault. RefusesLog p lowered.image log.entry fault) }
 {
@@ -123,7 +124,7 @@ pub fn explain_lowered(
     }
 }
 
-/// The source run that a log of a program's image is: the actions of the source, in order.
+/// The source run that a log of a program's image of either version is: the actions of the source, in order.
 ///
 /// The log is walked once, by the machine's own steps. At each step that is a visible action stands that action,
 /// behind the deferred ones of its process, which are internal; those that are still deferred at the end come last, by
@@ -135,15 +136,15 @@ pub fn explain_lowered(
 ///
 /// # Errors
 ///
-/// `OtherImage` where the image isn't the program's; then `NotARun` where the entries aren't a log of it: not legal, or
-/// of 2^32 steps or more. `Memory` may come at any point.
+/// `OtherImage` where the image isn't the program's of its version, and so of neither; then `NotARun` where the entries
+/// aren't a log of it: not legal, or of 2^32 steps or more. `Memory` may come at any point.
 pub fn explain(
     alloc: Global,
     checked: &Checked,
     image: &Image,
     log: LogReader<'_>,
 ) -> Result<Vec<Action>, ExplainFault>
-    ensures { let p = said_by checked.now in MatchResult result
+    ensures { let p = as_version image.now.version (said_by checked.now) in MatchResult result
         (λ actions. IsExplainedLog p image.now log.entry (map action_of actions.items))
         (λ fault. RefusesLog p image.now log.entry fault) }
 {

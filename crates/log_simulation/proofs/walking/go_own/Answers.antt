@@ -156,7 +156,7 @@ returns-clause-told c = λ _ p own w events along.
     let few = subst (λ n. n < 2 ^ 32) (sym (ap (λ (v : View). length v.words) c.machine.ensures.shows
     ∙ ap (λ (m : PieceConcrete). length m.concrete.common.words) there))
     (few_words p events k g w along.comes) in
-    let is_shown = c.is_visible-visible.ensures p here own told.0 (some_thread k t o stood) less few is
+    let is_shown = c.is_visible-visible.ensures p here told.0 (some_thread k t o stood) less few is
     ∙ ap (λ (v : View). is_visible p (machine_state (concrete v)).word t (look (code_of p) t here) event.value)
     c.machine.ensures.shows
     ∙ ap (λ (m : PieceConcrete). is_visible p (machine_state m.concrete).word t (look (code_of p) t here) event.value) there in

@@ -4,7 +4,6 @@ use Rattle.log_simulation.specs.Shown.{shown}
 use Rattle.meaning.specs.Labels.{Kill}
 use Rattle.meaning.specs.Runs.{IsStep}
 use Rattle.meaning.specs.States.{SourceState}
-use Rattle.program.specs.Names.{said_by}
 use Rattle.program.specs.Trees.{Program}
 use Rattle.lowering.specs.Layout.{layout_of}
 use Rattle.proof_simulation.specs.Kills.{after_kill, killed_resumed}
@@ -12,7 +11,8 @@ use Rattle.proof_simulation.specs.Next.{offer_of_process}
 use Rattle.proof_simulation.specs.Ordering.{act}
 use Rattle.proof_simulation.specs.Progress.{progress_caught_up}
 use Rattle.source_states.specs.States.{state_of}
-use Rattle.log_simulation.specs.Going.{Takes, resumed_by}
+use Rattle.log_simulation.specs.Going.{Takes, followed, resumed_by}
+use Rattle.log_simulation.proofs.Versions.{same_followed}
 use Rattle.log_simulation.proofs.CatchingUp.{if_ok}
 use Rattle.log_simulation.proofs.follower.Follower.follow_kill.Goals as goal
 
@@ -23,13 +23,13 @@ returns-then-not-branch-clause-follows c = λ g layout matches all bit due.
 
 pub returns-clause-follows : goal.returns-clause-follows
 returns-clause-follows c =
-    let p = said_by c.args.self.now.checked.now in
+    let p = followed c.args.self.now in
     let f = c.catch_up.new.self in
     let t = c.args.t in
     let m = c.args.last in
     let s = shown c.args.machine.now in
     let items = c.in_ok-resumed.resumed.items in
-    let same = ap (λ x. said_by x.now) c.in_ok-catch_up.ensures.kept.0 in
+    let same = same_followed f c.args.self.now c.in_ok-catch_up.ensures.kept.0 c.in_ok-catch_up.ensures.kept.1 in
     if_ok (λ b. Takes f (act t (Kill items m)) b c.take.new.self) _ c.take.result
     (λ b takes g layout matches all bit due.
     let caught_up = progress_caught_up p t g in

@@ -2,11 +2,11 @@ use Rattle.std.proofs.Common.{ap, sym, ◌∙◌, subst, Some}
 use Rattle.std.proofs.lemmas.Bool.{false≢true}
 use Rattle.meaning.specs.Labels.{Stray}
 use Rattle.meaning.specs.Runs.{IsStep}
-use Rattle.program.specs.Names.{said_by}
 use Rattle.proof_simulation.specs.Ordering.{act}
 use Rattle.proof_simulation.specs.Progress.{progress_caught_up}
 use Rattle.proof_simulation.specs.Strays.{after_stray}
-use Rattle.log_simulation.specs.Going.{Takes}
+use Rattle.log_simulation.specs.Going.{Takes, followed}
+use Rattle.log_simulation.proofs.Versions.{same_followed}
 use Rattle.log_simulation.proofs.CatchingUp.{if_ok}
 use Rattle.log_simulation.proofs.follower.Follower.follow_stray.Goals as goal
 
@@ -17,11 +17,11 @@ returns-then-not-branch-clause-follows c = λ g matches all due.
 
 pub returns-clause-follows : goal.returns-clause-follows
 returns-clause-follows c =
-    let p = said_by c.args.self.now.checked.now in
+    let p = followed c.args.self.now in
     let f = c.catch_up.new.self in
     let t = c.args.t in
     let member = c.args.condition in
-    let same = ap (λ x. said_by x.now) c.in_ok-catch_up.ensures.kept.0 in
+    let same = same_followed f c.args.self.now c.in_ok-catch_up.ensures.kept.0 c.in_ok-catch_up.ensures.kept.1 in
     if_ok (λ b. Takes f (act t (Stray member)) b c.take.new.self) _ c.take.result
     (λ b takes g matches all due.
     let caught_up = progress_caught_up p t g in

@@ -1,6 +1,6 @@
 use Rattle.std.proofs.Common.{ap, sym, ◌∙◌, option_map}
 use Rattle.log_simulation.specs.Shown.{shown}
-use Rattle.program.specs.Names.{said_by}
+use Rattle.log_simulation.specs.Going.{followed}
 use Rattle.meaning.specs.Offers.{offer}
 use Rattle.source_offers.specs.NextAction.{offer_of}
 use Rattle.source_states.specs.States.{state_of}
@@ -9,7 +9,7 @@ use Rattle.log_simulation.proofs.follower.Follower.next_visible.Goals as goal
 
 pub returns : goal.returns
 returns c = λ label layout can visible who.
-    let p = said_by c.args.self.now.checked.now in
+    let p = followed c.args.self.now in
     let a = state_of c.args.self.now.state in
     c.visible_action.ensures ∙ visible_here p a c.args.t c.in-Some.offer c.in-Some.field-0-1 label can
     (ap (option_map (λ n. offer_of p n.0 n.1)) (sym c.in-Some.is) ∙ c.in_ok-offer.ensures

@@ -11,13 +11,16 @@ use Rattle.proof_simulation.specs.Tracking.{CanTake}
 use Rattle.log_simulation.specs.declared.follower.Follower.{Follower}
 use Rattle.log_simulation.proofs.CatchingUp.{none_some, same_kind}
 use Rattle.log_simulation.proofs.Taking.{took, next_is}
+use Rattle.log_simulation.proofs.Versions.{can_same, step_same}
 use Rattle.log_simulation.proofs.follower.Follower.take_internal.Goals as goal
 
 pub returns-in_default-clause-takes : goal.returns-in_default-clause-takes
 returns-in_default-clause-takes c = λ g label after matches can internal step.
+    let v = c.args.self.now.layout.version in
     let p = said_by c.args.self.now.checked.now in
     let s = state_of c.args.self.now.state in
-    let next = next_is p s c.args.t label (subst (λ i. CanTake p i c.args.t label) (sym matches.source) can) internal in
+    let next = next_is p s c.args.t label (subst (λ i. CanTake p i c.args.t label) (sym matches.source)
+    (can_same v p g.source c.args.t label can)) internal in
     let taken = subst (λ o. IsInternalTaken p c.from-process.result (option_map kind_of o) s
     (state_of c.take_internal.new.self)) c.in_default.is
     (subst (λ i. IsInternalTaken (program_of i) c.from-process.result (option_map kind_of c.in_ok-kind.field-0) s
@@ -26,10 +29,12 @@ returns-in_default-clause-takes c = λ g label after matches can internal step.
 
 pub returns-clause-takes : goal.returns-clause-takes
 returns-clause-takes c = λ g label after matches can internal step.
+    let v = c.args.self.now.layout.version in
     let p = said_by c.args.self.now.checked.now in
     let f = c.args.self.now in
     let s = state_of f.state in
-    let next = next_is p s c.args.t label (subst (λ i. CanTake p i c.args.t label) (sym matches.source) can) internal in
+    let next = next_is p s c.args.t label (subst (λ i. CanTake p i c.args.t label) (sym matches.source)
+    (can_same v p g.source c.args.t label can)) internal in
     let taken = subst (λ o. IsInternalTaken p c.from-process.result (option_map kind_of o) s
     (state_of c.take_internal.new.self)) c.in-Some.is
     (subst (λ i. IsInternalTaken (program_of i) c.from-process.result (option_map kind_of c.in_ok-kind.field-0) s
@@ -41,5 +46,5 @@ returns-clause-takes c = λ g label after matches can internal step.
       refl,
       took p f a (act c.args.t (name_of label))
           (ap (λ n. act n (kind_of c.in-Some.kind)) c.from-process.ensures ∙ ap (λ k. act c.args.t k) same) g after
-          matches step f' taken.1 c.in_ok-push.ensures.items,
+          matches (step_same v p g.source after (act c.args.t (name_of label)) step) f' taken.1 c.in_ok-push.ensures.items,
     )

@@ -4,8 +4,7 @@ use Rattle.std.proofs.Common.{length}
 use Rattle.std.specs.Prelude.{MatchBool, false}
 use Rattle.words.specs.Updates.{put}
 use Rattle.log_simulation.specs.Shown.{shown}
-use Rattle.program.specs.Names.{said_by}
-use Rattle.log_simulation.specs.Going.{Matches, progress_left}
+use Rattle.log_simulation.specs.Going.{Matches, followed, progress_left}
 use Rattle.log_simulation.specs.declared.follower.Follower.{Follower}
 use Rattle.log_simulation.specs.declared.recorder.Recorder.{Recorder}
 use Rattle.log_simulation.specs.declared.deferred.Deferred.{Deferred}
@@ -45,7 +44,7 @@ returns c = λ p n g of less tells due.
     let more = ap (λ r. length r.deferred.items) c.lower-raised.ensures.kept
     ∙ ap (λ r. length r.deferred.items) c.count.ensures.kept in
     let w = c.take_deferred-count.ensures.defers g.deferred waits (omega (arith, less, places, more)) in
-    let program = ap (λ (x : Follower). said_by x.checked.now) follower ∙ of.program in
+    let program = ap followed follower ∙ of.program in
     let r = follows_kill_due p taken.follower c.follow_kill.new.self s t c.take_deferred-count.result
     c.lower-raised.result m b g program (ap (λ (x : Follower). x.layout) follower ∙ of.layout)
     (subst (λ (x : Follower). Matches x g) (sym follower) h.matches) (due few) w.0 l.0

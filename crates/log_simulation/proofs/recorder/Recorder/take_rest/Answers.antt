@@ -1,8 +1,7 @@
 -- Each process pays in its turn.
 use Rattle.std.proofs.Common.{◌≡◌, ◌+◌, ◌∙◌, ap, arith, length, subst, sym, ℕ}
 use Rattle.std.proofs.lemmas.Bool.{false≢true}
-use Rattle.program.specs.Names.{said_by}
-use Rattle.log_simulation.specs.Going.{Matches}
+use Rattle.log_simulation.specs.Going.{Matches, followed}
 use Rattle.log_simulation.specs.declared.follower.Follower.{Follower}
 use Rattle.proof_commutation.specs.Deferring.{IsBehind}
 use Rattle.log_simulation.specs.declared.recorder.Recorder.{Recorder}
@@ -22,7 +21,7 @@ returns-then-not-branch c = λ p g ahead of less matches waits behind.
     let w = c.take_deferred-count.ensures.defers rest.deferred i.2 (omega (arith, less, places, inside)) in
     let r = catches_up_next p c.take_deferred-count.new.self.follower c.catch_up.new.self (l.before + 1)
     c.take_deferred-count.result c.in_ok-catch_up.field-0 rest ahead
-    (ap (λ (x : Follower). said_by x.checked.now) follower ∙ i.0.program)
+    (ap followed follower ∙ i.0.program)
     (subst (λ (x : Follower). Matches x rest) (sym follower) i.1) i.3 w.0 c.in_ok-catch_up.ensures.catches_up in
     absurd (false≢true (sym c.if-not-branch.true ∙ r.0))
 
@@ -39,7 +38,7 @@ loop-before-preserved c = record {
       let w = c.take_deferred-count.ensures.defers rest.deferred i.2 (omega (arith, less, places, inside)) in
       let r = catches_up_next p taken.follower c.catch_up.new.self (l.before + 1)
       c.take_deferred-count.result c.in_ok-catch_up.field-0 rest ahead
-      (ap (λ (x : Follower). said_by x.checked.now) follower ∙ i.0.program)
+      (ap followed follower ∙ i.0.program)
       (subst (λ (x : Follower). Matches x rest) (sym follower) i.1) i.3 w.0 c.in_ok-catch_up.ensures.catches_up in
       let last : Recorder = record {
         marks = taken.marks;

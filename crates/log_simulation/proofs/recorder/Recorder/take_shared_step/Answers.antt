@@ -5,9 +5,8 @@ use Rattle.std.specs.Prelude.{MatchBool, ◌||◌, false}
 use Rattle.proof_thread.specs.Deferrals.{deferred_by_step, mark_of}
 use Rattle.lowering.specs.Pieces.{code_of, marks_of}
 use Rattle.locals.specs.Looks.{look}
-use Rattle.program.specs.Names.{said_by}
 use Rattle.log_simulation.specs.Entries.{progress_shared}
-use Rattle.log_simulation.specs.Going.{Matches}
+use Rattle.log_simulation.specs.Going.{Matches, followed}
 use Rattle.log_simulation.specs.declared.follower.Follower.{Follower}
 use Rattle.log_simulation.specs.declared.recorder.Recorder.{Recorder}
 use Rattle.log_simulation.specs.declared.deferred.Deferred.{Deferred}
@@ -54,7 +53,7 @@ returns-in_ok-self c = λ p n word g is told of less tells due.
     let more = ap (λ r. length r.deferred.items) c.lower.ensures.kept
     ∙ ap (λ r. length r.deferred.items) c.count.ensures.kept in
     let w = c.take_deferred-count.ensures.defers g.deferred waits (omega (arith, less, places, more)) in
-    let program = ap (λ (x : Follower). said_by x.checked.now) follower ∙ of.program in
+    let program = ap followed follower ∙ of.program in
     let r = follows_due p taken.follower c.follow.new.self s t c.take_deferred-count.result b g program
     (ap (λ (x : Follower). x.layout) follower ∙ of.layout)
     (subst (λ (x : Follower). Matches x g) (sym follower) h.matches) (due visible few) w.0

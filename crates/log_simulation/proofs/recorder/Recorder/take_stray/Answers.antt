@@ -2,10 +2,9 @@
 use Rattle.std.proofs.Common.{◌≡◌, ◌<◌, ◌≤◌, ◌^◌, ◌+◌, ◌∙◌, ap, arith, refl, subst, sym, Bool, List, Some}
 use Rattle.std.proofs.Common.{length}
 use Rattle.std.specs.Prelude.{MatchBool}
-use Rattle.program.specs.Names.{said_by}
 use Rattle.proof_simulation.specs.Strays.{stray_condition}
 use Rattle.log_simulation.specs.Entries.{progress_strayed}
-use Rattle.log_simulation.specs.Going.{Matches}
+use Rattle.log_simulation.specs.Going.{Matches, followed}
 use Rattle.log_simulation.specs.declared.follower.Follower.{Follower}
 use Rattle.log_simulation.specs.declared.recorder.Recorder.{Recorder}
 use Rattle.log_simulation.specs.declared.deferred.Deferred.{Deferred}
@@ -34,7 +33,7 @@ returns c = λ p n g of less tells due.
     ap (λ r. r.steps) c.take_deferred-count.ensures.kept ∙ (omega (arith, d.2, was)) in
     let found : Some member ≡ stray_condition p a (g.source.table.waits t) =
     sym c.in-Some.is ∙ condition_so p n t a g counted.follower c.stray_condition.result
-    (ap (λ (x : Follower). said_by x.checked.now) first ∙ of.program)
+    (ap followed first ∙ of.program)
     (ap (λ (x : Follower). x.layout) first ∙ of.layout)
     (subst (λ (x : Follower). Matches x g) (sym first) h.matches) c.stray_condition.ensures in
     let waits = subst (λ (w : List Deferred). CountsDeferred w g.deferred)
@@ -42,7 +41,7 @@ returns c = λ p n g of less tells due.
     let places = of.places in
     let more = ap (λ r. length r.deferred.items) c.count.ensures.kept in
     let w = c.take_deferred-count.ensures.defers g.deferred waits (omega (arith, less, places, more)) in
-    let program = ap (λ (x : Follower). said_by x.checked.now) second ∙ of.program in
+    let program = ap followed second ∙ of.program in
     let r = follows_stray_due p taken.follower c.follow_stray.new.self t c.take_deferred-count.result member b g program
     (subst (λ (x : Follower). Matches x g) (sym second) h.matches) (due few member (sym found)) w.0
     c.in_ok-self.ensures.follows in
@@ -79,7 +78,7 @@ returns-in_default c = λ p n g of less tells due.
       tells_on 1 n g (progress_strayed p t a g) old counted counted c.count.ensures.counts tells refl
           (λ h steps few.
           let found = condition_so p n t a g counted.follower c.stray_condition.result
-          (ap (λ (x : Follower). said_by x.checked.now) first ∙ of.program) (layout ∙ of.layout)
+          (ap followed first ∙ of.program) (layout ∙ of.layout)
           (subst (λ (x : Follower). Matches x g) (sym first) h.matches) c.stray_condition.ensures in
           unheard p n t a g old counted h (sym found ∙ c.in_default.is) steps few first
           (ap (λ r. r.deferred) c.count.ensures.kept) (ap (λ r. r.raised) c.count.ensures.kept)),
