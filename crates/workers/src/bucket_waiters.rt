@@ -62,7 +62,9 @@ impl BucketWaiters {
         match (&mut *self, others) {
             (_, BucketWaiters::Nobody) => {}
             (BucketWaiters::Nobody, _) => *self = *others,
-            (BucketWaiters::Waiters(words), BucketWaiters::Waiters(more)) => join_words(words, more),
+            (BucketWaiters::Waiters(words), BucketWaiters::Waiters(more)) => join_words(
+                words, more,
+            ),
         }
     }
 

@@ -1,5 +1,4 @@
-use Rattle.std.proofs.Common.{refl, subst, sym}
-use Rattle.runner.specs.Rounds.{NobodyPassed}
+use Rattle.std.proofs.Common.{refl}
 use Rattle.runner.specs.Views.{log_state}
 use Rattle.runner.proofs.Drawn.{idle_so}
 use Rattle.runner.proofs.drawing.make_next.Goals as goal

@@ -1,4 +1,4 @@
-use Rattle.std.proofs.Common.{arith, sym, subst}
+use Rattle.std.proofs.Common.{arith, subst}
 use Rattle.std.specs.Prelude.{ℕ, Some, None}
 use Rattle.machine.specs.ConcreteSteps.{can_move}
 use Rattle.machine.specs.States.{ConcreteState}
@@ -12,6 +12,7 @@ pub make_entry-requires-clause-thread : goal.make_entry-requires-clause-thread
 make_entry-requires-clause-thread g c =
     let least = subst (λ (k : ConcreteState). IsLeastFrom (can_move k) c.loop-t.from (Some c.in-Some.t))
     c.machine.ensures.concrete c.in-Some.ensures in
+    λ lifetimes within.
     mover_number g.J.RunName.program (log_state c.loop-t.shared).concrete c.in-Some.t c.machine.ensures.fit least.1
 
 pub loop-t-preserved : goal.loop-t-preserved

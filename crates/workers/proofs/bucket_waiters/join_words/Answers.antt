@@ -1,7 +1,5 @@
-use Rattle.std.proofs.Common.{◌≡◌, ◌∙◌, arith, get_or, inl, inr, length, length-set, refl, ap, sym}
-use Rattle.std.proofs.lemmas.Bool.{cases_eq}
-use Rattle.std.proofs.lemmas.List.{ext_get_or, get_or-set_other, get_or-set_same}
-use Rattle.std.specs.Int.Bits.{bit_or}
+use Rattle.std.proofs.Common.{◌≡◌, ◌∙◌, arith, length, sym}
+use Rattle.std.proofs.lemmas.List.{ext_get_or}
 use Rattle.workers.specs.BucketWaiters.{or_words}
 use Rattle.workers.proofs.Waiting.{or_at, or_length}
 use Rattle.workers.proofs.bucket_waiters.join_words.Goals as goal

@@ -1,4 +1,4 @@
-use Rattle.std.proofs.Common.{◌<◌, ◌≤◌, ◌-◌, suc}
+use Rattle.std.proofs.Common.{◌≤◌, ◌-◌, suc}
 use Rattle.words.specs.Limits.{most_threads}
 use Rattle.workers.proofs.pool.Pool.is_over.Given as goal
 

@@ -1,4 +1,4 @@
-use Rattle.std.proofs.Common.{arith, length, subst}
+use Rattle.std.proofs.Common.{arith, subst}
 use Rattle.machine.specs.ConcreteSteps.{can_move}
 use Rattle.machine.specs.States.{ConcreteState}
 use Rattle.machine.specs.ThreadSets.{IsLeastFrom}
