@@ -1,5 +1,4 @@
 ghost use Rattle.std.specs.Prelude.{◌≡◌, ◌≤◌, map, MatchResult};
-ghost use Rattle.words.specs.declared.version.ImageVersion.TheVariants.{One};
 ghost use Rattle.isa.specs.Programs.{IsProgram};
 ghost use Rattle.program.specs.Names.{said_by};
 ghost use Rattle.program.specs.Trees.{as_version};
@@ -59,7 +58,6 @@ fn assemble(
     requires layout { layout ≡ layout_of (as_version layout.version (said_by checked.now)) }
     requires pieces { map piece_of pieces.items
         ≡ unlinked_pieces (as_version layout.version (said_by checked.now)) }
-    requires first { layout.version ≡ One }
     ensures { let p = as_version layout.version (said_by checked.now) in
         MatchResult result (λ lowered. IsLowered p lowered) (λ e. RefusesCode p e) }
 {
@@ -74,14 +72,15 @@ fn assemble(
     })
 }
 
-/// Lowers a checked program: its memory is laid out, the code of each of its pieces made, and the pieces linked.
+/// Lowers a checked program for an image of this version: its memory is laid out, the code of each of its pieces made,
+/// and the pieces linked.
 ///
 /// `Limit` at 1:1 where its code has more than 65,536 instructions, and there alone. `Memory` may come at any point.
-pub fn lower(alloc: Global, checked: &Checked) -> Result<Lowered, Refusal>
-    ensures { let p = said_by checked.now in
+pub fn lower(alloc: Global, checked: &Checked, version: ImageVersion) -> Result<Lowered, Refusal>
+    ensures { let p = as_version version (said_by checked.now) in
         MatchResult result (λ lowered. IsLowered p lowered) (λ e. RefusesCode p e) }
 {
-    let layout = place_as(alloc, checked, ImageVersion::One)?;
+    let layout = place_as(alloc, checked, version)?;
     let pieces = generate(alloc, checked, &layout)?;
     assemble(alloc, checked, layout, pieces)
 }
@@ -94,14 +93,15 @@ pub fn lower_with<R: Threads + Wait + Sync, G: Gate>(
     rt: &R,
     alloc: Global,
     checked: &Checked,
+    version: ImageVersion,
     workers: u32,
     gate: &G,
 ) -> Result<Lowered, Refusal>
     requires { (1 ≤ workers) × (workers ≤ most_workers) }
-    ensures { let p = said_by checked.now in
+    ensures { let p = as_version version (said_by checked.now) in
         MatchResult result (λ lowered. IsLowered p lowered) (λ e. RefusesCode p e) }
 {
-    let layout = place_as(alloc, checked, ImageVersion::One)?;
+    let layout = place_as(alloc, checked, version)?;
     let pieces = generate_with(rt, alloc, checked, &layout, workers, gate)?;
     assemble(alloc, checked, layout, pieces)
 }

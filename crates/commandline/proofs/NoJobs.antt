@@ -5,7 +5,8 @@ use Rattle.commandline.specs.CommandLine.{IsCheckOf, IsCompileOf, IsEmitOf, IsEx
 use Rattle.commandline.specs.CommandLine.{IsExploreOf, ReadsChart, ReadsKills, ReadsStates}
 use Rattle.commandline.specs.declared.options.ChartOptions.{ChartOptions}
 use Rattle.commandline.specs.CommandLine.{AsksForReplay, AsksForRun, IsExplainedBy, IsReplayedBy, ReadsOptions}
-use Rattle.commandline.specs.CommandLine.{ReadsWorkers}
+use Rattle.commandline.specs.CommandLine.{ReadsVersion, ReadsWorkers}
+use Rattle.words.specs.declared.version.ImageVersion.{ImageVersion}
 use Rattle.commandline.specs.declared.options.ExplainedBy.{ExplainedBy}
 use Rattle.commandline.specs.declared.options.ReplayedBy.{ReplayedBy}
 use Rattle.commandline.specs.declared.options.RunOptions.{RunOptions}
@@ -20,10 +21,12 @@ no_check rows other none h = h
 
 pub no_compile : (rows : List Row) (job : Job)
     → (first_of (codes "FILE") rows ≡ None) ⊎ ((first_of (codes "OUT") rows ≡ None)
-    ⊎ ((n : ℕ) → ReadsWorkers rows n → ⊥)) → IsCompileOf rows job → ⊥
-no_compile rows (Compile file out workers hints) (inl none) h = no_value _ _ none h.0
-no_compile rows (Compile file out workers hints) (inr (inl none)) h = no_value _ _ none h.1
-no_compile rows (Compile file out workers hints) (inr (inr none)) h = none workers h.2
+    ⊎ (((n : ℕ) → ReadsWorkers rows n → ⊥) ⊎ ((v : ImageVersion) → ReadsVersion rows v → ⊥)))
+    → IsCompileOf rows job → ⊥
+no_compile rows (Compile file out workers version hints) (inl none) h = no_value _ _ none h.0
+no_compile rows (Compile file out workers version hints) (inr (inl none)) h = no_value _ _ none h.1
+no_compile rows (Compile file out workers version hints) (inr (inr (inl none))) h = none workers h.2
+no_compile rows (Compile file out workers version hints) (inr (inr (inr none))) h = none version h.3
 no_compile rows other missing h = h
 
 pub no_list : (rows : List Row) (job : Job) → first_of (codes "IMAGE") rows ≡ None → IsListOf rows job → ⊥

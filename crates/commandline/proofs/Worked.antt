@@ -57,6 +57,10 @@ out_told : told (codes "OUT") plain_compile ≡ Some (codes "compile", Some (cod
 unfolding clap_on_literals
 out_told = refl
 
+version_left_out : told (codes "image") plain_compile ≡ Some (codes "compile", Some (codes "2"))
+unfolding clap_on_literals
+version_left_out = refl
+
 image_told : told (codes "IMAGE") plain_list ≡ Some (codes "list", Some (codes "a.image"))
 unfolding clap_on_literals
 image_told = refl

@@ -11,6 +11,8 @@ use Rattle.clap.specs.declared.builder.action.ArgAction.TheVariants.{SetTrue}
 use Rattle.clap.specs.declared.builder.value_parser.ValueParser.TheVariants.{Unsigned}
 use Rattle.clap.specs.declared.parser.matches.ValueSource.{ValueSource}
 use Rattle.clap.specs.declared.parser.matches.ValueSource.TheVariants.{CommandLine}
+use Rattle.words.specs.declared.version.ImageVersion.{ImageVersion}
+use Rattle.words.specs.declared.version.ImageVersion.TheVariants.{One, Two}
 use Rattle.commandline.specs.declared.options.Order.{Order}
 use Rattle.commandline.specs.declared.options.Order.TheVariants.{Workers, InOrder, Seed}
 use Rattle.commandline.specs.declared.options.ReplayedBy.{ReplayedBy}
@@ -56,6 +58,15 @@ workers_option = record (new_rule (codes "workers")) {
   value_names = 1;
   defaults = codes "1" ∷ [];
   parser = Some (Unsigned 1 64);
+}
+
+-- `--image N`, 1 or 2, and 2 where it is left out
+abbrev pub image_option : Rule
+image_option = record (new_rule (codes "image")) {
+  long = Some (codes "image");
+  value_names = 1;
+  defaults = codes "2" ∷ [];
+  parser = Some (Unsigned 1 2);
 }
 
 -- `--seed N`, a number of 64 bits
@@ -105,11 +116,11 @@ with_run_options app =
     with_rule (with_rule (with_rule (with_rule (with_rule (with_rule (with_rule app steps_option)
     (flag (codes "in-order"))) seed_option) strays_option) kills_option) (flag (codes "trace"))) (valued (codes "log"))
 
--- `compile FILE OUT [--workers N] [--hints]`
+-- `compile FILE OUT [--workers N] [--image N] [--hints]`
 abbrev pub compile_command : App
 compile_command =
-    with_rule (with_rule (with_rule (with_rule (new_app (codes "compile")) (positional (codes "FILE")))
-    (positional (codes "OUT"))) workers_option) (flag (codes "hints"))
+    with_rule (with_rule (with_rule (with_rule (with_rule (new_app (codes "compile")) (positional (codes "FILE")))
+    (positional (codes "OUT"))) workers_option) image_option) (flag (codes "hints"))
 
 -- `emit FILE OUT [--hints]`
 abbrev pub emit_command : App
@@ -193,6 +204,11 @@ ReadsStates rows states = IsNumberOf (one_of (codes "states") rows) 32 states
 -- the text that stands for `--workers` is this number, from 1 to 64
 abbrev pub ReadsWorkers : List Row → ℕ → Type 0
 ReadsWorkers rows workers = IsNumberOf (one_of (codes "workers") rows) 32 workers × (1 ≤ workers) × (workers ≤ 64)
+
+-- the text that stands for `--image` is the number of this version
+abbrev pub ReadsVersion : List Row → ImageVersion → Type 0
+ReadsVersion rows One = IsNumberOf (one_of (codes "image") rows) 32 1
+ReadsVersion rows Two = IsNumberOf (one_of (codes "image") rows) 32 2
 
 -- the text that stands for `--seed` is this number
 abbrev pub ReadsSeed : List Row → ℕ → Type 0
@@ -291,9 +307,9 @@ IsCheckOf rows other = ⊥
 
 -- a job of compiling
 abbrev pub IsCompileOf : List Row → Job → Type 0
-IsCompileOf rows (Compile file out workers hints) =
+IsCompileOf rows (Compile file out workers version hints) =
     (first_of (codes "FILE") rows ≡ Some file.now) × (first_of (codes "OUT") rows ≡ Some out.now)
-    × ReadsWorkers rows workers × ReadsFlag (codes "hints") rows hints
+    × ReadsWorkers rows workers × ReadsVersion rows version × ReadsFlag (codes "hints") rows hints
 IsCompileOf rows other = ⊥
 
 -- a job of listing

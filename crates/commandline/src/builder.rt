@@ -58,6 +58,11 @@ const TIMELINE: &str = "Where its trace events are written, for Perfetto or Chro
 // How many workers compile where no number stands.
 const WORKERS: &str = "1";
 
+// The version of an image where none is said, and how many versions there are.
+const VERSION: &str = "2";
+
+const VERSIONS: u64 = 2;
+
 /// The commands of the program, as the command line's parser takes them.
 pub fn command<'a>(alloc: Global) -> Result<Command<'a>, AllocError>
     ensures { IfOk result (λ c. app_of c ≡ line.command_line) }
@@ -115,6 +120,7 @@ fn compile_command<'a>(alloc: Global) -> Result<Command<'a>, AllocError>
         .arg(positional(alloc, "FILE", "The source text"))?
         .arg(positional(alloc, "OUT", "Where the image is written"))?
         .arg(workers_option(alloc))?
+        .arg(image_option(alloc))?
         .arg(flag(alloc, "hints", HINTS))
 }
 
@@ -293,6 +299,18 @@ fn workers_option<'a>(alloc: Global) -> Arg<'a>
         .value_parser(ValueParser::unsigned(1, u64::from(MOST_WORKERS)))
         .default_value(WORKERS)
         .help("How many workers make the code")
+}
+
+fn image_option<'a>(alloc: Global) -> Arg<'a>
+    ensures rule { rule_of result ≡ line.image_option }
+    ensures local { result.global ≡ false }
+{
+    Arg::new(alloc, "image")
+        .long("image")
+        .value_name("N")
+        .value_parser(ValueParser::unsigned(1, VERSIONS))
+        .default_value(VERSION)
+        .help("The version of the image: 1 is for 64 processes, 2 for 1000")
 }
 
 fn seed_option<'a>(alloc: Global) -> Arg<'a>

@@ -12,9 +12,10 @@ use crate::fault::WordsFault;
 use crate::options::{ChartOptions, ExplainedBy, ReplayedBy, RunOptions};
 use crate::refusing::refusal_of;
 use crate::sources::{explained_by, replayed_by};
-use crate::values::{chart_of, kills_of, options_of, states_of, workers_of};
+use crate::values::{chart_of, kills_of, options_of, states_of, version_of, workers_of};
 use clap::{ArgMatches, Command, Error};
 use std::alloc::Global;
+use words::ImageVersion;
 
 /// What a command line asks for.
 #[derive(Clone, Copy, PartialEq, Eq, Debug)]
@@ -34,6 +35,8 @@ pub enum Job<'a> {
         out: &'a str,
         /// How many workers make the code, from 1 to 64.
         workers: u32,
+        /// The version of the image.
+        version: ImageVersion,
         /// Whether hints stand behind a refusal of the source text.
         hints: bool,
     },
@@ -197,11 +200,13 @@ fn compile_of<'a>(matches: &ArgMatches<'a>) -> Option<Job<'a>>
     let file = matches.get_str("FILE")?;
     let out = matches.get_str("OUT")?;
     let workers = workers_of(matches)?;
+    let version = version_of(matches)?;
     let hints = matches.get_flag("hints");
     Some(Job::Compile {
         file,
         out,
         workers,
+        version,
         hints,
     })
 }

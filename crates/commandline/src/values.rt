@@ -3,7 +3,8 @@ ghost use Rattle.clap.specs.Words.{found_of, one_of};
 ghost use Rattle.clap.specs.Walk.{rows_of};
 ghost use Rattle.commandline.specs.CommandLine as line;
 ghost use Rattle.commandline.specs.CommandLine.{IsNumberOf, ReadsKills, ReadsOptions, ReadsOrder, ReadsSeed, ReadsSteps};
-ghost use Rattle.commandline.specs.CommandLine.{ReadsAction, ReadsChart, ReadsStates, ReadsStrays, ReadsWorkers};
+ghost use Rattle.commandline.specs.CommandLine.{ReadsAction, ReadsChart, ReadsStates, ReadsStrays, ReadsVersion, ReadsWorkers};
+ghost use Rattle.words.specs.declared.version.ImageVersion.{ImageVersion as VersionOf};
 ghost use Rattle.commandline.specs.declared.options.ChartOptions.{ChartOptions as ChartOf};
 ghost use Rattle.commandline.specs.declared.options.Order.{Order as OrderOf};
 ghost use Rattle.commandline.specs.declared.options.RunOptions.{RunOptions as OptionsOf};
@@ -11,6 +12,7 @@ ghost use Rattle.commandline.specs.declared.options.RunOptions.{RunOptions as Op
 use crate::options::{ChartOptions, MOST_WORKERS, Order, RunOptions};
 use clap::ArgMatches;
 use clap::parser::ValueSource;
+use words::ImageVersion;
 
 /// Whether the words have this argument.
 pub fn is_written(matches: &ArgMatches<'_>, id: &str) -> bool
@@ -70,6 +72,19 @@ pub fn workers_of(matches: &ArgMatches<'_>) -> Option<u32>
         return None;
     }
     Some(workers)
+}
+
+/// The version of the image that is compiled.
+pub fn version_of(matches: &ArgMatches<'_>) -> Option<ImageVersion>
+    ensures version { IfSome result (ReadsVersion (rows_of (found_of matches.now))) }
+    ensures none { result ≡ None → (v : VersionOf) → ReadsVersion (rows_of (found_of matches.now)) v
+        → ⊥ }
+{
+    match number_of(matches, "image")? {
+        1 => Some(ImageVersion::One),
+        2 => Some(ImageVersion::Two),
+        _ => None,
+    }
 }
 
 /// The seed of a run.

@@ -1,3 +1,4 @@
+pub mod Versions
 pub mod Spoken
 pub mod Refused
 pub mod OneAnswer

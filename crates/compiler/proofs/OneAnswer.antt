@@ -1,6 +1,8 @@
 -- A text is one program or has one refusal.
 use Rattle.std.proofs.Common.{◌≡◌, arith, length, inl, inr, ℕ, List, [], ◌∷◌, map, slice_get, Some, refl, sym, ap}
 use Rattle.std.proofs.Common.{◌∙◌, subst}
+use Rattle.words.specs.declared.version.ImageVersion.{ImageVersion}
+use Rattle.words.specs.declared.version.ImageVersion.TheVariants.{Two}
 use Rattle.scanner.specs.declared.token.Place.{Place}
 use Rattle.scanner.specs.declared.token.Token.{Token}
 use Rattle.scanner.specs.declared.refusal.Refusal.{Refusal}
@@ -16,10 +18,12 @@ use Rattle.syntax.specs.Tree.{UnitTree}
 use Rattle.types.specs.Faults.{ComesNoLater}
 use Rattle.types.specs.Judgement.{IsFaulty}
 use Rattle.types.specs.Resolved.{resolved}
-use Rattle.program.specs.Trees.{Program}
+use Rattle.program.specs.Trees.{Program, as_version}
 use Rattle.lowering.specs.Pieces.{code_of}
 use Rattle.backend.specs.Refusals.{CodeFits}
 use Rattle.compiler.specs.Accepts.{IsUnit, AcceptsText, IsNoUnit, IsFaultyUnit, RefusesProgram, RefusesText}
+use Rattle.compiler.specs.Accepts.{RefusesTextAs}
+use Rattle.compiler.proofs.Versions.{is_two, refused_so}
 use Rattle.compiler.proofs.Spoken.{said, spoken, same_lexemes}
 use Rattle.compiler.proofs.Refused.{Stops, stops, one_stop, same_refusal, unit_not_refused}
 
@@ -111,31 +115,35 @@ fault_or_unit : Reads → (text : List ℕ) (ts : List Token) (u : UnitTree) (e 
 fault_or_unit r text ts u e x y = r.either text (views ts) e y.scanned x
 
 -- a text's refusal is one
-pub one_refusal : Reads → (text : List ℕ) (e f : Refusal) → RefusesText text e → RefusesText text f → e ≡ f
-one_refusal r text e f (inl (inl x)) (inl (inl y)) = r.fault text e f x y
-one_refusal r text e f (inl (inl x)) (inl (inr (inl y))) = absurd (fault_or_no_unit r text e f x y)
-one_refusal r text e f (inl (inl x)) (inl (inr (inr y))) = absurd (fault_or_unit r text y.tokens y.unit e x y.is_unit)
-one_refusal r text e f (inl (inl x)) (inr y) =
+pub one_refusal_as : Reads → (v : ImageVersion) (text : List ℕ) (e f : Refusal) → RefusesTextAs v text e
+    → RefusesTextAs v text f → e ≡ f
+one_refusal_as r v text e f (inl (inl x)) (inl (inl y)) = r.fault text e f x y
+one_refusal_as r v text e f (inl (inl x)) (inl (inr (inl y))) = absurd (fault_or_no_unit r text e f x y)
+one_refusal_as r v text e f (inl (inl x)) (inl (inr (inr y))) = absurd (fault_or_unit r text y.tokens y.unit e x y.is_unit)
+one_refusal_as r v text e f (inl (inl x)) (inr y) =
     absurd (fault_or_unit r text y.accepts.tokens y.accepts.unit e x y.accepts.is_unit)
-one_refusal r text e f (inl (inr (inl x))) (inl (inl y)) = absurd (fault_or_no_unit r text f e y x)
-one_refusal r text e f (inl (inr (inl x))) (inl (inr (inl y))) =
+one_refusal_as r v text e f (inl (inr (inl x))) (inl (inl y)) = absurd (fault_or_no_unit r text f e y x)
+one_refusal_as r v text e f (inl (inr (inl x))) (inl (inr (inl y))) =
     one_stop (views y.tokens) e f (subst (λ ts. Stops ts e) (r.one text (views x.tokens) (views y.tokens) x.scanned
     y.scanned) (stops x.tokens e x.refusal)) (stops y.tokens f y.refusal)
-one_refusal r text e f (inl (inr (inl x))) (inl (inr (inr y))) = absurd
+one_refusal_as r v text e f (inl (inr (inl x))) (inl (inr (inr y))) = absurd
     (unit_or_none r text y.tokens y.unit e y.is_unit x)
-one_refusal r text e f (inl (inr (inl x))) (inr y) =
+one_refusal_as r v text e f (inl (inr (inl x))) (inr y) =
     absurd (unit_or_none r text y.accepts.tokens y.accepts.unit e y.accepts.is_unit x)
-one_refusal r text e f (inl (inr (inr x))) (inl (inl y)) = absurd (fault_or_unit r text x.tokens x.unit f y x.is_unit)
-one_refusal r text e f (inl (inr (inr x))) (inl (inr (inl y))) = absurd
+one_refusal_as r v text e f (inl (inr (inr x))) (inl (inl y)) = absurd (fault_or_unit r text x.tokens x.unit f y x.is_unit)
+one_refusal_as r v text e f (inl (inr (inr x))) (inl (inr (inl y))) = absurd
     (unit_or_none r text x.tokens x.unit f x.is_unit y)
-one_refusal r text e f (inl (inr (inr x))) (inl (inr (inr y))) = one_fault r text e f x y
-one_refusal r text e f (inl (inr (inr x))) (inr y) = absurd (program_or_fault r text y.program e y.accepts x)
-one_refusal r text e f (inr x) (inl (inl y)) =
+one_refusal_as r v text e f (inl (inr (inr x))) (inl (inr (inr y))) = one_fault r text e f x y
+one_refusal_as r v text e f (inl (inr (inr x))) (inr y) = absurd (program_or_fault r text y.program e y.accepts x)
+one_refusal_as r v text e f (inr x) (inl (inl y)) =
     absurd (fault_or_unit r text x.accepts.tokens x.accepts.unit f y x.accepts.is_unit)
-one_refusal r text e f (inr x) (inl (inr (inl y))) =
+one_refusal_as r v text e f (inr x) (inl (inr (inl y))) =
     absurd (unit_or_none r text x.accepts.tokens x.accepts.unit f x.accepts.is_unit y)
-one_refusal r text e f (inr x) (inl (inr (inr y))) = absurd (program_or_fault r text x.program f x.accepts y)
-one_refusal r text e f (inr x) (inr y) = x.refusal ∙ sym y.refusal
+one_refusal_as r v text e f (inr x) (inl (inr (inr y))) = absurd (program_or_fault r text x.program f x.accepts y)
+one_refusal_as r v text e f (inr x) (inr y) = x.refusal ∙ sym y.refusal
+
+pub one_refusal : Reads → (text : List ℕ) (e f : Refusal) → RefusesText text e → RefusesText text f → e ≡ f
+one_refusal r text e f x y = one_refusal_as r Two text e f (refused_so text e x) (refused_so text f y)
 
 -- a program is not refused as none
 program_or_refused : Reads → (text : List ℕ) (p : Program) (e : Refusal) → AcceptsText text p → RefusesProgram text e
@@ -144,10 +152,16 @@ program_or_refused r text p e a (inl x) = fault_or_unit r text a.tokens a.unit e
 program_or_refused r text p e a (inr (inl x)) = unit_or_none r text a.tokens a.unit e a.is_unit x
 program_or_refused r text p e a (inr (inr x)) = program_or_fault r text p e a x
 
-pub not_both : Reads → (text : List ℕ) (p : Program) (e : Refusal) → AcceptsText text p → CodeFits p
-    → RefusesText text e → ⊥
-not_both r text p e a fits (inl x) = program_or_refused r text p e a x
-not_both r text p e a fits (inr x) =
-    let same = ap (λ (q : Program). length (code_of q).code) (one_program r text x.program p x.accepts a) in
+pub not_both_as : Reads → (v : ImageVersion) (text : List ℕ) (p : Program) (e : Refusal) → AcceptsText text p
+    → CodeFits (as_version v p) → RefusesTextAs v text e → ⊥
+not_both_as r v text p e a fits (inl x) = program_or_refused r text p e a x
+not_both_as r v text p e a fits (inr x) =
+    let same = ap (λ (q : Program). length (code_of (as_version v q)).code)
+    (one_program r text x.program p x.accepts a) in
     let long = x.long in
     omega arith
+
+pub not_both : Reads → (text : List ℕ) (p : Program) (e : Refusal) → AcceptsText text p → CodeFits p
+    → RefusesText text e → ⊥
+not_both r text p e a fits x =
+    not_both_as r Two text p e a (subst CodeFits (sym (is_two text p a)) fits) (refused_so text e x)

@@ -1,5 +1,6 @@
 -- Which program a text is, and which refusal a text has that is none.
 use Rattle.std.specs.Prelude.{◌≡◌, ◌≤◌, ◌⊎◌, ℕ, List}
+use Rattle.words.specs.declared.version.ImageVersion.{ImageVersion}
 use Rattle.scanner.specs.declared.token.Token.{Token}
 use Rattle.scanner.specs.declared.refusal.Refusal.{Refusal}
 use Rattle.scanner.specs.Tokens.{IsTokens, views}
@@ -12,7 +13,7 @@ use Rattle.syntax.specs.Tree.{UnitTree}
 use Rattle.grammar.specs.Accepts as grammar
 use Rattle.types.specs.Judgement as names
 use Rattle.types.specs.Resolved.{resolved}
-use Rattle.program.specs.Trees.{Program}
+use Rattle.program.specs.Trees.{Program, as_version}
 use Rattle.proof_well_formed.specs.Faultless.{IsFaultless}
 use Rattle.codegen.specs.Failures.{too_long}
 use Rattle.backend.specs.Refusals as backend
@@ -55,6 +56,13 @@ pub record TextIsTooLong (text : List ℕ) (e : Refusal) : Type 0 where
   pub long : backend.CodeIsTooLong program
   pub refusal : e ≡ too_long
 
+-- the same where its image is of this version
+pub record TextIsTooLongAs (version : ImageVersion) (text : List ℕ) (e : Refusal) : Type 0 where
+  pub program : Program
+  pub accepts : AcceptsText text program
+  pub long : backend.CodeIsTooLong (as_version version program)
+  pub refusal : e ≡ too_long
+
 -- the refusal of a text that is no program: it has no tokens, they are no unit, or the unit has a fault
 abbrev pub RefusesProgram : List ℕ → Refusal → Type 0
 RefusesProgram text e = IsFault text e ⊎ (IsNoUnit text e ⊎ IsFaultyUnit text e)
@@ -62,3 +70,7 @@ RefusesProgram text e = IsFault text e ⊎ (IsNoUnit text e ⊎ IsFaultyUnit tex
 -- the refusal of a text that has no image, by the earliest phase: it is no program, or its code is too long
 abbrev pub RefusesText : List ℕ → Refusal → Type 0
 RefusesText text e = RefusesProgram text e ⊎ TextIsTooLong text e
+
+-- the refusal of a text that has no image of this version
+abbrev pub RefusesTextAs : ImageVersion → List ℕ → Refusal → Type 0
+RefusesTextAs version text e = RefusesProgram text e ⊎ TextIsTooLongAs version text e

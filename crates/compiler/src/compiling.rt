@@ -2,11 +2,11 @@
 
 ghost use Rattle.std.specs.Prelude.{◌≡◌, ◌⊎◌, IfOk, IfErr, MatchResult};
 ghost use Rattle.scanner.specs.Refusals.{out_of_memory};
-ghost use Rattle.program.specs.Trees.{Program};
+ghost use Rattle.program.specs.Trees.{Program, as_version};
 ghost use Rattle.lowering.specs.Pieces.{code_of};
 ghost use Rattle.backend.specs.Refusals.{CodeFits};
-ghost use Rattle.compiler.specs.Accepts.{AcceptsText, RefusesProgram, RefusesText};
-ghost use Rattle.compiler.specs.Compiles.{IsCompiled, IsRead, IsReadLowered};
+ghost use Rattle.compiler.specs.Accepts.{AcceptsText, RefusesProgram, RefusesText, RefusesTextAs};
+ghost use Rattle.compiler.specs.Compiles.{IsCompiled, IsCompiledAs, IsRead, IsReadLowered, IsReadLoweredAs};
 
 use crate::laws::text_laws;
 use backend::{Lowered, lower};
@@ -19,6 +19,7 @@ use proof_simulation::code_refines;
 use proof_well_formed::units_of_texts_have_numbers;
 use scanner::{Refusal, scan, token_laws};
 use std::alloc::Global;
+use words::ImageVersion;
 
 // The checked program of a text.
 pub(crate) fn read<'a>(alloc: Global, text: &'a [u8]) -> Result<Checked<'a>, Refusal>
@@ -49,51 +50,84 @@ pub fn check_text(alloc: Global, text: &[u8]) -> Result<(), Refusal>
     Ok(())
 }
 
-// The image of a source text, or its refusal.
-fn image_or_refusal(alloc: Global, text: &[u8]) -> Result<Image, Refusal>
-    ensures { MatchResult result (λ image. IsCompiled text.now image)
-        (λ e. (e ≡ out_of_memory) ⊎ RefusesText text.now e) }
+// The image of this version of a source text, or its refusal.
+fn image_or_refusal(alloc: Global, text: &[u8], version: ImageVersion) -> Result<Image, Refusal>
+    ensures { MatchResult result (λ image. IsCompiledAs version text.now image)
+        (λ e. (e ≡ out_of_memory) ⊎ RefusesTextAs version text.now e) }
 {
-    let (_, lowered) = read_lowered(alloc, text)?;
+    let (_, lowered) = read_lowered(alloc, text, version)?;
     let Lowered { image, .. } = lowered;
     Ok(image)
 }
 
-// The checked program of a text, and what it is lowered to; or its refusal.
-fn read_lowered<'a>(alloc: Global, text: &'a [u8]) -> Result<(Checked<'a>, Lowered), Refusal>
-    ensures { MatchResult result (λ r. IsReadLowered text.now r.0 r.1)
-        (λ e. (e ≡ out_of_memory) ⊎ RefusesText text.now e) }
+// The checked program of a text, and what it is lowered to for an image of this version; or its refusal.
+fn read_lowered<'a>(
+    alloc: Global,
+    text: &'a [u8],
+    version: ImageVersion,
+) -> Result<(Checked<'a>, Lowered), Refusal>
+    ensures { MatchResult result (λ r. IsReadLoweredAs version text.now r.0 r.1)
+        (λ e. (e ≡ out_of_memory) ⊎ RefusesTextAs version text.now e) }
 {
     code_refines();
     let checked = read(alloc, text)?;
-    let lowered = lower(alloc, &checked)?;
+    let lowered = lower(alloc, &checked, version)?;
     Ok((checked, lowered))
 }
 
-/// The checked program of a source text, and what it is lowered to: its image, with what explains a run of it. The
-/// refusals are those of `compile`.
+/// The checked program of a source text, and what it is lowered to for an image of this version: that image, with what
+/// explains a run of it. The refusals are those of `compile_as`.
+pub fn compile_checked_as<'a>(
+    alloc: Global,
+    text: &'a [u8],
+    version: ImageVersion,
+) -> Result<(Checked<'a>, Lowered), Refusal>
+    ensures compiled { MatchResult result (λ r. IsReadLoweredAs version text.now r.0 r.1)
+        (λ e. (e ≡ out_of_memory) ⊎ RefusesTextAs version text.now e) }
+    ensures only { (p : Program) → AcceptsText text.now p → CodeFits (as_version version p)
+        → IfErr result (λ e. e ≡ out_of_memory) }
+{
+    text_laws();
+    read_lowered(alloc, text, version)
+}
+
+/// As `compile_checked_as` does, for an image of version 2. The refusals are those of `compile`.
 pub fn compile_checked<'a>(alloc: Global, text: &'a [u8]) -> Result<(Checked<'a>, Lowered), Refusal>
     ensures compiled { MatchResult result (λ r. IsReadLowered text.now r.0 r.1)
         (λ e. (e ≡ out_of_memory) ⊎ RefusesText text.now e) }
     ensures only { (p : Program) → AcceptsText text.now p → CodeFits p
         → IfErr result (λ e. e ≡ out_of_memory) }
 {
-    text_laws();
-    read_lowered(alloc, text)
+    compile_checked_as(alloc, text, ImageVersion::Two)
 }
 
-/// The image of a source text.
+/// The image of this version of a source text.
 ///
 /// # Errors
 ///
 /// The refusals of `check_text`; then `Limit` at 1:1 where the code has more than 65536 instructions. `Memory` may come
 /// at any point.
+pub fn compile_as(alloc: Global, text: &[u8], version: ImageVersion) -> Result<Image, Refusal>
+    ensures accepted { IfOk result (λ image. IsCompiledAs version text.now image) }
+    ensures only { (p : Program) → AcceptsText text.now p → CodeFits (as_version version p)
+        → MatchResult result (λ image. image ≡ code_of (as_version version p))
+        (λ e. e ≡ out_of_memory) }
+    ensures refusal { IfErr result (λ e. (e ≡ out_of_memory) ⊎ RefusesTextAs version text.now e) }
+{
+    text_laws();
+    image_or_refusal(alloc, text, version)
+}
+
+/// The image of a source text, of version 2.
+///
+/// # Errors
+///
+/// Those of `compile_as`.
 pub fn compile(alloc: Global, text: &[u8]) -> Result<Image, Refusal>
     ensures accepted { IfOk result (λ image. IsCompiled text.now image) }
     ensures only { (p : Program) → AcceptsText text.now p → CodeFits p
         → MatchResult result (λ image. image ≡ code_of p) (λ e. e ≡ out_of_memory) }
     ensures refusal { IfErr result (λ e. (e ≡ out_of_memory) ⊎ RefusesText text.now e) }
 {
-    text_laws();
-    image_or_refusal(alloc, text)
+    compile_as(alloc, text, ImageVersion::Two)
 }

@@ -2,12 +2,12 @@
 
 ghost use Rattle.std.specs.Prelude.{◌≡◌, ◌≤◌, ◌⊎◌, IfOk, IfErr, MatchResult};
 ghost use Rattle.scanner.specs.Refusals.{out_of_memory};
-ghost use Rattle.program.specs.Trees.{Program};
+ghost use Rattle.program.specs.Trees.{Program, as_version};
 ghost use Rattle.lowering.specs.Pieces.{code_of};
 ghost use Rattle.codegen_workers.specs.Limits.{most_workers};
 ghost use Rattle.backend.specs.Refusals.{CodeFits};
-ghost use Rattle.compiler.specs.Accepts.{AcceptsText, RefusesText};
-ghost use Rattle.compiler.specs.Compiles.{IsCompiled};
+ghost use Rattle.compiler.specs.Accepts.{AcceptsText, RefusesText, RefusesTextAs};
+ghost use Rattle.compiler.specs.Compiles.{IsCompiled, IsCompiledAs};
 
 use crate::compiling::read;
 use crate::laws::text_laws;
@@ -18,7 +18,7 @@ use scanner::Refusal;
 use std::alloc::Global;
 use std::sync::Wait;
 use std::thread::Threads;
-use words::Gate;
+use words::{Gate, ImageVersion};
 
 // How many bytes may stand between two semicolons of a text whose code several workers make. What makes code calls
 // itself for each of the operators in a row, of which so many bytes hold half as many, and a thread of the system's
@@ -60,32 +60,64 @@ fn workers_for(text: &[u8], wanted: u32) -> u32
     }
 }
 
-// The image of a source text, or its refusal.
+// The image of this version of a source text, or its refusal.
 fn image_with<R: Threads + Wait + Sync, G: Gate>(
     rt: &R,
     alloc: Global,
     text: &[u8],
+    version: ImageVersion,
     workers: u32,
     gate: &G,
 ) -> Result<Image, Refusal>
     requires { (1 ≤ workers) × (workers ≤ most_workers) }
-    ensures { MatchResult result (λ image. IsCompiled text.now image)
-        (λ e. (e ≡ out_of_memory) ⊎ RefusesText text.now e) }
+    ensures { MatchResult result (λ image. IsCompiledAs version text.now image)
+        (λ e. (e ≡ out_of_memory) ⊎ RefusesTextAs version text.now e) }
 {
     code_refines();
     let checked = read(alloc, text)?;
-    let lowered = lower_with(rt, alloc, &checked, workers_for(text, workers), gate)?;
+    let lowered = lower_with(
+        rt,
+        alloc,
+        &checked,
+        version,
+        workers_for(text, workers),
+        gate,
+    )?;
     let Lowered { image, .. } = lowered;
     Ok(image)
 }
 
-/// The image of a source text, as `compile` gives it, with the code of its pieces made by this many workers, from 1 to
+/// The image of this version of a source text, as `compile_as` gives it, with the code of its pieces made by this many workers, from 1 to
 /// 64. Piece `j`, from 0, belongs to worker `1 + j MOD workers`, which passes the gate before it. A text with more than
 /// 32,768 bytes between two semicolons has one worker, the calling thread.
 ///
 /// # Errors
 ///
-/// Those of `compile`; `Memory` comes also where a worker can't be started.
+/// Those of `compile_as`; `Memory` comes also where a worker can't be started.
+pub fn compile_with_as<R: Threads + Wait + Sync, G: Gate>(
+    rt: &R,
+    alloc: Global,
+    text: &[u8],
+    version: ImageVersion,
+    workers: u32,
+    gate: &G,
+) -> Result<Image, Refusal>
+    requires { (1 ≤ workers) × (workers ≤ most_workers) }
+    ensures accepted { IfOk result (λ image. IsCompiledAs version text.now image) }
+    ensures only { (p : Program) → AcceptsText text.now p → CodeFits (as_version version p)
+        → MatchResult result (λ image. image ≡ code_of (as_version version p))
+        (λ e. e ≡ out_of_memory) }
+    ensures refusal { IfErr result (λ e. (e ≡ out_of_memory) ⊎ RefusesTextAs version text.now e) }
+{
+    text_laws();
+    image_with(rt, alloc, text, version, workers, gate)
+}
+
+/// The image of a source text, as `compile` gives it, with its code made as `compile_with_as` makes it.
+///
+/// # Errors
+///
+/// Those of `compile_with_as`.
 pub fn compile_with<R: Threads + Wait + Sync, G: Gate>(
     rt: &R,
     alloc: Global,
@@ -99,6 +131,5 @@ pub fn compile_with<R: Threads + Wait + Sync, G: Gate>(
         → MatchResult result (λ image. image ≡ code_of p) (λ e. e ≡ out_of_memory) }
     ensures refusal { IfErr result (λ e. (e ≡ out_of_memory) ⊎ RefusesText text.now e) }
 {
-    text_laws();
-    image_with(rt, alloc, text, workers, gate)
+    compile_with_as(rt, alloc, text, ImageVersion::Two, workers, gate)
 }

@@ -1,5 +1,4 @@
 ghost use Rattle.std.specs.Prelude.{◌≡◌, ◌-◌, length, map, slice_index, MatchResult};
-ghost use Rattle.words.specs.declared.version.ImageVersion.TheVariants.{One};
 ghost use Rattle.isa.specs.Programs.{IsProgram};
 ghost use Rattle.codegen.specs.Generated.{piece_of};
 ghost use Rattle.linker.specs.Failures.{FailsWhere, RefusesLinking, stray};
@@ -36,7 +35,6 @@ fn last_of(places: &[u32]) -> u32
 
 // The image of pieces in the order of their numbers.
 fn link_sorted(alloc: Global, layout: &Layout, pieces: &[CodePiece]) -> Result<Image, Refusal>
-    requires first { layout.now.version ≡ One }
     ensures { let made = image_of layout.now (map piece_of pieces.now) in
         MatchResult result (λ i. i ≡ made) (λ e. FailsWhere (IsProgram made → ⊥) e) }
 {
@@ -51,17 +49,16 @@ fn link_sorted(alloc: Global, layout: &Layout, pieces: &[CodePiece]) -> Result<I
         return Err(refuse_long());
     }
     let code = link_pieces(alloc, pieces, starts.as_slice(), total)?;
-    Ok(Image::new(monitors, start, code))
+    Ok(Image::new(layout.version(), monitors, start, code))
 }
 
 /// The image of pieces, which may come in any order: one behind the other by rising number, jumps led to places in
-/// their pieces, calls and forks to where pieces begin. It begins where the last piece begins.
+/// their pieces, calls and forks to where pieces begin. It begins where the last piece begins, and is of the layout's
+/// version.
 ///
 /// `StrayPiece` at 1:1 where a number is missing, doubled or foreign, `Limit` at 1:1 where the image wouldn't be
 /// within the limits.
 pub fn link(alloc: Global, layout: &Layout, pieces: Vec<CodePiece>) -> Result<Image, Refusal>
-    // Images are of the first version.
-    requires first { layout.now.version ≡ One }
     ensures { MatchResult result (λ i. Links layout.now pieces.items i)
         (λ e. RefusesLinking layout.now pieces.items e) }
 {

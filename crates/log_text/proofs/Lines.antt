@@ -36,10 +36,14 @@ event_more (Ok x) e old name space named spaced valued woken moved new called fi
     let w = set_text (codes " woke") e.woken in
     let m = set_text (codes " moved") e.moved in
     let n = name_text e.name in
-    let all : new ≡ ((((((old ++ codes " ") ++ n) ++ codes " ") ++ v) ++ w) ++ m) ++ codes "\n" =
-    rw (ends, moves, wakes, values, second, names, first, called) refl in
-    all ∙ regrouped old n v w m
+    grown n v w m called first names second values wakes moves ends ∙ regrouped old n v w m
   where
+    grown : (n v w m : List ℕ) → name ≡ n → space ≡ old ++ codes " " → named ≡ space ++ name → spaced ≡ named ++ codes " "
+        → valued ≡ spaced ++ v → woken ≡ valued ++ w → moved ≡ woken ++ m → new ≡ moved ++ codes "\n"
+        → new ≡ ((((((old ++ codes " ") ++ n) ++ codes " ") ++ v) ++ w) ++ m) ++ codes "\n"
+    grown n v w m called first names second values wakes moves ends =
+        rw (ends, moves, wakes, values, second, names, first, called) refl
+
     regrouped : (old n v w m : List ℕ) → ((((((old ++ codes " ") ++ n) ++ codes " ") ++ v) ++ w) ++ m) ++ codes "\n"
         ≡ old ++ (codes " " ++ (((((n ++ codes " ") ++ v) ++ w) ++ m) ++ codes "\n"))
     regrouped old n v w m = simp append_assoc
@@ -55,10 +59,13 @@ entry_more (Ok x) e old threaded spaced counted step new threads spaces counts i
     let t = decimal e.thread in
     let l = decimal e.local in
     let s = step_text e.event in
-    let all : new ≡ (((old ++ t) ++ codes " ") ++ l) ++ (codes " " ++ (s ++ codes "\n")) =
-    rw (ends, counts, spaces, threads, is) refl in
-    all ∙ regrouped old t l s
+    grown t l s threads spaces counts is ends ∙ regrouped old t l s
   where
+    grown : (t l s : List ℕ) → threaded ≡ old ++ t → spaced ≡ threaded ++ codes " " → counted ≡ spaced ++ l → step ≡ s
+        → new ≡ counted ++ (codes " " ++ (step ++ codes "\n"))
+        → new ≡ (((old ++ t) ++ codes " ") ++ l) ++ (codes " " ++ (s ++ codes "\n"))
+    grown t l s threads spaces counts is ends = rw (ends, counts, spaces, threads, is) refl
+
     regrouped : (old t l s : List ℕ) → (((old ++ t) ++ codes " ") ++ l) ++ (codes " " ++ (s ++ codes "\n"))
         ≡ old ++ (((((t ++ codes " ") ++ l) ++ codes " ") ++ s) ++ codes "\n")
     regrouped old t l s = simp append_assoc

@@ -10,6 +10,9 @@ use crate::parts::past_word;
 use arrayvec::ArrayVec;
 use machine::{MOST_THREADS, ThreadSet};
 
+// How many threads there can be.
+const PLACES: usize = MOST_THREADS as usize;
+
 /// The set that stands behind this word at the front of a text, and what follows it; the empty set, and the text, where
 /// the word isn't there. None where no rising threads stand behind the word.
 pub fn set_after<'a>(text: &'a [u8], word: &[u8]) -> Option<(ThreadSet, &'a [u8])>
@@ -33,7 +36,7 @@ fn threads_of(text: &[u8]) -> Option<(ThreadSet, &[u8])>
         → text.now ≡ numbers_text ts ++ rest
         → MatchOption result ⊥ (λ p. (p.0 ≡ set_of ts) × (p.1.now ≡ rest)) }
 {
-    let mut threads: ArrayVec<u32, 64> = ArrayVec::new();
+    let mut threads: ArrayVec<u32, PLACES> = ArrayVec::new();
     let mut last = 0;
     let mut rest = text;
     'walk: while let Some((thread, after)) = spaced_number(rest) {

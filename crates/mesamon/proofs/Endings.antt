@@ -13,8 +13,8 @@ use Rattle.runner.specs.Logs.{Outside}
 use Rattle.runner.specs.Reports.{IsReport}
 use Rattle.commandline.specs.CommandLine.{AsksFor}
 use Rattle.commandline.specs.declared.job.Job.{Job}
-use Rattle.mesamon.specs.Asked.{asks_for_more, searched_by}
-use Rattle.mesamon.specs.Commands.{HasAnswered, HasDone, HasEnded, HasExecuted, HasExplained, HasListed, HasRun}
+use Rattle.mesamon.specs.Asked.{asks_for_more, searched_by, version_asked}
+use Rattle.mesamon.specs.Commands.{HasAnswered, HasCompiled, HasDone, HasEnded, HasExecuted, HasExplained, HasListed, HasRun}
 use Rattle.mesamon.specs.Commands.{IsReportOf}
 use Rattle.mesamon.specs.Commands.{status_of_verdict}
 use Rattle.mesamon.specs.Exploring.{HasExplored, found_status}
@@ -69,6 +69,10 @@ pub explored_as : (W E : List ℕ → Type 0) (s : Status) (job same : Job) → 
     → HasExplored (searched_by same) W s → HasDone job W E s
 explored_as W E s job same is told h =
     subst (λ (j : Job). HasDone j W E s) (sym is) (explored same W E s told h)
+
+pub compiled_as : (W : List ℕ → Type 0) (job same : Job) → job ≡ same → HasCompiled (version_asked same) W
+    → HasCompiled (version_asked job) W
+compiled_as W job same is h = subst (λ (j : Job). HasCompiled (version_asked j) W) (sym is) h
 
 pub listed_as : (W : List ℕ → Type 0) (job same : Job) → job ≡ same → HasListed (asks_for_more same) W
     → HasListed (asks_for_more job) W

@@ -7,6 +7,7 @@ use Rattle.std.proofs.lemmas.List.{length-map, length-take, map-append}
 use Rattle.std.proofs.lemmas.Simd.{map-map}
 use Rattle.std.proofs.lemmas.List.Elements.{All-head, All-tail}
 use Rattle.std.proofs.lemmas.List.Sums.{sum_by-cons}
+use Rattle.words.proofs.Versions.{most_few}
 use Rattle.words.specs.Limits.{run_buckets}
 use Rattle.isa.specs.Programs.{Program}
 use Rattle.machine.specs.declared.event.Entry.{Entry}
@@ -31,7 +32,6 @@ use Rattle.runner.specs.declared.schedule.ScheduleFault.TheVariants as follow
 use Rattle.mesamon.specs.Replaying.{IsLeftSchedule, IsNoRefusal, IsRefusedReplay, IsReplayOfText, step_turn}
 use Rattle.mesamon.specs.declared.replaying.ReplayFault.{ReplayFault}
 use Rattle.mesamon.specs.declared.replaying.ReplayFault.TheVariants.{Refused, BadEntry, Memory}
-use Rattle.mesamon.proofs.Fitting.{fits_of}
 
 -- entries of one step cost as many steps as there are
 ones_cost : (log : List Entry) → All IsOneStep log → cost log ≡ length log
@@ -82,7 +82,7 @@ replay_explained text image schedule r c f =
     let refines : RefinesInPieces c.program (code_of c.program) = subst (λ (p : Program). RefinesInPieces c.program p)
     c.code c.pieces in
     let (steps, run, count, same, fit) = runs_so (code_of c.program) r.log.items (parts r.last)
-    (fits_of text image c) followed.follows.legal in
+    (most_few c.program.version) followed.follows.legal in
     let single = followed.follows.single in
     let total = ones_cost r.log.items single in
     let many : length r.log.items ≡ length schedule =
@@ -107,7 +107,7 @@ sound_at text image schedule number c (inr (before, k, turn.Kill t, comes, refus
 sound_at text image schedule number c (inr (before, k, turn.Step t, comes, refuses)) =
     let refines : RefinesInPieces c.program (code_of c.program) = subst (λ (p : Program). RefinesInPieces c.program p)
     c.code c.pieces in
-    let (steps, run, count, same, fit) = runs_so (code_of c.program) comes.log k (fits_of text image c)
+    let (steps, run, count, same, fit) = runs_so (code_of c.program) comes.log k (most_few c.program.version)
     comes.follows.legal in
     let total = ones_cost comes.log comes.follows.single in
     let many : length comes.log ≡ min before (length schedule) =

@@ -1,11 +1,12 @@
 -- A report of a run of compiled code is explained by a run of the program.
-use Rattle.std.proofs.Common.{◌≡◌, ◌≢◌, ◌<◌, ◌^◌, ℕ, List, length, subst, arith}
+use Rattle.std.proofs.Common.{◌≡◌, ◌≢◌, ◌<◌, ◌^◌, ℕ, List, length, subst, sym, arith}
+use Rattle.words.proofs.Versions.{most_few}
 use Rattle.words.specs.Limits.{run_buckets}
 use Rattle.isa.specs.Programs.{Program}
 use Rattle.machine.specs.declared.event.Entry.{Entry}
 use Rattle.piece_machine.specs.PieceConcrete.{pieces_at}
 use Rattle.piece_machine.specs.PieceViews.{parts}
-use Rattle.program.specs.Trees.{Program as ProgramOf}
+use Rattle.program.specs.Trees.{Program as ProgramOf, as_version}
 use Rattle.lowering.specs.Pieces.{code_of}
 use Rattle.meaning.specs.Labels.{Action}
 use Rattle.refinement.specs.Pieces.{RefinesInPieces}
@@ -16,9 +17,10 @@ use Rattle.runner.specs.Logs.{Outside}
 use Rattle.runner.specs.LogRuns.{RunsSo, LocallySo}
 use Rattle.runner.specs.Reports.{IsReport, CanFail, MeetsBroken}
 use Rattle.simulation.specs.ExplainedLog.{IsExplainedLog}
+use Rattle.backend.specs.Lowered.{IsLowered}
+use Rattle.backend.specs.declared.lowered.Lowered.{Lowered}
 use Rattle.compiler.specs.Compiles.{IsCompiled}
 use Rattle.mesamon.specs.Running.{IsFailedRun, IsRunOfText}
-use Rattle.mesamon.proofs.Fitting.{fits_of}
 
 pub run_explained : RunsSo → (text : List ℕ) (image : Program) (may : Outside) (limit : ℕ) (r : Report)
     → IsCompiled text image → limit < 2 ^ 32 → IsReport image may limit r → IsRunOfText text may limit r
@@ -27,7 +29,7 @@ run_explained runs text image may limit r c below report =
     c.code report in
     let refines : RefinesInPieces c.program (code_of c.program) = subst (λ (p : Program). RefinesInPieces c.program p)
     c.code c.pieces in
-    let (steps, run, count, same, fit) = runs (code_of c.program) r.log.items (parts r.last) (fits_of text image c)
+    let (steps, run, count, same, fit) = runs (code_of c.program) r.log.items (parts r.last) (most_few c.program.version)
     reported.legal in
     let within = reported.within in
     let few : length steps < 2 ^ 32 = omega arith in
@@ -57,7 +59,7 @@ run_sound runs locally text image may limit Broken c fails below e =
     fails in
     let refines : RefinesInPieces c.program (code_of c.program) = subst (λ (p : Program). RefinesInPieces c.program p)
     c.code c.pieces in
-    let fits = fits_of text image c in
+    let fits = most_few c.program.version in
     let (steps, run, count, same, fit) = runs (code_of c.program) m.log m.concrete fits m.legal in
     let within = m.within in
     let few : length steps < 2 ^ 32 = omega arith in
@@ -71,7 +73,14 @@ run_sound runs locally text image may limit Limit c fails below e = absurd cc
 
 -- what is explained by the image of a program is explained by its code
 pub of_code : (p : ProgramOf) (image : Program) (log entries : List Entry) (actions : List Action) → image ≡ code_of p
-    → log ≡ entries → IsExplainedLog p image log actions → IsExplainedLog p (code_of p) entries actions
+    → log ≡ entries → IsExplainedLog (as_version image.version p) image log actions
+    → IsExplainedLog p (code_of p) entries actions
 of_code p image log entries actions own same h =
     subst (λ (es : List Entry). IsExplainedLog p (code_of p) es actions) same
-    (subst (λ (i : Program). IsExplainedLog p i log actions) own h)
+    (subst (λ (i : Program). IsExplainedLog (as_version i.version p) i log actions) own h)
+
+-- what a program is lowered to has the version of its image
+pub of_own_version : (p : ProgramOf) (lowered : Lowered) → IsLowered p lowered
+    → IsLowered (as_version lowered.image.version p) lowered
+of_own_version p lowered is =
+    subst (λ (i : Program). IsLowered (as_version i.version p) lowered) (sym is.image) is

@@ -1,6 +1,7 @@
 -- A log that comes from outside is that of a text's program, and explained or followed.
 use Rattle.std.proofs.Common.{◌≡◌, ◌<◌, ◌∙◌, ◌^◌, ℕ, List, Result, Ok, Err, IfErr, length, ap, sym, subst, arith}
 use Rattle.std.specs.Prelude.{IfOk, IsErr, IsErrAnd, MatchResult}
+use Rattle.words.proofs.Versions.{most_few}
 use Rattle.words.specs.Limits.{run_buckets}
 use Rattle.isa.specs.Programs.{Program as Image}
 use Rattle.machine.specs.declared.event.Entry.{Entry}
@@ -22,7 +23,6 @@ use Rattle.mesamon.specs.SourceLog.{FollowsNot, IsOfLog, IsRefusedLog, IsReplayO
 use Rattle.mesamon.specs.SourceLog.{IsUnfollowedLog, StopsLog}
 use Rattle.mesamon.specs.declared.source_log.SourceLogFault.{SourceLogFault}
 use Rattle.mesamon.specs.declared.source_log.SourceLogFault.TheVariants.{Refused, Line, Entry as Entry', Memory}
-use Rattle.mesamon.proofs.Fitting.{fits_of}
 
 -- a fault that is passed on is the same
 pub passes_on : {T : Type 0} (r : Result T SourceLogFault) (e : SourceLogFault) (P : SourceLogFault → Type 0)
@@ -94,7 +94,7 @@ followed_log text lines image entries slice r c reads same f =
     let refines : RefinesInPieces c.program (code_of c.program) = subst (λ (i : Image). RefinesInPieces c.program i)
     c.code c.pieces in
     let (steps, run, count, labels, fit) = runs_so (code_of c.program) r.log.items (parts r.last)
-    (fits_of text image c) followed.follows.legal in
+    (most_few c.program.version) followed.follows.legal in
     let below = followed.follows.few in
     let few : length steps < 2 ^ 32 = omega (arith, count, below) in
     record {

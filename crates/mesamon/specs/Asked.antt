@@ -1,11 +1,13 @@
 -- Which run of a text a command was asked for, and whether it is told with more beside it.
 use Rattle.std.specs.Prelude.{ℕ, Bool, false, List, is_some}
+use Rattle.words.specs.declared.version.ImageVersion.{ImageVersion}
+use Rattle.words.specs.declared.version.ImageVersion.TheVariants.{Two}
 use Rattle.commandline.specs.declared.options.ExplainedBy.{ExplainedBy}
 use Rattle.commandline.specs.declared.options.ExplainedBy.TheVariants.{Order, Seed, Schedule, Log}
 use Rattle.commandline.specs.declared.options.Order.{Order as OrderOf}
 use Rattle.commandline.specs.declared.options.Order.TheVariants.{Workers, InOrder, Seed as InSeed}
 use Rattle.commandline.specs.declared.job.Job.{Job}
-use Rattle.commandline.specs.declared.job.Job.TheVariants.{Explain, Explore, List as ListImage}
+use Rattle.commandline.specs.declared.job.Job.TheVariants.{Compile, Explain, Explore, List as ListImage}
 use Rattle.commandline.specs.declared.options.ReplayedBy.{ReplayedBy}
 use Rattle.commandline.specs.declared.options.ReplayedBy.TheVariants.{Schedule as BySchedule, Log as ByLog}
 use Rattle.runner.specs.Logs.{Outside, nothing_outside, outside_of}
@@ -28,6 +30,11 @@ abbrev pub asks_for_more : Job → Bool
 asks_for_more (ListImage image source hints) = is_some source
 asks_for_more (Explain file by chart timeline places hints) = places
 asks_for_more other = false
+
+-- of which version an image is that a job compiles
+abbrev pub version_asked : Job → ImageVersion
+version_asked (Compile file out workers version hints) = version
+version_asked other = Two
 
 -- what may come from outside in the runs that a job searches
 abbrev pub searched_by : Job → Searched

@@ -1,6 +1,7 @@
 -- What a command that ended well has done: it wrote of some text, whose bytes a file gave.
 use Rattle.std.specs.Prelude.{codes, ◌≡◌, ◌⊎◌, ◌++◌, ℕ, Bool, true, false, List, [], length, map}
 use Rattle.std.specs.List.{flat_map}
+use Rattle.words.specs.declared.version.ImageVersion.{ImageVersion}
 use Rattle.isa.specs.Programs.{Program}
 use Rattle.isa.specs.Spelling.{IsSpelled, spelling}
 use Rattle.isa.specs.Lines.{lines}
@@ -19,9 +20,9 @@ use Rattle.line_tails.specs.Beside.{with_tails}
 use Rattle.commandline.specs.CommandLine.{AsksFor}
 use Rattle.commandline.specs.declared.job.Job.{Job}
 use Rattle.compiler.specs.Accepts.{AcceptsText}
-use Rattle.compiler.specs.Compiles.{IsCompiled}
+use Rattle.compiler.specs.Compiles.{IsCompiledAs}
 use Rattle.mesamon.specs.declared.explained_run.ExplainedRun.{ExplainedRun}
-use Rattle.mesamon.specs.Asked.{asks_for_more, searched_by}
+use Rattle.mesamon.specs.Asked.{asks_for_more, searched_by, version_asked}
 use Rattle.mesamon.specs.Running.{IsRunOfText}
 use Rattle.mesamon.specs.Explaining.{IsExplanation, IsExplanationOfText}
 use Rattle.mesamon.specs.Replaying.{IsReplayOfText}
@@ -37,11 +38,11 @@ pub record HasChecked (Wrote : List ℕ → Type 0) : Type 0 where
   pub accepts : AcceptsText text program
   pub wrote : Wrote (codes "ok\n")
 
--- some text was compiled, and the line of its image was written
-pub record HasCompiled (Wrote : List ℕ → Type 0) : Type 0 where
+-- some text was compiled to an image of this version, and the line of that image was written
+pub record HasCompiled (version : ImageVersion) (Wrote : List ℕ → Type 0) : Type 0 where
   pub text : List ℕ
   pub image : Program
-  pub compiled : IsCompiled text image
+  pub compiled : IsCompiledAs version text image
   pub wrote : Wrote (image_line (length image.code))
 
 -- lines are told as they are; where more is asked for, with something before the first of them and before each one's
@@ -133,14 +134,14 @@ HasEnded job Wrote WroteErrors status =
 -- a command that ended well has compiled, has listed, has run, has explained or has checked
 abbrev pub HasDone : Job → (Wrote WroteErrors : List ℕ → Type 0) → Status → Type 0
 HasDone job Wrote WroteErrors Done =
-    HasCompiled Wrote ⊎ (HasListed (asks_for_more job) Wrote
+    HasCompiled (version_asked job) Wrote ⊎ (HasListed (asks_for_more job) Wrote
     ⊎ (HasEnded job Wrote WroteErrors Done ⊎ HasChecked Wrote))
 HasDone job Wrote WroteErrors Stuck = HasEnded job Wrote WroteErrors Stuck
 HasDone job Wrote WroteErrors Limit = HasEnded job Wrote WroteErrors Limit
 HasDone job Wrote WroteErrors _ = ⊥
 
 -- a command ended so that did the job which the words ask for: more stands beside its lines only where that job asks
--- for it, and what may come from outside in the runs that it searches is what that job says
+-- for it, an image is of the version that it says, and what may come from outside in the runs that it searches is what that job says
 pub record HasAnswered (words : List (List ℕ)) (Wrote WroteErrors : List ℕ → Type 0) (status : Status) : Type 0 where
   pub job : Job
   pub asks : AsksFor words job

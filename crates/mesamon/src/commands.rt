@@ -3,7 +3,7 @@ ghost use Rattle.devices.specs.Writing.{HasAll};
 ghost use Rattle.program.specs.Names.{said_by};
 ghost use Rattle.program.specs.Trees.{Program};
 ghost use Rattle.compiler.specs.Accepts.{AcceptsText};
-ghost use Rattle.compiler.specs.Compiles.{IsCompiled};
+ghost use Rattle.compiler.specs.Compiles.{IsCompiledAs};
 ghost use Rattle.mesamon.specs.Commands.{HasAnswered, HasChecked, HasCompiled};
 
 use crate::drawing::Drawings;
@@ -18,7 +18,7 @@ use crate::running::{exec_file, replay_file, run_file};
 use crate::status::Status;
 use crate::telling::{tell_failure, wants_hints};
 use commandline::{Job, line};
-use compiler::{check_text, compile_checked, compile_with};
+use compiler::{check_text, compile_checked, compile_with_as};
 use devices::Counted;
 use emit::emit;
 use isa::{Image, encode};
@@ -30,7 +30,7 @@ use std::io::Write;
 use std::rt::Files;
 use std::sync::Wait;
 use std::thread::Threads;
-use words::OpenGate;
+use words::{ImageVersion, OpenGate};
 
 /// Does the command that these words ask for, those after the program's name, and answers the exit status. `output`
 /// and `errors` stand for standard output and standard error; what is to stand behind what `errors` got is appended to
@@ -128,8 +128,9 @@ fn do_job<'a, R: Files + AllocGlobal + Threads + Wait + Sync, O: Write, E: Write
             file,
             out,
             workers,
+            version,
             hints,
-        } => compile_file(rt, file, out, workers, hints, output),
+        } => compile_file(rt, file, out, version, workers, hints, output),
         Job::List {
             image,
             source,
@@ -184,20 +185,18 @@ fn check<'a>(alloc: Global, text: &SourceText<'_>) -> Result<(), Failure<'a>>
     check_text(alloc, text.bytes).map_err(|refusal| hinted(alloc, text, Failure::from(refusal)))
 }
 
-// The image of a text.
+// The image of this version of a text.
 fn image_of<'a, R: AllocGlobal + Threads + Wait + Sync>(
     rt: &R,
     text: &SourceText<'_>,
+    version: ImageVersion,
     workers: u32,
 ) -> Result<Image, Failure<'a>>
     requires { (1 ≤ workers) × (workers ≤ 64) }
-    ensures { IfOk result (λ image. IsCompiled text.now.bytes.now image) }
+    ensures { IfOk result (λ image. IsCompiledAs version text.now.bytes.now image) }
 {
-    compile_with(rt, rt.alloc(), text.bytes, workers, &OpenGate).map_err(|refusal| hinted(
-        rt.alloc(),
-        text,
-        Failure::from(refusal),
-    ))
+    let image = compile_with_as(rt, rt.alloc(), text.bytes, version, workers, &OpenGate);
+    image.map_err(|refusal| hinted(rt.alloc(), text, Failure::from(refusal)))
 }
 
 // The program of a text whose code fits.
@@ -237,6 +236,7 @@ fn compile_file<'a, R: Files + AllocGlobal + Threads + Wait + Sync, O: Write>(
     rt: &R,
     file: &'a str,
     out: &'a str,
+    version: ImageVersion,
     workers: u32,
     hints: bool,
     output: &mut Counted<O>,
@@ -244,7 +244,7 @@ fn compile_file<'a, R: Files + AllocGlobal + Threads + Wait + Sync, O: Write>(
     requires { (1 ≤ workers) × (workers ≤ 64) }
     ensures done { IfOk result (λ s. s ≡ Status.Done) }
     ensures wrote { OnOk result
-        (HasCompiled (HasAll O.contents output.old output.new)) }
+        (HasCompiled version (HasAll O.contents output.old output.new)) }
 {
     let source = bytes_of(rt, file)?;
     let text = SourceText {
@@ -252,7 +252,7 @@ fn compile_file<'a, R: Files + AllocGlobal + Threads + Wait + Sync, O: Write>(
         bytes: source.as_slice(),
         hints,
     };
-    let image = image_of(rt, &text, workers)?;
+    let image = image_of(rt, &text, version, workers)?;
     let bytes = encode(rt.alloc(), &image)?;
     let count = image.code().len();
     let line = line_of_image(rt.alloc(), count)?;

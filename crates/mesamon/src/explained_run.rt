@@ -1,7 +1,7 @@
 ghost use Rattle.std.specs.Prelude.{◌≡◌, ◌<◌, ◌^◌, is_some, IfOk, IfErr, List, MatchResult, map, ℕ};
 ghost use Rattle.piece_machine.specs.PieceConcrete.{PieceConcrete};
 ghost use Rattle.program.specs.Names.{said_by};
-ghost use Rattle.program.specs.Trees.{Program};
+ghost use Rattle.program.specs.Trees.{Program, as_version};
 ghost use Rattle.source_states.specs.Actions.{action_of};
 ghost use Rattle.runner.specs.Logs.{cost};
 ghost use Rattle.runner.specs.Logs.{nothing_outside, outside_of};
@@ -116,12 +116,12 @@ fn explain_run(
     lowered: Lowered,
     log: LogReader<'_>,
 ) -> Result<Vec<Action>, ExplainSourceFault>
-    requires own { IsLowered (said_by checked.now) lowered }
+    requires own { IsLowered (as_version lowered.image.version (said_by checked.now)) lowered }
     requires legal { (k : PieceConcrete) × LeadsTo lowered.image log k }
     requires few { cost log < 2 ^ 32 }
     ensures { MatchResult result
-        (λ actions. IsExplainedLog (said_by checked.now) lowered.image log.entry
-        (map action_of actions.items))
+        (λ actions. IsExplainedLog (as_version lowered.image.version (said_by checked.now)) lowered.image
+        log.entry (map action_of actions.items))
         (λ fault. fault ≡ Memory) }
 {
     match explain_lowered(alloc, checked, lowered, log) {

@@ -28,7 +28,10 @@ pub use commandline::{
     ChartOptions, ExplainedBy, Job, Order, ReplayedBy, RunOptions, WordsFault, line,
 };
 pub use commands::{perform, perform_with_hints};
-pub use compiler::{check_text, compile, compile_checked, compile_with};
+pub use compiler::{
+    check_text, compile, compile_as, compile_checked, compile_checked_as, compile_with,
+    compile_with_as,
+};
 pub use devices::Counted;
 pub use explained_run::{
     ExplainSourceFault, ExplainedRun, explain_by_seed, explain_schedule, explain_source,

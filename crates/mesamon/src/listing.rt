@@ -8,7 +8,7 @@ use crate::failure::Failure;
 use crate::files::bytes_of;
 use crate::hinting::{SourceText, hinted};
 use crate::status::Status;
-use compiler::compile_checked;
+use compiler::compile_checked_as;
 use devices::{Counted, write_bytes};
 use isa::{Image, decode, encode, list_lines};
 use line_tails::put_beside;
@@ -37,15 +37,14 @@ fn beside<'a, R: Files + AllocGlobal>(
         bytes: bytes.as_slice(),
         hints,
     };
-    let (checked, lowered) = compile_checked(rt.alloc(), text.bytes).map_err(|refusal| hinted(
-        rt.alloc(),
-        &text,
-        Failure::from(refusal),
-    ))?;
+    let version = image.version();
+    let (checked, lowered) = compile_checked_as(rt.alloc(), text.bytes, version).map_err(
+        |refusal| hinted(rt.alloc(), &text, Failure::from(refusal)),
+    )?;
     if !are_same(rt.alloc(), image, &lowered.image)? {
         return Err(Failure::OtherImage(source));
     }
-    Ok(listing_of(rt.alloc(), text.bytes, &checked, image.code())?)
+    Ok(listing_of(rt.alloc(), text.bytes, &checked, version, image.code())?)
 }
 
 // The lines of an image, with those of the source text of a file beside them, where one is named.

@@ -1,6 +1,6 @@
 ghost use Rattle.std.specs.Prelude.{◌≡◌, IfOk, IfErr, MatchResult};
 ghost use Rattle.program.specs.Names.{said_by};
-ghost use Rattle.program.specs.Trees.{Program};
+ghost use Rattle.program.specs.Trees.{Program, as_version};
 ghost use Rattle.backend.specs.Lowered.{IsLowered};
 ghost use Rattle.backend.specs.Refusals.{CodeFits};
 ghost use Rattle.log_text.specs.Spelled.{IsLogText};
@@ -77,9 +77,10 @@ fn explain_entries(
     lowered: Lowered,
     entries: LogReader<'_>,
 ) -> Result<ExplainedLog, SourceLogFault>
-    requires { IsLowered (said_by checked.now) lowered }
+    requires { IsLowered (as_version lowered.image.version (said_by checked.now)) lowered }
     ensures { MatchResult result
-        (λ explained. ExplainsEntries (said_by checked.now) lowered.image entries.entry explained)
+        (λ explained. ExplainsEntries (as_version lowered.image.version (said_by checked.now))
+        lowered.image entries.entry explained)
         (λ fault. StopsLog lowered.image entries.entry fault) }
 {
     match explain_log_lowered(alloc, checked, lowered, entries) {

@@ -1,5 +1,5 @@
 -- What comes of an entry that was drawn: a run of such entries comes to its end.
-use Rattle.std.proofs.Common.{◌≡◌, ◌≢◌, ◌≤◌, ◌<◌, ◌+◌, ℕ, zero, suc, Bool, true, false, List, [], ◌∷◌, replicate}
+use Rattle.std.proofs.Common.{◌≡◌, ◌≢◌, ◌≤◌, ◌<◌, ◌+◌, ℕ, zero, suc, Bool, true, false, List, [], ◌∷◌}
 use Rattle.std.proofs.Common.{Some, None, Result, Ok, Err, OnOk, IfErr, slice_get, slice_set, ap, sym, subst, arith, ◌∙◌}
 use Rattle.std.proofs.Common.{inl, inr}
 use Rattle.std.proofs.lemmas.Bool.{cases_eq}
@@ -14,7 +14,7 @@ use Rattle.runner.specs.Reports.{CanFail, IsStopped}
 use Rattle.runner.specs.Rounds.{AllPast, AllStopped, Idle, IsAsleep, NoneLeft, left}
 use Rattle.runner.specs.Views.{LogState}
 use Rattle.runner.proofs.Growing.{cost_more}
-use Rattle.runner.proofs.Passing.{none_true, stops}
+use Rattle.runner.proofs.Passing.{stops}
 
 -- one fewer
 pub one_fewer : (xs : List Bool) (t : ℕ) → slice_get xs t ≡ Some false → suc (left (slice_set xs t true)) ≡ left xs
@@ -32,10 +32,6 @@ one_stopped p limit h t passed now stopped u is =
       | inl e ↦ subst (λ (v : ℕ). IsStopped p limit h.log h.concrete v) (sym e) now
       | inr other ↦ stopped u (sym (get_set_other passed t u true other) ∙ is)
     ]
-
--- nobody is passed over at the start
-pub none_stopped : (p : Program) (limit n : ℕ) (h : LogState) → AllStopped p limit h (replicate n false)
-none_stopped p limit n h t is = absurd (none_true n t is)
 
 -- where each thread that can move was refused or is passed over, none can make its next entry
 pub idle_so : (p : Program) (limit : ℕ) (h : LogState) (refused passed : List Bool) → AllPast p limit h refused

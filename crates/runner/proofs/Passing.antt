@@ -2,8 +2,9 @@
 use Rattle.std.proofs.Common.{◌≡◌, ◌≢◌, ℕ, zero, suc, ◌+◌, ◌-◌, ◌<◌, ◌≤◌, ◌==◌, Bool, true, false, not}
 use Rattle.std.proofs.Common.{◌||◌, List, length, Option, Some, None, Result, Ok, Err, OnOk, slice_get}
 use Rattle.std.proofs.Common.{slice_set, replicate, inl, inr, refl, ap, sym, ◌∙◌, arith, subst, length-set}
-use Rattle.std.proofs.lemmas.Bool.{both_ways, cases_eq}
+use Rattle.std.proofs.lemmas.Bool.{both_ways, cases_eq, cases_lt}
 use Rattle.std.proofs.lemmas.Option.{slice_get_within}
+use Rattle.words.specs.Limits.{most_threads}
 use Rattle.isa.specs.Programs.{Program}
 use Rattle.locals.specs.Threads.{Thread}
 use Rattle.locals.specs.Looks.{look}
@@ -13,6 +14,7 @@ use Rattle.machine.specs.declared.event.StepFault.{StepFault}
 use Rattle.machine.specs.declared.event.StepFault.TheVariants.{Broken, CannotMove}
 use Rattle.machine.specs.States.{ConcreteState, thread_of, state_of}
 use Rattle.machine.specs.Runs.{IsBroken}
+use Rattle.machine.specs.ThreadSets.{IsLeastFrom}
 use Rattle.machine.specs.ConcreteSteps.{put_thread, can_move, thread_can_move}
 use Rattle.machine.proofs.Placing.{get_set_other, thread_at-other, thread_at-put}
 use Rattle.piece_machine.specs.PieceConcrete.{PieceConcrete, pieces_at, piece_of, with_local, stray_piece, kill_piece}
@@ -351,6 +353,33 @@ same_step start old new false false before same still = before refl ∙ sym (sam
 -- a thread that can move was made
 pub made_within : (k : ConcreteState) (u : ℕ) → can_move k u ≡ true → u ≤ length k.threads
 made_within k u moves = let is = up k u moves in numbered k u is.thread is.stands
+
+mover_some : (k : ConcreteState) (t : ℕ) → can_move k t ≡ true → 0 < t
+mover_some k zero moves = absurd cc
+mover_some k (suc t) moves = omega arith
+
+-- and has a number that there is
+pub mover_number : (p : Program) (k : PieceConcrete) (t : ℕ) → IsFit p k → can_move k.concrete t ≡ true
+    → (0 < t) × (t ≤ most_threads)
+mover_number p k t fit moves =
+    let made = made_within k.concrete t moves in
+    (mover_some k.concrete t moves, omega (arith, made, fit.well.few, fit.well.fits))
+
+-- what holds of those below a number that pass a test holds of them below the first from there on
+pub up_to : (test : ℕ → Bool) (from t : ℕ) (Q : ℕ → Type 0) → ((u : ℕ) → u < from → test u ≡ true → Q u)
+    → IsLeastFrom test from (Some t) → (u : ℕ) → u < t → test u ≡ true → Q u
+up_to test from t Q before least u below passes = elim (cases_lt u from) [
+  | inl less ↦ before u less passes
+  | inr at ↦ absurd (both_ways (test u) (least.2 u at below) passes)
+]
+
+-- and of all of them where there is none from there on
+pub all_from : (test : ℕ → Bool) (from : ℕ) (Q : ℕ → Type 0) → ((u : ℕ) → u < from → test u ≡ true → Q u)
+    → IsLeastFrom test from None → (u : ℕ) → test u ≡ true → Q u
+all_from test from Q before none u passes = elim (cases_lt u from) [
+  | inl less ↦ before u less passes
+  | inr at ↦ absurd (both_ways (test u) (none u at) passes)
+]
 
 -- where the limit leaves room for any entry, nobody is past it
 step_small : (o : Option Thread) → step_cost o ≤ 1

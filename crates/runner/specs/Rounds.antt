@@ -47,6 +47,10 @@ Idle p limit h = (t : ℕ) → can_move h.concrete.concrete t ≡ true → IsSto
 abbrev pub AllStopped : Program → ℕ → LogState → List Bool → Type 0
 AllStopped p limit h passed = (t : ℕ) → slice_get passed t ≡ Some true → IsStopped p limit h.log h.concrete t
 
+-- nobody is passed over
+abbrev pub NobodyPassed : List Bool → Type 0
+NobodyPassed passed = (t : ℕ) → slice_get passed t ≢ Some true
+
 -- a thread that can move, wasn't refused, and isn't passed over
 abbrev pub IsPickable : ConcreteState → List Bool → List Bool → ℕ → Type 0
 IsPickable k refused passed t =

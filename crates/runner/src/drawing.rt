@@ -9,7 +9,7 @@ ghost use Rattle.piece_machine.specs.PieceDetermined.{IsFit};
 ghost use Rattle.runner.specs.Logs.{cost, kills_in};
 ghost use Rattle.runner.specs.Reports.{CanFail};
 ghost use Rattle.runner.specs.Rounds.{AllPast, AllStopped, Idle, IsAsleep, IsDrawn, IsPickable, IsUnrefused, MayBeDrawn};
-ghost use Rattle.runner.specs.Rounds.{NoneLeft, left};
+ghost use Rattle.runner.specs.Rounds.{NobodyPassed, NoneLeft, left};
 ghost use Rattle.runner.specs.Views.{log_state};
 
 use crate::fault::RunFault;
@@ -38,6 +38,15 @@ pub enum Drawn {
 
 // How many threads there can be.
 const PLACES: usize = MOST_THREADS as usize;
+
+// Threads among which one is drawn. Both lists are made once a run and filled anew for each entry, which so writes no more
+// places than there are such threads.
+#[derive(Drop)]
+struct Lists {
+    movers: ArrayVec<u32, PLACES>,
+    // Those that sleep, or those that live, where one of these is drawn.
+    others: ArrayVec<u32, PLACES>,
+}
 
 // About one entry in so many is a kill, as long as there may be one more: 2 at least, and 2^12 at most.
 const MOST_DOUBLINGS: u64 = 12;
@@ -89,10 +98,17 @@ pub fn run_drawn<J: RunName>(
     ensures err { IfErr result (λ fault. CanFail J.program J.outside J.limit fault) }
 {
     let mut refused = [false; PLACES + 1];
+    let mut passed = [false; PLACES + 1];
+    let mut lists = Lists {
+        movers: ArrayVec::new(),
+        others: ArrayVec::new(),
+    };
     let mut piece = Piece::idle(1);
     while make_next(
         shared,
         &mut refused,
+        &mut passed,
+        &mut lists,
         image,
         share,
         generator,
@@ -103,10 +119,12 @@ pub fn run_drawn<J: RunName>(
 }
 
 // Draws until an entry was made, and says whether one was: else no thread can make one. A thread that was drawn and made
-// none is passed over meanwhile.
+// none is passed over meanwhile: nobody is before, nor behind an entry.
 fn make_next<J: RunName>(
     shared: &mut Shared<J>,
     refused: &mut [bool],
+    passed: &mut [bool],
+    lists: &mut Lists,
     image: &Image,
     share: &mut Share<J>,
     generator: &mut SplitMix64,
@@ -114,24 +132,39 @@ fn make_next<J: RunName>(
     piece: &mut Piece<J>,
 ) -> Result<bool, RunFault>
     requires image { image.now ≡ J.program }
-    requires room { length refused.old ≡ suc most_threads }
+    requires room { (length refused.old ≡ suc most_threads) × (length passed.old ≡ suc most_threads) }
     requires strays { is_some outside.strays ≡ J.outside.strays }
     requires kills { outside.kills ≡ J.outside.kills }
     requires past { AllPast J.program J.limit (log_state shared.old) refused.old }
+    requires nobody { NobodyPassed passed.old }
     ensures past { OnOk result (AllPast J.program J.limit (log_state shared.new) refused.new) }
+    ensures nobody { IfOk result (λ made. made ≡ true → NobodyPassed passed.new) }
     ensures made { IfOk result (λ made. made ≡ true → (cost shared.old.log < cost shared.new.log)
         × (cost shared.new.log ≤ J.limit)) }
     ensures none { IfOk result (λ made. made ≡ false
         → Idle J.program J.limit (log_state shared.new)) }
     ensures err { IfErr result (λ fault. CanFail J.program J.outside J.limit fault) }
 {
-    let mut passed = [false; PLACES + 1];
-    while let Some(drawn) = draw_entry(shared, refused, &passed, generator, outside) {
-        if make_drawn(shared, refused, &mut passed, image, share, drawn, piece)? {
+    let mut skipped = false;
+    while let Some(drawn) = draw_entry(shared, refused, passed, lists, generator, outside) {
+        if make_drawn(shared, refused, passed, image, share, drawn, piece)? {
+            clear_where(passed, skipped);
             return Ok(true);
         }
+        skipped = true;
     }
     Ok(false)
+}
+
+// Passes nobody over any more. Where nobody was skipped nobody is passed over, and nothing is written.
+fn clear_where(passed: &mut [bool], skipped: bool)
+    requires { skipped ≡ false → NobodyPassed passed.old }
+    ensures nobody { NobodyPassed passed.new }
+    ensures room { length passed.new ≡ length passed.old }
+{
+    if skipped {
+        passed.fill(false);
+    }
 }
 
 // Makes the entry that was drawn, if it can be made, and says whether it did: else its thread is passed over, and
@@ -153,7 +186,7 @@ fn make_drawn<J: RunName>(
     requires stopped { AllStopped J.program J.limit (log_state shared.old) passed.old }
     ensures past { OnOk result (AllPast J.program J.limit (log_state shared.new) refused.new) }
     ensures made { IfOk result (λ made. made ≡ true → (cost shared.old.log < cost shared.new.log)
-        × (cost shared.new.log ≤ J.limit)) }
+        × (cost shared.new.log ≤ J.limit) × (passed.new ≡ passed.old)) }
     ensures none { IfOk result (λ made. made ≡ false → (log_state shared.new ≡ log_state shared.old)
         × AllStopped J.program J.limit (log_state shared.new) passed.new
         × (left passed.new < left passed.old)) }
@@ -185,6 +218,7 @@ fn draw_entry<J: RunName>(
     shared: &Shared<J>,
     refused: &[bool],
     passed: &[bool],
+    lists: &mut Lists,
     generator: &mut SplitMix64,
     outside: Outside,
 ) -> Option<Drawn>
@@ -195,22 +229,24 @@ fn draw_entry<J: RunName>(
         (λ drawn. MayBeDrawn J.outside J.limit (log_state shared.now) refused.now passed.now drawn) }
     ensures kept { IsFit J.program (log_state shared.now).concrete }
 {
-    let movers = movers(shared.machine(), refused, passed);
+    let Lists { movers, others } = lists;
+    list_movers(movers, shared.machine(), refused, passed);
     if movers.is_empty() {
         return None;
     }
-    if let Some(t) = draw_sleeper(shared, generator, outside.strays) {
+    if let Some(t) = draw_sleeper(shared, others, generator, outside.strays) {
         return Some(Drawn::Sleeper(t));
     }
-    if let Some(t) = draw_living(shared, refused, generator, outside) {
+    if let Some(t) = draw_living(shared, refused, others, generator, outside) {
         return Some(Drawn::Living(t));
     }
-    Some(Drawn::Mover(pick(&movers, generator)))
+    Some(Drawn::Mover(pick(movers, generator)))
 }
 
 // Draws a thread that sleeps, where a wake from outside is due, some thread sleeps, and the limit leaves room.
 fn draw_sleeper<J: RunName>(
     shared: &Shared<J>,
+    sleepers: &mut ArrayVec<u32, PLACES>,
     generator: &mut SplitMix64,
     strays: Option<u32>,
 ) -> Option<u32>
@@ -220,11 +256,11 @@ fn draw_sleeper<J: RunName>(
     if !is_due(strays, generator) || !shared.has_step_left() {
         return None;
     }
-    let sleepers = sleepers(shared.machine());
+    list_sleepers(sleepers, shared.machine());
     if sleepers.is_empty() {
         return None;
     }
-    Some(pick(&sleepers, generator))
+    Some(pick(sleepers, generator))
 }
 
 // Draws a thread that lives and wasn't refused, where there may be a kill more, one is due, there is such a thread, and
@@ -232,6 +268,7 @@ fn draw_sleeper<J: RunName>(
 fn draw_living<J: RunName>(
     shared: &Shared<J>,
     refused: &[bool],
+    living: &mut ArrayVec<u32, PLACES>,
     generator: &mut SplitMix64,
     outside: Outside,
 ) -> Option<u32>
@@ -245,11 +282,11 @@ fn draw_living<J: RunName>(
     if generator.next_u64().trailing_zeros() < outside.doublings || !shared.has_step_left() {
         return None;
     }
-    let living = living(shared.machine(), refused);
+    list_living(living, shared.machine(), refused);
     if living.is_empty() {
         return None;
     }
-    Some(pick(&living, generator))
+    Some(pick(living, generator))
 }
 
 // Whether a wake from outside is due: where the generator's next number is a multiple of that which `strays` has. No
@@ -272,17 +309,24 @@ fn pick(threads: &[u32], generator: &mut SplitMix64) -> u32
     threads[place as usize]
 }
 
-// The threads that can move, weren't refused and aren't passed over, by rising number.
-fn movers(machine: &Machine, refused: &[bool], passed: &[bool]) -> ArrayVec<u32, PLACES>
+// Lists the threads that can move, weren't refused and aren't passed over, by rising number.
+fn list_movers(
+    movers: &mut ArrayVec<u32, PLACES>,
+    machine: &Machine,
+    refused: &[bool],
+    passed: &[bool],
+)
+    requires few { length (concrete machine.now).threads ≤ most_threads }
     requires room { (length refused.now ≡ suc most_threads) × (length passed.now ≡ suc most_threads) }
-    ensures drawn { All (IsDrawn (concrete machine.now) refused.now passed.now) result.items }
-    ensures none { length result.items ≡ 0 → NoneLeft (concrete machine.now) refused.now passed.now }
+    ensures drawn { All (IsDrawn (concrete machine.now) refused.now passed.now) movers.new.items }
+    ensures none { length movers.new.items ≡ 0 → NoneLeft (concrete machine.now) refused.now passed.now }
 {
-    let mut movers: ArrayVec<u32, PLACES> = ArrayVec::new();
-    for before in 0..machine.threads() {
-        add_pickable(&mut movers, machine, refused, passed, before + 1);
+    movers.clear();
+    let mut from = 1;
+    while let Some(t) = machine.next_able(from) {
+        add_pickable(movers, machine, refused, passed, t);
+        from = t + 1;
     }
-    movers
 }
 
 // Adds thread `t`, if it can move, wasn't refused and isn't passed over.
@@ -320,15 +364,14 @@ fn is_pickable(machine: &Machine, refused: &[bool], passed: &[bool], t: u32) -> 
     machine.can_move(t) && !refused[t as usize] && !passed[t as usize]
 }
 
-// The threads that sleep, by rising number.
-fn sleepers(machine: &Machine) -> ArrayVec<u32, PLACES>
-    ensures { All (IsAsleep (concrete machine.now)) result.items }
+// Lists the threads that sleep, by rising number.
+fn list_sleepers(sleepers: &mut ArrayVec<u32, PLACES>, machine: &Machine)
+    ensures { All (IsAsleep (concrete machine.now)) sleepers.new.items }
 {
-    let mut sleepers: ArrayVec<u32, PLACES> = ArrayVec::new();
+    sleepers.clear();
     for before in 0..machine.threads() {
-        add_sleeper(&mut sleepers, machine, before + 1);
+        add_sleeper(sleepers, machine, before + 1);
     }
-    sleepers
 }
 
 // Adds thread `t`, if it sleeps.
@@ -343,16 +386,15 @@ fn add_sleeper(sleepers: &mut ArrayVec<u32, PLACES>, machine: &Machine, t: u32)
     }
 }
 
-// The threads that live, which aren't dying yet nor ended, and weren't refused, by rising number.
-fn living(machine: &Machine, refused: &[bool]) -> ArrayVec<u32, PLACES>
+// Lists the threads that live, which aren't dying yet nor ended, and weren't refused, by rising number.
+fn list_living(living: &mut ArrayVec<u32, PLACES>, machine: &Machine, refused: &[bool])
     requires room { length refused.now ≡ suc most_threads }
-    ensures { All (IsUnrefused (concrete machine.now) refused.now) result.items }
+    ensures { All (IsUnrefused (concrete machine.now) refused.now) living.new.items }
 {
-    let mut living: ArrayVec<u32, PLACES> = ArrayVec::new();
+    living.clear();
     for before in 0..machine.threads() {
-        add_living(&mut living, machine, refused, before + 1);
+        add_living(living, machine, refused, before + 1);
     }
-    living
 }
 
 // Adds thread `t`, if it lives and wasn't refused.

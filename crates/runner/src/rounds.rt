@@ -56,7 +56,8 @@ pub fn run_alone<J: RunName, G: Gate>(
     Ok(())
 }
 
-// Makes an entry for each thread that can make one and wasn't refused before. Says whether it made any.
+// Makes an entry for each thread that can make one and wasn't refused before, from one that can move to the next. Says
+// whether it made any.
 fn run_round<J: RunName, G: Gate>(
     shared: &mut Shared<J>,
     refused: &mut [bool],
@@ -76,10 +77,10 @@ fn run_round<J: RunName, G: Gate>(
     ensures err { IfErr result (λ fault. CanFail J.program J.outside J.limit fault) }
 {
     let mut made = false;
-    let mut t = 1;
-    while t <= shared.machine().threads() {
+    let mut from = 1;
+    while let Some(t) = shared.machine().next_able(from) {
         made |= make_entry(shared, refused, image, share, gate, t, piece)?;
-        t += 1;
+        from = t + 1;
     }
     Ok(made)
 }

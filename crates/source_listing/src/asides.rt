@@ -4,6 +4,7 @@ use isa::Instr;
 use places::{Places, places_of};
 use program::Checked;
 use std::alloc::{AllocError, Global};
+use words::ImageVersion;
 
 /// What stands beside the lines of a listing.
 #[derive(Drop)]
@@ -163,7 +164,7 @@ impl Beside<'_, '_> {
     }
 }
 
-/// What stands beside the listing of a program's image, whose text this is: before the instructions that a source line
+/// What stands beside the listing of a program's image of this version, whose text this is: before the instructions that a source line
 /// became that line, and behind an instruction that has the address of a monitor's word what that is.
 ///
 /// # Errors
@@ -173,11 +174,12 @@ pub fn listing_of(
     alloc: Global,
     text: &[u8],
     checked: &Checked,
+    version: ImageVersion,
     code: &[Instr],
 ) -> Result<Listing, AllocError> {
     let places = places_of(alloc, text)?;
     let plan = Plan::of(alloc, checked.program())?;
-    let words = Words::of(alloc, checked.program(), checked.names())?;
+    let words = Words::of(alloc, checked.program(), checked.names(), version)?;
     let marks = marks_of(alloc, &places, &plan)?;
     let source = Source::of(alloc, text)?;
     let mut beside = Beside {

@@ -59,15 +59,16 @@ impl<'p, 'n> Words<'p, 'n> {
         Ok(())
     }
 
-    /// The words of a program's monitors.
+    /// The words of a program's monitors in an image of this version.
     pub fn of(
         alloc: Global,
         program: &Program,
         names: &'p Names<'n>,
+        version: ImageVersion,
     ) -> Result<Words<'p, 'n>, AllocError> {
         let mut words = Words {
             names,
-            base: ImageVersion::One.monitors_base(),
+            base: version.monitors_base(),
             words: Vec::new(alloc),
         };
         for (number, monitor) in program.monitors.iter().enumerate() {

@@ -4,7 +4,7 @@ use Rattle.machine.specs.declared.thread_set.ThreadSet.{ThreadSet}
 use Rattle.machine.specs.ThreadSets.{IsThread, has}
 use Rattle.workers.specs.declared.bucket_waiters.BucketWaiters.{BucketWaiters}
 use Rattle.workers.specs.declared.parker.Called.{Called}
-use Rattle.workers.specs.BucketWaiters.{nobody, waits, with_waiter}
+use Rattle.workers.specs.BucketWaiters.{IsWhole, nobody, waits, with_waiter}
 
 -- nobody
 abbrev pub nobody_called : Called
@@ -17,6 +17,12 @@ with_called called t = record { workers = with_waiter called.workers t }
 -- whether that of thread t was
 abbrev pub was_called : Called → ℕ → Bool
 was_called called t = waits called.workers t
+
+-- those of the threads of a set, and whoever was called before
+pub record AreCalledToo (threads : ThreadSet) (old new : Called) : Type 0 where
+  pub each : (t : ℕ) → IsThread t → has threads t ≡ true → was_called new t ≡ true
+  pub kept : (t : ℕ) → IsThread t → was_called old t ≡ true → was_called new t ≡ true
+  pub whole : IsWhole new.workers
 
 -- those of the threads that an entry woke, and those who waited until a bucket was given up
 abbrev pub AreTold : ThreadSet → BucketWaiters → Called → Type 0

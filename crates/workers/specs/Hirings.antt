@@ -1,7 +1,7 @@
 -- Which threads have got a worker.
 use Rattle.std.specs.Prelude.{ℕ, ◌≡◌, ◌≤◌, ◌||◌, true, false}
 use Rattle.workers.specs.declared.hiring.Hiring.{Hiring}
-use Rattle.workers.specs.BucketWaiters.{nobody, waits, with_waiter}
+use Rattle.workers.specs.BucketWaiters.{IsWhole, nobody, waits, with_waiter}
 
 -- none was asked for
 abbrev pub nobody_hired : Hiring
@@ -26,6 +26,12 @@ with_failed hiring t = record hiring { failed = with_waiter hiring.failed t }
 -- each that was asked for was started, or it couldn't be
 abbrev pub HasEach : Hiring → Type 0
 HasEach hiring = (t : ℕ) → 1 ≤ t → waits hiring.asked t ≡ (waits hiring.started t || waits hiring.failed t)
+
+-- they are whole
+pub record AreWhole (hiring : Hiring) : Type 0 where
+  pub asked : IsWhole hiring.asked
+  pub started : IsWhole hiring.started
+  pub failed : IsWhole hiring.failed
 
 -- so it is, and no more are asked for
 pub record IsDone (hiring : Hiring) : Type 0 where

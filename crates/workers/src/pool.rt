@@ -2,7 +2,8 @@ ghost use Rattle.std.specs.Prelude.{ℕ, ◌≡◌, ◌<◌, true, false, is_som
 ghost use Rattle.words.specs.Limits.{most_threads};
 ghost use Rattle.machine.specs.ConcreteSteps.{can_move};
 ghost use Rattle.machine.specs.ThreadSets.{IsThread};
-ghost use Rattle.workers.specs.Calls.{AreTold, AreAllCalled, with_called};
+ghost use Rattle.workers.specs.BucketWaiters.{IsWhole};
+ghost use Rattle.workers.specs.Calls.{AreTold, AreAllCalled, AreCalledToo, with_called};
 ghost use Rattle.workers.specs.Hirings.{IsDone, asking_for, asked_all, with_failed};
 ghost use Rattle.workers.specs.SharedRuns.{state_of};
 ghost use Rattle.workers.specs.Handed.{IsAfresh};
@@ -16,6 +17,7 @@ use crate::precedence::Precedence;
 use crate::shared_run::{SharedRun, WakeReason};
 use crate::turns::Turns;
 use crossbeam_utils::CachePadded;
+use machine::ThreadSet;
 use runner::{After, RunName, Share};
 use std::alloc::{AllocError, Global};
 use std::fmt::Write;
@@ -53,7 +55,7 @@ impl<J: RunName> Pool<J> {
         alloc: Global,
         shared_run: SharedRun<J>,
     ) -> Result<Pool<J>, AllocError> {
-        let mut parkers = Vec::new(alloc);
+        let mut parkers = Vec::with_capacity(alloc, MOST_THREADS as usize + 1)?;
         for _ in 0..=MOST_THREADS {
             parkers.push(CachePadded::new(Parker::new()))?;
         }
@@ -90,7 +92,7 @@ impl<J: RunName> Pool<J> {
 
     // Starts a worker in this scope for each thread that is made, until nobody is left to make one. Where one can't be
     // started the run ends.
-    #[tactic(auto, using(crate::proofs::Calling::started_too, crate::proofs::Calling::failed_too))]
+    #[tactic(auto, using(crate::proofs::Calling::started_too, crate::proofs::Calling::failed_too, crate::proofs::Calling::started_whole, crate::proofs::Calling::failed_whole))]
     fn start_all<'s, E, R: Threads + Wait + Sync, G: Gate>(
         &'s self,
         rt: &'s R,
@@ -248,13 +250,15 @@ impl<J: RunName> Pool<J> {
         // which refuses the piece. Further entries are of the only thread there is. Who waited for buckets was noted at
         // each entry.
         shared_run.tell_last(&mut turns.wake_reason);
-        let freed = shared_run.take_freed();
+        shared_run.take_freed(&mut turns.freed);
         let is_over = after != After::Goes && self.is_over(&shared_run);
         drop(shared_run);
         self.precedence.pass_on(t, few && after == After::Goes);
-        let _called = self.tell(&turns.wake_reason, freed);
+        if turns.concern_others() {
+            self.tell_others(turns);
+        }
         if is_over {
-            let _called = self.call_all();
+            self.end();
         }
         if after == After::Sleeps && parker.look(&self.lookout, calls) {
             self.precedence.take(&self.lookout, t);
@@ -307,33 +311,59 @@ impl<J: RunName> Pool<J> {
         if shared_run.fault().is_some() {
             return true;
         }
-        for t in 1..=shared_run.threads() {
+        let mut from = 1;
+        while let Some(t) = shared_run.next_able(from) {
             if shared_run.is_able(t) && !self.is_refused(t) {
                 return false;
             }
+            from = t + 1;
         }
         true
     }
 
+    // Calls whom these turns concern. Apart, since a note of who was called is written whole.
+    #[cold]
+    #[inline(never)]
+    fn tell_others(&self, turns: &Turns<J>) {
+        let _called = self.tell(&turns.wake_reason, &turns.freed);
+    }
+
+    // Calls everybody, where the run is over. Apart for the same reason.
+    #[cold]
+    #[inline(never)]
+    fn end(&self) {
+        let _called = self.call_all();
+    }
+
     // Calls the workers of the threads that an entry woke and those who waited for a bucket, and the calling thread where
     // one was made.
-    #[tactic(auto, using(crate::proofs::Calling::called_too))]
-    fn tell(&self, wake_reason: &WakeReason, freed: BucketWaiters) -> Called
-        ensures { AreTold wake_reason.now.woken freed result }
+    fn tell(&self, wake_reason: &WakeReason, freed: &BucketWaiters) -> Called
+        ensures { AreTold wake_reason.now.woken freed.now result }
     {
         let mut called = Called::new();
         if wake_reason.forked {
             self.made.notify_all();
         }
-        if wake_reason.woken.is_empty() && freed.is_empty() {
-            return called;
-        }
-        for t in 1..=MOST_THREADS {
-            if wake_reason.woken.contains(t) || freed.contains(t) {
-                self.call(t, &mut called);
-            }
+        self.call_each(&wake_reason.woken, &mut called);
+        if !freed.is_empty() {
+            self.call_each(&freed.threads(), &mut called);
         }
         called
+    }
+
+    // Calls the workers of the threads of a set.
+    fn call_each(&self, threads: &ThreadSet, called: &mut Called)
+        requires { IsWhole called.old.workers }
+        ensures { AreCalledToo threads.now called.old called.new }
+    {
+        let mut from = 1;
+        while let Some(t) = threads.next_from(from) {
+            if t > MOST_THREADS {
+                return;
+            }
+            self.call(t, called);
+            from = t + 1;
+        }
     }
 
     // Whether the worker of thread `t` was refused.
@@ -353,7 +383,7 @@ impl<J: RunName> Pool<J> {
     }
 
     // Calls everybody who is parked.
-    #[tactic(auto, using(crate::proofs::Calling::called_too))]
+    #[tactic(auto, using(crate::proofs::Calling::called_too, crate::proofs::Calling::called_whole))]
     fn call_all(&self) -> Called
         ensures { AreAllCalled result }
     {

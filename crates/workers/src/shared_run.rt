@@ -2,7 +2,7 @@ ghost use Rattle.std.specs.Prelude.{◌≡◌, ◌≤◌, ◌<◌, ◌+◌, leng
 ghost use Rattle.std.specs.Prelude.{◌⊎◌, MatchBool, unwrap_or};
 ghost use Rattle.words.specs.Limits.{most_threads};
 ghost use Rattle.machine.specs.ConcreteSteps.{can_move};
-ghost use Rattle.machine.specs.ThreadSets.{IsThread};
+ghost use Rattle.machine.specs.ThreadSets.{IsLeastFrom, IsThread};
 ghost use Rattle.runner.specs.declared.fault.RunFault.TheVariants.{Memory};
 ghost use Rattle.workers.specs.SharedRuns.{HasCause, KeepsWorkers, StartsWorker, is_able, state_of};
 ghost use Rattle.workers.specs.BucketWaiters.{nobody};
@@ -106,6 +106,14 @@ impl<J: RunName> SharedRun<J> {
         ensures { result ≡ is_able self.now t }
     {
         self.can_move(t) && !self.waiting.contains(t)
+    }
+
+    /// The first thread from `from` on that can move, if there is one.
+    pub fn next_able(&self, from: u32) -> Option<u32>
+        ensures least { IsLeastFrom (can_move (state_of self.now)) from result }
+        ensures thread { IfSome result (λ t. IsThread t) }
+    {
+        self.shared.machine().next_able(from)
     }
 
     /// How many threads were made.
@@ -292,18 +300,29 @@ impl<J: RunName> SharedRun<J> {
         let mut wake_reason = WakeReason::new();
         self.tell_last(&mut wake_reason);
         if wake_reason.released {
-            self.freed.join(self.waiting);
-            self.waiting = BucketWaiters::new();
+            self.freed.join(&self.waiting);
+            self.waiting.clear();
         }
     }
 
-    /// Who waited for a bucket until one was given up, since this was asked last. They are to be called.
-    pub fn take_freed(&mut self) -> BucketWaiters
-        ensures { (result ≡ self.old.freed) × (self.new ≡ record self.old { freed = nobody }) }
+    /// Who waited for a bucket until one was given up, since this was asked last, put in its place. They are to be called.
+    pub fn take_freed(&mut self, freed: &mut BucketWaiters)
+        ensures { (freed.new ≡ self.old.freed) × (self.new ≡ record self.old { freed = nobody }) }
     {
-        let freed = self.freed;
-        self.freed = BucketWaiters::new();
-        freed
+        freed.clear();
+        if !self.freed.is_empty() {
+            self.hand_freed(freed);
+        }
+    }
+
+    // The same where somebody waited. Apart, since a set is copied whole.
+    #[cold]
+    #[inline(never)]
+    fn hand_freed(&mut self, freed: &mut BucketWaiters)
+        ensures { (freed.new ≡ self.old.freed) × (self.new ≡ record self.old { freed = nobody }) }
+    {
+        *freed = self.freed;
+        self.freed.clear();
     }
 
     /// Whom the last entry concerns, put in its place.

@@ -1,6 +1,9 @@
-ghost use Rattle.std.specs.Prelude.{◌≡◌, ◌<◌, ◌≤◌, [], ◌∷◌, vec_len, take, IfOk, MatchBool};
+ghost use Rattle.std.specs.Prelude.{◌≡◌, ◌<◌, ◌≤◌, [], ◌∷◌, vec_len, take, false, IfOk, MatchBool};
+ghost use Rattle.machine.specs.ThreadSets.{set_of};
+ghost use Rattle.workers.specs.BucketWaiters.{nobody};
 ghost use Rattle.workers.specs.Taken.{AreTurns, IsTurn, IsGrown, StartsAt, idle};
 
+use crate::bucket_waiters::BucketWaiters;
 use crate::image_ref::ImageRef;
 use crate::shared_run::WakeReason;
 use runner::{Piece, RunName};
@@ -23,6 +26,8 @@ pub struct Turns<J: RunName> {
     pub taken: usize,
     /// Whom the last entry concerned.
     pub wake_reason: WakeReason,
+    /// Who waited for a bucket until one was given up.
+    pub freed: BucketWaiters,
     ghost some: { 0 < vec_len pieces },
     ghost within: { taken ≤ vec_len pieces },
 }
@@ -38,6 +43,7 @@ impl<J: RunName> Turns<J> {
             pieces,
             taken: 0,
             wake_reason: WakeReason::new(),
+            freed: BucketWaiters::new(),
         })
     }
 
@@ -51,6 +57,15 @@ impl<J: RunName> Turns<J> {
     /// Whether few local steps were taken: fewer than others could take meanwhile with profit.
     pub fn are_few(&self) -> bool {
         self.taken == 1 && self.pieces[0].count() < FEW_STEPS
+    }
+
+    /// Whether the last entry concerns another thread or the calling one, or somebody waited for a bucket until one was
+    /// given up.
+    pub fn concern_others(&self) -> bool
+        ensures { result ≡ false → (self.now.wake_reason.woken ≡ set_of [])
+            × (self.now.wake_reason.forked ≡ false) × (self.now.freed ≡ nobody) }
+    {
+        self.wake_reason.forked || !self.wake_reason.woken.is_empty() || !self.freed.is_empty()
     }
 
     /// Takes turns from the first piece on, until another step than a local one comes, or there is no piece left. The

@@ -11,9 +11,10 @@ use Rattle.backend.proofs.lowered.lower.Goals as goal
 pub returns-in_err-pieces : goal.returns-in_err-pieces
 returns-in_err-pieces c =
     let p = said_by c.args.checked.now in
+    let q = as_version c.args.version p in
     let e = c.in_err-pieces.field-0.0 in
     let first = ap (λ (l : Layout). l.version) c.in_ok-layout.ensures.layout in
-    passed c.from_residual-in_err-pieces.result e (IsLowered p) (RefusesCode p)
+    passed c.from_residual-in_err-pieces.result e (IsLowered q) (RefusesCode q)
     c.from_residual-in_err-pieces.ensures
     (subst (λ v. RefusesCode (as_version v p) e) first
     (of_generate (as_version c.in_ok-layout.layout.version p) e c.in_err-pieces.ensures.refusal))

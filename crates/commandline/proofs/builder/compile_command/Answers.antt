@@ -14,13 +14,17 @@ returns-clause-app c =
     ∙ ap₂ with_rule first c.positional-2.ensures.rule in
     let third = c.in_ok-arg-3.ensures.shape c.workers_option.ensures.local
     ∙ ap₂ with_rule second c.workers_option.ensures.rule in
-    IfOk-weaker c.arg-4.result _ _ (λ r h. h.shape c.flag.ensures.local
-    ∙ ap₂ with_rule third c.flag.ensures.rule) c.arg-4.ensures
+    let fourth = c.in_ok-arg-4.ensures.shape c.image_option.ensures.local
+    ∙ ap₂ with_rule third c.image_option.ensures.rule in
+    IfOk-weaker c.arg-5.result _ _ (λ r h. h.shape c.flag.ensures.local
+    ∙ ap₂ with_rule fourth c.flag.ensures.rule) c.arg-5.ensures
 
 pub returns-clause-local : goal.returns-clause-local
-returns-clause-local c = IfOk-weaker c.arg-4.result _ _ (λ r h. rw (
+returns-clause-local c = IfOk-weaker c.arg-5.result _ _ (λ r h. rw (
   h.globals,
   c.flag.ensures.local,
+  c.in_ok-arg-4.ensures.globals,
+  c.image_option.ensures.local,
   c.in_ok-arg-3.ensures.globals,
   c.workers_option.ensures.local,
   c.in_ok-arg-2.ensures.globals,
@@ -29,4 +33,4 @@ returns-clause-local c = IfOk-weaker c.arg-4.result _ _ (λ r h. rw (
   c.positional.ensures.local,
   c.about.ensures,
   c.new.ensures.local,
-) refl) c.arg-4.ensures
+) refl) c.arg-5.ensures

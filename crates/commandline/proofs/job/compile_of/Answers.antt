@@ -17,7 +17,11 @@ returns-in_err-out-clause-none c =
 
 pub returns-in_err-workers-clause-none : goal.returns-in_err-workers-clause-none
 returns-in_err-workers-clause-none c = λ _ job.
-    no_compile (rows_of (found_of c.args.matches.now)) job (inr (inr (c.in_err-workers.ensures.none refl)))
+    no_compile (rows_of (found_of c.args.matches.now)) job (inr (inr (inl (c.in_err-workers.ensures.none refl))))
+
+pub returns-in_err-version-clause-none : goal.returns-in_err-version-clause-none
+returns-in_err-version-clause-none c = λ _ job.
+    no_compile (rows_of (found_of c.args.matches.now)) job (inr (inr (inr (c.in_err-version.ensures.none refl))))
 
 pub returns-clause-job : goal.returns-clause-job
 returns-clause-job c =
@@ -25,4 +29,4 @@ returns-clause-job c =
     let file = first_value-rows found (codes "FILE") in
     let out = first_value-rows found (codes "OUT") in
     let hints = one_text-rows found (codes "hints") in
-    (search rules, search rules, c.in_ok-workers.ensures.number, (search rules, search rules))
+    (search rules, search rules, c.in_ok-workers.ensures.number, c.in_ok-version.ensures.version, (search rules, search rules))

@@ -1,22 +1,25 @@
 use Rattle.std.proofs.lemmas.Result.{err_from_is_err_and}
 use Rattle.program.specs.Names.{said_by}
+use Rattle.program.specs.Trees.{as_version}
+use Rattle.layout.proofs.Versions.{well_formed_as}
 use Rattle.compiler.proofs.Readings.{not_fitting, read_whole, unread}
 use Rattle.compiler.proofs.compiling.read_lowered.Goals as goal
 
 pub returns-in_err-checked : goal.returns-in_err-checked
 returns-in_err-checked c =
     let p = err_from_is_err_and c.from_residual.result c.from_residual.ensures.1 in
-    rw (p.1, p.2) (unread c.args.text.now c.in_err-checked.field-0.0 c.in_err-checked.ensures)
+    rw (p.1, p.2) (unread c.args.version c.args.text.now c.in_err-checked.field-0.0 c.in_err-checked.ensures)
 
 pub returns-in_err-lowered : goal.returns-in_err-lowered
 returns-in_err-lowered c =
     let p = err_from_is_err_and c.from_residual-in_err-lowered.result c.from_residual-in_err-lowered.ensures.1 in
-    rw (p.1, p.2) (not_fitting c.args.text.now (said_by c.in_ok-checked.checked) c.in_err-lowered.field-0.0
+    rw (p.1, p.2) (not_fitting c.args.version c.args.text.now (said_by c.in_ok-checked.checked) c.in_err-lowered.field-0.0
     c.in_ok-checked.ensures.accepts c.in_err-lowered.ensures)
 
 pub returns : goal.returns
 returns c =
-    read_whole c.args.text.now c.in_ok-checked.checked c.in_ok-lowered.lowered c.in_ok-checked.ensures
-    (c.code_refines.ensures.whole (said_by c.in_ok-checked.checked) c.in_ok-checked.ensures.well_formed)
-    (c.code_refines.ensures.pieces (said_by c.in_ok-checked.checked) c.in_ok-checked.ensures.well_formed)
-    c.in_ok-lowered.ensures
+    let v = c.args.version in
+    let p = as_version v (said_by c.in_ok-checked.checked) in
+    let formed = well_formed_as v (said_by c.in_ok-checked.checked) c.in_ok-checked.ensures.well_formed in
+    read_whole v c.args.text.now c.in_ok-checked.checked c.in_ok-lowered.lowered c.in_ok-checked.ensures
+    (c.code_refines.ensures.whole p formed) (c.code_refines.ensures.pieces p formed) c.in_ok-lowered.ensures

@@ -1,7 +1,6 @@
 use Rattle.std.proofs.Common.{◌≡◌, ◌<◌, List, ℕ, false, map, length, sym, ap, ◌∙◌, inr, arith}
 use Rattle.std.specs.Prelude.{slice_index, nat_le, sum, ◌&&◌}
 use Rattle.words.specs.declared.version.ImageVersion.{ImageVersion}
-use Rattle.words.specs.declared.version.ImageVersion.TheVariants.{One}
 use Rattle.isa.specs.Limits.{most_instructions, most_monitors, most_member_words}
 use Rattle.isa.specs.Programs.{Program, IsProgram}
 use Rattle.isa.specs.declared.instr.Instr.{Instr}
@@ -53,7 +52,7 @@ new-requires c =
     ∙ sym c.if-not-are_few.ensures in
     let len : t ≡ length code =
     c.in_ok-total.ensures.0 ∙ sym (code_length (slice_index s) 0 ps) ∙ sym (ap length made.0) in
-    is_program One c.in_ok-monitors.monitors.items c.last_of-start.result t code few c.in_ok-total.ensures.1 len
+    is_program c.version.result c.in_ok-monitors.monitors.items c.last_of-start.result t code few c.in_ok-total.ensures.1 len
     (omega (arith, c.if-start-total.false)) (ap (all_fit t) made.0 ∙ made.1)
 
 pub returns : goal.returns
@@ -68,7 +67,7 @@ returns c =
     let made = image_of c.args.layout.now ps in
     c.new.ensures
     ∙ ap (λ v. f v c.in_ok-monitors.monitors.items c.last_of-start.result c.in_ok-code.code.items)
-    (sym c.requires.first)
+    c.version.ensures
     ∙ ap (λ m. f made.version m c.last_of-start.result c.in_ok-code.code.items) c.in_ok-monitors.ensures
     ∙ ap (λ s. f made.version made.monitors s c.in_ok-code.code.items) begin
     ∙ ap (f made.version made.monitors made.start) code

@@ -1,6 +1,6 @@
 use Rattle.std.proofs.Common.{inl, inr, map}
 use Rattle.std.proofs.lemmas.Result.{IfOk-weaker}
-use Rattle.mesamon.proofs.Endings.{answered, done_by, executed, explained_as, explored_as, listed_as}
+use Rattle.mesamon.proofs.Endings.{answered, compiled_as, done_by, executed, explained_as, explored_as, listed_as}
 use Rattle.mesamon.proofs.Endings.{nothing_written, ran}
 use Rattle.commandline.proofs.Workers.{compiling_workers}
 use Rattle.mesamon.proofs.commands.do_job.Goals as goal
@@ -8,7 +8,7 @@ use Rattle.mesamon.proofs.commands.do_job.Goals as goal
 pub compile_file-requires-after_bounds : goal.compile_file-requires-after_bounds
 compile_file-requires-after_bounds g c κs within =
     compiling_workers (map (λ w. w.now) c.args.words.now) c.in_ok-file.field-0 c.in-Compile.file c.in-Compile.out c.in-Compile.workers
-    c.in-Compile.hints c.in_ok-file.ensures.job c.in-Compile.is
+    c.in-Compile.version c.in-Compile.hints c.in_ok-file.ensures.job c.in-Compile.is
 
 pub returns-in-Check : goal.returns-in-Check
 returns-in-Check g c =
@@ -20,7 +20,7 @@ pub returns-in-Compile : goal.returns-in-Compile
 returns-in-Compile g c =
     let told = c.compile_file.ensures in
     answered _ _ _ _ c.in_ok-file.field-0 c.compile_file.result c.in_ok-file.ensures.job
-    (done_by c.in_ok-file.field-0 _ _ _ _ c.compile_file.result (λ h. inl h) told.done told.wrote)
+    (done_by c.in_ok-file.field-0 _ _ _ _ c.compile_file.result (λ h. inl (compiled_as _ _ _ c.in-Compile.is h)) told.done told.wrote)
 
 pub returns-in-List : goal.returns-in-List
 returns-in-List g c =

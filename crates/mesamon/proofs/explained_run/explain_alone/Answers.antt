@@ -1,10 +1,14 @@
 use Rattle.std.proofs.Common.{◌<◌, ◌^◌, arith, subst, sym}
 use Rattle.program.specs.Names.{said_by}
-use Rattle.mesamon.proofs.RunsExplained.{of_code, run_explained}
+use Rattle.mesamon.proofs.RunsExplained.{of_code, of_own_version, run_explained}
 use Rattle.mesamon.specs.Alone.{outside_alone}
 use Rattle.mesamon.specs.Explaining.{IsWantOfMemory}
 use Rattle.mesamon.proofs.Failing.{passed}
 use Rattle.mesamon.proofs.explained_run.explain_alone.Goals as goal
+
+pub explain_run-requires-clause-own : goal.explain_run-requires-clause-own
+explain_run-requires-clause-own c =
+    of_own_version (said_by c.in_ok-checked.checked) c.in_ok-checked.lowered c.in_ok-checked.ensures.compiled.code
 
 pub returns-clause-explained : goal.returns-clause-explained
 returns-clause-explained c =

@@ -1,9 +1,13 @@
 use Rattle.program.specs.Names.{said_by}
 use Rattle.mesamon.specs.SourceLog.{IsOfLog, IsRefusedLog}
 use Rattle.mesamon.specs.declared.source_log.SourceLogFault.TheVariants.{Memory}
-use Rattle.mesamon.proofs.RunsExplained.{of_code}
+use Rattle.mesamon.proofs.RunsExplained.{of_code, of_own_version}
 use Rattle.mesamon.proofs.SourceLogs.{passes_on, reported, stopped}
 use Rattle.mesamon.proofs.source_log.explain_lines.Goals as goal
+
+pub explain_entries-requires : goal.explain_entries-requires
+explain_entries-requires c =
+    of_own_version (said_by c.in_ok-checked.checked) c.in_ok-checked.lowered c.in_ok-checked.ensures.compiled.code
 
 pub returns-in_err-explained-clause-fault : goal.returns-in_err-explained-clause-fault
 returns-in_err-explained-clause-fault c =

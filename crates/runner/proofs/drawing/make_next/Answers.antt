@@ -1,14 +1,15 @@
-use Rattle.std.proofs.Common.{refl, suc}
-use Rattle.words.specs.Limits.{most_threads}
+use Rattle.std.proofs.Common.{refl, subst, sym}
+use Rattle.runner.specs.Rounds.{NobodyPassed}
 use Rattle.runner.specs.Views.{log_state}
-use Rattle.runner.proofs.Drawn.{idle_so, none_stopped}
+use Rattle.runner.proofs.Drawn.{idle_so}
 use Rattle.runner.proofs.drawing.make_next.Goals as goal
 
 pub loop-drawn-init : goal.loop-drawn-init
 loop-drawn-init g c = record {
   same = refl;
   past = c.requires.past;
-  stopped = none_stopped g.J.RunName.program g.J.RunName.limit (suc most_threads) (log_state c.args.shared.now);
+  stopped = λ t is. absurd (c.requires.nobody t is);
+  nobody = λ none. c.requires.nobody;
 }
 
 pub returns-clause-none : goal.returns-clause-none

@@ -1,5 +1,5 @@
-use Rattle.std.proofs.Common.{◌≡◌}
-use Rattle.runner.specs.Rounds.{AllPast, AllStopped, left}
+use Rattle.std.proofs.Common.{◌≡◌, false}
+use Rattle.runner.specs.Rounds.{AllPast, AllStopped, NobodyPassed, left}
 use Rattle.runner.specs.Views.{log_state}
 use Rattle.runner.proofs.drawing.make_next.Given as goal
 
@@ -8,6 +8,7 @@ invariant-loop-drawn g l = record {
   same : log_state l.shared ≡ log_state l.fn.shared;
   past : AllPast g.J.RunName.program g.J.RunName.limit (log_state l.shared) l.refused;
   stopped : AllStopped g.J.RunName.program g.J.RunName.limit (log_state l.shared) l.passed;
+  nobody : l.skipped ≡ false → NobodyPassed l.passed;
 }
 
 abbrev pub decreases-loop-drawn : goal.decreases-loop-drawn

@@ -1,8 +1,11 @@
 use Rattle.std.proofs.Common.{suc}
 use Rattle.words.specs.Limits.{most_threads}
 use Rattle.runner.specs.Views.{log_state}
-use Rattle.runner.proofs.Passing.{none_past}
+use Rattle.runner.proofs.Passing.{none_past, none_true}
 use Rattle.runner.proofs.drawing.run_drawn.Goals as goal
 
 pub loop-init : goal.loop-init
-loop-init g c = none_past g.J.RunName.program g.J.RunName.limit (suc most_threads) (log_state c.args.shared.now)
+loop-init g c = record {
+  past = none_past g.J.RunName.program g.J.RunName.limit (suc most_threads) (log_state c.args.shared.now);
+  nobody = none_true (suc most_threads);
+}

@@ -10,13 +10,13 @@ use Rattle.runner.proofs.rounds.run_round.Given as goal
 abbrev pub invariant-loop-t : goal.invariant-loop-t
 invariant-loop-t g l = record {
   past : AllPast g.J.RunName.program g.J.RunName.limit (log_state l.shared) l.refused;
-  from_one : 0 < l.t;
-  few : l.t ≤ suc most_threads;
+  from_one : 0 < l.from;
+  few : l.from ≤ suc most_threads;
   made : l.made ≡ true → (cost l.fn.shared.log < cost l.shared.log) × (cost l.shared.log ≤ g.J.RunName.limit);
   same : l.made ≡ false → log_state l.fn.shared ≡ log_state l.shared;
-  none : l.made ≡ false → (u : ℕ) → u < l.t → can_move (log_state l.shared).concrete.concrete u ≡ true
+  none : l.made ≡ false → (u : ℕ) → u < l.from → can_move (log_state l.shared).concrete.concrete u ≡ true
       → IsStopped g.J.RunName.program g.J.RunName.limit l.shared.log (log_state l.shared).concrete u;
 }
 
 abbrev pub decreases-loop-t : goal.decreases-loop-t
-decreases-loop-t g l = suc most_threads - l.t
+decreases-loop-t g l = suc most_threads - l.from

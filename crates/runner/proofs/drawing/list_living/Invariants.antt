@@ -2,7 +2,7 @@ use Rattle.std.proofs.Common.{◌≤◌, length}
 use Rattle.std.specs.List.{All}
 use Rattle.machine.specs.Views.{concrete}
 use Rattle.runner.specs.Rounds.{IsUnrefused}
-use Rattle.runner.proofs.drawing.living.Given as goal
+use Rattle.runner.proofs.drawing.list_living.Given as goal
 
 abbrev pub invariant-loop-before : goal.invariant-loop-before
 invariant-loop-before l = record {
