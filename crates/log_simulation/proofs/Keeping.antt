@@ -12,7 +12,6 @@ use Rattle.machine.specs.States.{state_of as machine_state, thread_of}
 use Rattle.machine.specs.ConcretePieces.{is_piece}
 use Rattle.piece_machine.specs.PieceConcrete.{PieceConcrete, kill_piece, stray_piece}
 use Rattle.piece_machine.proofs.Beyond.{piece_kills_so, piece_strays_so}
-use Rattle.machine.specs.Views.{IsWellFormed}
 use Rattle.machine.proofs.Outside.{is_sleeper}
 use Rattle.machine.specs.declared.event.Entry.{Entry}
 use Rattle.machine.specs.declared.event.Event.{Event}

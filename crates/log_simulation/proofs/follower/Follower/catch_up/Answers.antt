@@ -1,4 +1,4 @@
-use Rattle.std.proofs.Common.{refl, ap, sym, ◌∙◌, arith}
+use Rattle.std.proofs.Common.{refl, sym, ◌∙◌, arith}
 use Rattle.std.proofs.lemmas.Bool.{false≢true}
 use Rattle.log_simulation.specs.Going.{followed}
 use Rattle.log_simulation.proofs.Versions.{same_followed}
