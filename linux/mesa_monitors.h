@@ -91,7 +91,7 @@ _Static_assert(sizeof(_Atomic uint32_t) == 4, "a futex word has 32 bits");
 
 /* ---- Processes ---- */
 
-enum { MESA_MOST_PROCESSES = 64, MESA_MOST_ARGUMENTS = 16, MESA_STACK = 1 << 20 };
+enum { MESA_MOST_PROCESSES = 1000, MESA_MOST_ARGUMENTS = 16, MESA_STACK = 1 << 20 };
 
 /* How a process ended. */
 enum mesa_outcome {
@@ -230,18 +230,18 @@ static inline char *mesa_digits(char *end, int32_t number)
     return end;
 }
 
-/* Says on standard error which processes aborted, as `mesamon run` does; each number has at most two digits. */
+/* Says on standard error which processes aborted, as `mesamon run` does; a number has at most four digits. */
 static inline void mesa_account(void)
 {
     uint32_t made = atomic_load(&mesa_made);
     for (uint32_t number = 1; number <= made; number++) {
         uint32_t outcome = atomic_load(&mesa_processes[number].outcome);
-        char digits[2];
-        char *begin = mesa_digits(digits + 2, (int32_t)number);
+        char digits[4];
+        char *begin = mesa_digits(digits + 4, (int32_t)number);
         if (outcome == MESA_ENDED)
             continue;
         mesa_write(2, "process ", 8);
-        mesa_write(2, begin, (size_t)(digits + 2 - begin));
+        mesa_write(2, begin, (size_t)(digits + 4 - begin));
         mesa_write(2, " aborted: fault ", 16);
         mesa_digits(digits + 1, (int32_t)outcome);
         digits[1] = '\n';

@@ -7,7 +7,7 @@ import re
 
 WORDS = re.compile(r"--[^\n]*|[A-Za-z][A-Za-z0-9]*|[0-9]+|:=|<=|>=|[:;,.()\[\]=#<>+*/-]")
 LEAST, MOST = -2**31, 2**31 - 1
-MOST_PROCESSES = 64
+MOST_PROCESSES = 1000
 
 # The faults by their numbers.
 OUT_OF_RANGE, BY_ZERO, INDEX, NOT_JOINABLE, TABLE_FULL, ABORTED, ABANDONED, JOINED_ABORTED = range(1, 9)

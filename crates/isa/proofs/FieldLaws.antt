@@ -10,7 +10,7 @@ use Rattle.std.proofs.lemmas.List.Concat.{flat_map-cons}
 use Rattle.std.proofs.lemmas.List.Sums.{sum_by-cons}
 use Rattle.isa.specs.Limits.{most_monitors, most_member_words, most_instructions, most_locals}
 use Rattle.isa.specs.declared.fault.DecodeFault.{DecodeFault}
-use Rattle.isa.specs.declared.fault.DecodeFault.TheVariants.{Limit}
+use Rattle.isa.specs.declared.fault.DecodeFault.TheVariants.{Version, Limit}
 use Rattle.isa.specs.declared.instr.Instr.{Instr}
 use Rattle.isa.specs.declared.instr.Instr.TheVariants.{Push, GetLocal, SetLocal, Pop, Operate, Negate, Not, Jump}
 use Rattle.isa.specs.declared.instr.Instr.TheVariants.{JumpIfZero, Call, Ret, RetValue, Index, OwnNumber}
@@ -24,6 +24,8 @@ use Rattle.isa.specs.Instructions.{slot_number, operands, IsSlot, IsInstruction}
 use Rattle.isa.specs.Numbers.{number}
 use Rattle.isa.specs.Opcodes.{row_of, process_words, faults, slot_of, plain_opcodes, Form, with_one, with_two}
 use Rattle.isa.specs.Opcodes.{place_opcodes, operand_opcodes, opcode}
+use Rattle.words.specs.declared.version.ImageVersion.{ImageVersion}
+use Rattle.words.specs.declared.version.ImageVersion.TheVariants.{One, Two}
 use Rattle.words.specs.declared.outcome.Fault.{Fault}
 use Rattle.words.specs.declared.outcome.Fault.TheVariants.{ResultOutOfRange, DivisionByZero, IndexOutOfRange}
 use Rattle.words.specs.declared.outcome.Fault.TheVariants.{HandleNotJoinable, ProcessTableFull, AbortStatement}
@@ -32,11 +34,12 @@ use Rattle.words.specs.declared.process.ProcessWord.{ProcessWord}
 use Rattle.words.specs.declared.process.ProcessWord.TheVariants.{Head, Pending, Id, Claim, Result, Outcome}
 use Rattle.words.specs.Outcomes.{fault_number}
 use Rattle.words.specs.Process.{number_of}
-use Rattle.isa.specs.Spelling.{numbers, instruction, instructions, monitor_table, code_table, AreWords}
-use Rattle.isa.specs.Reading.{◌>>=◌, fixed_at, number_at, limited_at, numbers_at, monitors_at, made_at, operands_at}
-use Rattle.isa.specs.Reading.{behind_opcode, instruction_at, instructions_at, code_at}
+use Rattle.isa.specs.Spelling.{version, numbers, instruction, instructions, monitor_table, code_table, AreWords}
+use Rattle.isa.specs.Reading.{◌>>=◌, fixed_at, version_at, number_at, limited_at, numbers_at, monitors_at, made_at}
+use Rattle.isa.specs.Reading.{operands_at, behind_opcode, instruction_at, instructions_at, code_at}
 use Rattle.isa.proofs.NumberLaws.{groups_take, groups_again}
-use Rattle.isa.proofs.Parts.{bind_ok, guard_ok, chosen, ok_is, IsBytes, IsBytes-rest, Takes, Takes-nothing, Takes-then}
+use Rattle.isa.proofs.Parts.{bind_ok, guard_ok, chosen, done, ok_is, IsBytes, IsBytes-rest, Takes, Takes-nothing}
+use Rattle.isa.proofs.Parts.{Takes-then}
 
 pub number_takes : (bytes : List ℕ) (x : ℕ × List ℕ) → IsBytes bytes → number_at bytes ≡ Ok x → Takes bytes
     (number x.0) x.1 × (x.0 < 2 ^ 32)
@@ -67,6 +70,33 @@ pub fixed_again : (wanted : List ℕ) (fault : DecodeFault) (rest : List ℕ) �
 unfolding fixed_at
 fixed_again [] fault rest = refl
 fixed_again (b ∷ wanted) fault rest = rw (eq-eqb b b refl) (fixed_again wanted fault rest)
+
+-- ---- the version
+
+pub version_takes : (bytes : List ℕ) (x : ImageVersion × List ℕ) → IsBytes bytes → version_at bytes ≡ Ok x → Takes
+    bytes (version x.0) x.1
+unfolding version_at
+version_takes [] x fits e = absurd cc
+version_takes (b ∷ bytes) x fits e =
+    elim (chosen (eqb b 1) (Ok (One, bytes)) (cond (eqb b 2) (Ok (Two, bytes)) (Err Version)) (Ok x) e) [
+      | inl w ↦ is_version One (ap (λ (n : ℕ). n ∷ []) (eqb-true b 1 w.0)) w.1
+      | inr w ↦ elim (chosen (eqb b 2) (Ok (Two, bytes)) (Err Version) (Ok x) w.1) [
+        | inl v ↦ is_version Two (ap (λ (n : ℕ). n ∷ []) (eqb-true b 2 v.0)) v.1
+        | inr v ↦ absurd (cc (v.1))
+      ]
+    ]
+  where
+    is_version : (v : ImageVersion) → b ∷ [] ≡ version v → done (v, bytes) ≡ Ok x → Takes (b ∷ bytes) (version x.0) x.1
+    is_version v byte same = subst (λ (y : ImageVersion × List ℕ). Takes (b ∷ bytes) (version y.0) y.1)
+        (ok_is (v, bytes) x same) (record {
+          parts = ap (λ (text : List ℕ). text ++ bytes) byte;
+          rest_fits = IsBytes-rest b bytes fits;
+        })
+
+pub version_again : (v : ImageVersion) (rest : List ℕ) → version_at (version v ++ rest) ≡ Ok (v, rest)
+unfolding version_at
+version_again One rest = refl
+version_again Two rest = refl
 
 -- ---- a number up to a limit
 

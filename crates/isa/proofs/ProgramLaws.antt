@@ -5,7 +5,6 @@ use Rattle.std.specs.List.{AllByRecursion}
 use Rattle.std.specs.Prelude.{IfOk, MatchResult}
 use Rattle.std.proofs.lemmas.Bool.{eqb-true}
 use Rattle.std.proofs.lemmas.List.{append-nil, nil_from_length}
-use Rattle.words.specs.declared.version.ImageVersion.TheVariants.{One}
 use Rattle.isa.specs.Limits.{most_monitors, most_member_words, most_instructions}
 use Rattle.isa.specs.declared.fault.DecodeFault.{DecodeFault}
 use Rattle.isa.specs.declared.fault.DecodeFault.TheVariants.{BadMagic, Version, Short, BadInstr, BadTarget, Trailing}
@@ -14,10 +13,11 @@ use Rattle.isa.specs.Numbers.{number}
 use Rattle.isa.specs.Instructions.{operands, IsInstruction}
 use Rattle.isa.specs.Programs.{Program, IsProgram}
 use Rattle.isa.specs.Spelling.{AreWords, magic, version, monitor_table, code_table, spelling, IsSpelled}
-use Rattle.isa.specs.Reading.{◌>>=◌, Gives, fixed_at, number_at, monitors_at, code_at, image_at, stays_inside, at_end}
-use Rattle.isa.specs.Reading.{program_of}
-use Rattle.isa.proofs.FieldLaws.{number_takes, number_again, fixed_takes, fixed_again, monitors_take, monitors_bound}
-use Rattle.isa.proofs.FieldLaws.{monitors_again, code_takes, code_bound, code_limit, code_again}
+use Rattle.isa.specs.Reading.{◌>>=◌, Gives, fixed_at, version_at, number_at, monitors_at, code_at, image_at, stays_inside}
+use Rattle.isa.specs.Reading.{at_end, program_of}
+use Rattle.isa.proofs.FieldLaws.{number_takes, number_again, fixed_takes, fixed_again, version_takes, version_again}
+use Rattle.isa.proofs.FieldLaws.{monitors_take, monitors_bound, monitors_again, code_takes, code_bound, code_limit}
+use Rattle.isa.proofs.FieldLaws.{code_again}
 use Rattle.isa.proofs.TargetLaws.{lies, lies_again}
 use Rattle.isa.proofs.Parts.{bind_ok, chosen, done, ok_is, IsBytes, Takes, Takes-then}
 
@@ -37,7 +37,6 @@ nothing_left bytes text rest parts none = sym (parts ∙ ap (λ (left : List ℕ
 
 -- what was read, but for the start and the targets
 record IsShort (p : Program) : Type 0 where
-  first : p.version ≡ One
   few_monitors : length p.monitors ≤ most_monitors
   few_members : sum p.monitors ≤ most_member_words
   short : length p.code ≤ most_instructions
@@ -48,32 +47,32 @@ image_takes : (bytes : List ℕ) (x : Program × List ℕ) → IsBytes bytes →
     (spelling x.0) x.1 × IsShort x.0
 unfolding image_at
 image_takes bytes x fits e =
-    let a = bind_ok (fixed_at magic BadMagic bytes) (λ marked. fixed_at version Version marked >>= λ versioned.
-    monitors_at versioned >>= λ monitors. number_at monitors.1 >>= λ start. code_at start.1 >>= λ code. Ok
-    (record { version = One; monitors = monitors.0; start = start.0; code = code.0 }, code.1)) x e in
-    let b = bind_ok (fixed_at version Version a.0) (λ versioned. monitors_at versioned >>= λ monitors. number_at
-    monitors.1 >>= λ start. code_at start.1 >>= λ code. Ok
-    (record { version = One; monitors = monitors.0; start = start.0; code = code.0 }, code.1)) x a.2 in
-    let m = bind_ok (monitors_at b.0) (λ monitors. number_at monitors.1 >>= λ start. code_at start.1 >>= λ code. Ok
-    (record { version = One; monitors = monitors.0; start = start.0; code = code.0 }, code.1)) x b.2 in
+    let a = bind_ok (fixed_at magic BadMagic bytes) (λ marked. version_at marked >>= λ versioned. monitors_at
+    versioned.1 >>= λ monitors. number_at monitors.1 >>= λ start. code_at start.1 >>= λ code. Ok
+    (record { version = versioned.0; monitors = monitors.0; start = start.0; code = code.0 }, code.1)) x e in
+    let b = bind_ok (version_at a.0) (λ versioned. monitors_at versioned.1 >>= λ monitors. number_at monitors.1 >>=
+    λ start. code_at start.1 >>= λ code. Ok
+    (record { version = versioned.0; monitors = monitors.0; start = start.0; code = code.0 }, code.1)) x a.2 in
+    let m = bind_ok (monitors_at b.0.1) (λ monitors. number_at monitors.1 >>= λ start. code_at start.1 >>= λ code. Ok
+    (record { version = b.0.0; monitors = monitors.0; start = start.0; code = code.0 }, code.1)) x b.2 in
     let s = bind_ok (number_at m.0.1) (λ start. code_at start.1 >>= λ code. Ok
-    (record { version = One; monitors = m.0.0; start = start.0; code = code.0 }, code.1)) x m.2 in
-    let i = bind_ok (code_at s.0.1) (λ code. Ok (record { version = One; monitors = m.0.0; start = s.0.0; code = code.0 }, code.1))
-    x s.2 in
+    (record { version = b.0.0; monitors = m.0.0; start = start.0; code = code.0 }, code.1)) x m.2 in
+    let i = bind_ok (code_at s.0.1) (λ code. Ok
+    (record { version = b.0.0; monitors = m.0.0; start = s.0.0; code = code.0 }, code.1)) x s.2 in
     let t0 = fixed_takes magic BadMagic bytes a.0 fits a.1 in
-    let t1 = fixed_takes version Version a.0 b.0 t0.rest_fits b.1 in
-    let t2 = monitors_take b.0 m.0 t1.rest_fits m.1 in
+    let t1 = version_takes a.0 b.0 t0.rest_fits b.1 in
+    let t2 = monitors_take b.0.1 m.0 t1.rest_fits m.1 in
     let t3 = number_takes m.0.1 s.0 t2.rest_fits s.1 in
     let t4 = code_takes s.0.1 i.0 t3.0.rest_fits i.1 in
-    let to1 = Takes-then bytes magic a.0 version b.0 t0 t1 in
-    let to2 = Takes-then bytes (magic ++ version) b.0 (monitor_table m.0.0) m.0.1 to1 t2 in
-    let to3 = Takes-then bytes (magic ++ version ++ monitor_table m.0.0) m.0.1 (number s.0.0) s.0.1 to2 t3.0 in
-    let to4 = Takes-then bytes (magic ++ version ++ monitor_table m.0.0 ++ number s.0.0) s.0.1 (code_table i.0.0)
-    i.0.1 to3 t4.0 in
-    let few = monitors_bound b.0 m.0 m.1 in
-    is_read bytes (record { version = One; monitors = m.0.0; start = s.0.0; code = i.0.0 }, i.0.1) x i.2 to4
+    let v = version b.0.0 in
+    let to1 = Takes-then bytes magic a.0 v b.0.1 t0 t1 in
+    let to2 = Takes-then bytes (magic ++ v) b.0.1 (monitor_table m.0.0) m.0.1 to1 t2 in
+    let to3 = Takes-then bytes (magic ++ v ++ monitor_table m.0.0) m.0.1 (number s.0.0) s.0.1 to2 t3.0 in
+    let to4 = Takes-then bytes (magic ++ v ++ monitor_table m.0.0 ++ number s.0.0) s.0.1 (code_table i.0.0) i.0.1 to3
+    t4.0 in
+    let few = monitors_bound b.0.1 m.0 m.1 in
+    is_read bytes (record { version = b.0.0; monitors = m.0.0; start = s.0.0; code = i.0.0 }, i.0.1) x i.2 to4
     (record {
-      first = refl;
       few_monitors = few.0;
       few_members = few.1;
       short = code_bound s.0.1 i.0 i.1;
@@ -104,7 +103,10 @@ program_takes bytes p fits e =
       targets = inside.1;
     } in
     subst (λ (q : Program). IsSpelled q × (spelling q ≡ bytes)) last.2
-    (record { first = t.1.first; within = within; words = t.1.words }, whole)
+    (record { within = within; words = t.1.words }, whole)
+
+regrouped : (v m s c rest : List ℕ) → magic ++ v ++ m ++ s ++ c ++ rest ≡ magic ++ (v ++ (m ++ (s ++ (c ++ rest))))
+regrouped v m s c rest = simp append_assoc
 
 pub image_again : (p : Program) (rest : List ℕ) → IsSpelled p → image_at (spelling p ++ rest) ≡ Ok (p, rest)
 unfolding image_at
@@ -120,14 +122,15 @@ image_again p rest is =
     ≡ Ok (p.monitors, number p.start ++ (code_table p.code ++ rest)) = monitors_again p.monitors
     (number p.start ++ (code_table p.code ++ rest)) is.within.few_monitors is.within.few_members in
     let behind : List ℕ = monitor_table p.monitors ++ (number p.start ++ (code_table p.code ++ rest)) in
-    let regrouped : spelling p ++ rest ≡ magic ++ (version ++ behind) = simp append_assoc in
-    ap image_at regrouped ∙ rw (
-      fixed_again magic BadMagic (version ++ behind),
-      fixed_again version Version behind,
+    let apart : spelling p ++ rest ≡ magic ++ (version p.version ++ behind) = regrouped
+    (version p.version) (monitor_table p.monitors) (number p.start) (code_table p.code) rest in
+    ap image_at apart ∙ rw (
+      fixed_again magic BadMagic (version p.version ++ behind),
+      version_again p.version behind,
       monitors,
       start,
       code,
-    ) (ap (λ v. Ok (record { version = v; monitors = p.monitors; start = p.start; code = p.code }, rest)) (sym is.first))
+    ) refl
 
 pub program_again : (p : Program) → IsSpelled p → program_of (spelling p) ≡ Ok p
 unfolding program_of

@@ -1,16 +1,17 @@
 -- What is read of some bytes stands when more follow, but for a byte that is missing.
 use Rattle.std.proofs.Common.{◌≡◌, ◌≢◌, ℕ, zero, suc, ◌+◌, ◌-◌, ◌*◌, Bool, true, false, cond, ltb, eqb, List, [], ◌∷◌}
 use Rattle.std.proofs.Common.{◌++◌, Option, Some, None, Result, Ok, Err, refl}
-use Rattle.words.specs.declared.version.ImageVersion.TheVariants.{One}
+use Rattle.words.specs.declared.version.ImageVersion.{ImageVersion}
+use Rattle.words.specs.declared.version.ImageVersion.TheVariants.{One, Two}
 use Rattle.isa.specs.Limits.{most_monitors, most_member_words, most_instructions}
 use Rattle.isa.specs.declared.fault.DecodeFault.{DecodeFault}
 use Rattle.isa.specs.declared.fault.DecodeFault.TheVariants.{BadMagic, Version, Short, BadInstr, Limit}
 use Rattle.isa.specs.declared.instr.Instr.{Instr}
 use Rattle.isa.specs.Opcodes.{Form, with_one, with_two, plain_opcodes, operand_opcodes, row_of}
 use Rattle.isa.specs.Programs.{Program}
-use Rattle.isa.specs.Spelling.{magic, version}
-use Rattle.isa.specs.Reading.{◌>>=◌, fixed_at, groups_at, number_at, limited_at, numbers_at, monitors_at, made_at}
-use Rattle.isa.specs.Reading.{operands_at, behind_opcode, instruction_at, instructions_at, code_at, image_at}
+use Rattle.isa.specs.Spelling.{magic}
+use Rattle.isa.specs.Reading.{◌>>=◌, fixed_at, version_at, groups_at, number_at, limited_at, numbers_at, monitors_at}
+use Rattle.isa.specs.Reading.{made_at, operands_at, behind_opcode, instruction_at, instructions_at, code_at, image_at}
 
 -- of one answer, and the answer with more bytes behind
 abbrev pub StandsAt : {A : Type 0} → Result (A × List ℕ) DecodeFault → Result (A × List ℕ) DecodeFault → List ℕ → Type 0
@@ -45,6 +46,14 @@ fixed-stands (b ∷ wanted) fault (c ∷ bytes) more next each =
         more → StandsAt (cond test x (Err fault) >>= next) (cond test longer (Err fault) >>= next) more
     test-stands true x longer first = first
     test-stands false x longer first = λ other. refl
+
+version-stands : Stands version_at
+unfolding version_at
+version-stands [] more = λ other. absurd (other refl)
+version-stands (b ∷ bytes) more = cond-stands (eqb b 1) (Ok (One, bytes)) (Ok (One, bytes ++ more))
+    (cond (eqb b 2) (Ok (Two, bytes)) (Err Version)) (cond (eqb b 2) (Ok (Two, bytes ++ more)) (Err Version)) more
+    refl (cond-stands (eqb b 2) (Ok (Two, bytes)) (Ok (Two, bytes ++ more)) (Err Version) (Err Version) more refl
+    (λ other. refl))
 
 groups-stand : (left : ℕ) → Stands (groups_at left)
 unfolding groups_at
@@ -132,43 +141,33 @@ code-stands bytes more = then-stands (limited_at most_instructions bytes) (limit
 pub image-stands : Stands image_at
 unfolding image_at
 image-stands bytes more =
-    fixed-stands {A = Program} magic BadMagic bytes more (λ marked. fixed_at version Version marked >>= λ versioned.
-    monitors_at versioned >>= λ monitors. number_at monitors.1 >>= λ start. code_at start.1 >>= λ code. Ok
-    (record { version = One; monitors = monitors.0; start = start.0; code = code.0 }, code.1))
-    (λ marked after. fixed-stands {A = Program} version Version marked after (λ versioned. monitors_at versioned >>=
-    λ monitors. number_at monitors.1 >>= λ start. code_at start.1 >>= λ code. Ok
-    (record { version = One; monitors = monitors.0; start = start.0; code = code.0 }, code.1)) behind-version)
+    fixed-stands {A = Program} magic BadMagic bytes more (λ marked. version_at marked >>= λ versioned. monitors_at
+    versioned.1 >>= λ monitors. number_at monitors.1 >>= λ start. code_at start.1 >>= λ code. Ok
+    (record { version = versioned.0; monitors = monitors.0; start = start.0; code = code.0 }, code.1))
+    (λ marked after. then-stands {B = Program} (version_at marked) (version_at (marked ++ after)) after
+    (λ version left. monitors_at left >>= λ monitors. number_at monitors.1 >>= λ start. code_at start.1 >>= λ code. Ok
+    (record { version = version; monitors = monitors.0; start = start.0; code = code.0 }, code.1))
+    (version-stands marked after) behind-version)
   where
-    behind-start : (monitors : List ℕ) (start : ℕ) → Stands {A = Program} (λ rest. code_at rest >>= λ code. Ok
-        (record { version = One; monitors = monitors; start = start; code = code.0 }, code.1))
-    behind-start monitors start rest after = then-stands {B = Program} (code_at rest) (code_at (rest ++ after)) after
-        (λ code left. Ok (record { version = One; monitors = monitors; start = start; code = code }, left)) (code-stands rest after)
+    behind-start : (version : ImageVersion) (monitors : List ℕ) (start : ℕ) → Stands {A = Program} (λ rest. code_at
+        rest >>= λ code. Ok (record { version = version; monitors = monitors; start = start; code = code.0 }, code.1))
+    behind-start version monitors start rest after = then-stands {B = Program} (code_at rest) (code_at
+        (rest ++ after)) after (λ code left. Ok
+        (record { version = version; monitors = monitors; start = start; code = code }, left)) (code-stands rest after)
         (λ code left behind. refl)
 
-    behind-monitors : (monitors : List ℕ) → Stands {A = Program} (λ rest. number_at rest >>= λ start. code_at start.1
-        >>= λ code. Ok (record { version = One; monitors = monitors; start = start.0; code = code.0 }, code.1))
-    behind-monitors monitors rest after = then-stands {B = Program} (number_at rest) (number_at (rest ++ after))
-        after (λ start left. code_at left >>= λ code. Ok (
-          record {
-            version = One;
-            monitors = monitors;
-            start = start;
-            code = code.0;
-          },
-          code.1,
-        )) (number-stands rest after) (behind-start monitors)
+    behind-monitors : (version : ImageVersion) (monitors : List ℕ) → Stands {A = Program} (λ rest. number_at rest >>=
+        λ start. code_at start.1 >>= λ code. Ok
+        (record { version = version; monitors = monitors; start = start.0; code = code.0 }, code.1))
+    behind-monitors version monitors rest after = then-stands {B = Program} (number_at rest) (number_at
+        (rest ++ after)) after (λ start left. code_at left >>= λ code. Ok
+        (record { version = version; monitors = monitors; start = start; code = code.0 }, code.1))
+        (number-stands rest after) (behind-start version monitors)
 
-    behind-version : Stands {A = Program} (λ versioned. monitors_at versioned >>= λ monitors. number_at monitors.1
-        >>= λ start. code_at start.1 >>= λ code. Ok (
-          record {
-            version = One;
-            monitors = monitors.0;
-            start = start.0;
-            code = code.0;
-          },
-          code.1,
-        ))
-    behind-version versioned after = then-stands {B = Program} (monitors_at versioned)
-        (monitors_at (versioned ++ after)) after (λ monitors left. number_at left >>= λ start. code_at start.1 >>=
-        λ code. Ok (record { version = One; monitors = monitors; start = start.0; code = code.0 }, code.1))
-        (monitors-stand versioned after) behind-monitors
+    behind-version : (version : ImageVersion) → Stands {A = Program} (λ rest. monitors_at rest >>= λ monitors.
+        number_at monitors.1 >>= λ start. code_at start.1 >>= λ code. Ok
+        (record { version = version; monitors = monitors.0; start = start.0; code = code.0 }, code.1))
+    behind-version version rest after = then-stands {B = Program} (monitors_at rest) (monitors_at (rest ++ after))
+        after (λ monitors left. number_at left >>= λ start. code_at start.1 >>= λ code. Ok
+        (record { version = version; monitors = monitors; start = start.0; code = code.0 }, code.1))
+        (monitors-stand rest after) (behind-monitors version)

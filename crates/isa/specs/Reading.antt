@@ -1,7 +1,8 @@
 -- Reading an image from left to right, with the first fault that is met. A field is a value and the bytes after it.
 use Rattle.std.specs.Prelude.{◌≡◌, ◌≢◌, ℕ, zero, suc, ◌+◌, ◌-◌, ◌*◌, List, [], ◌∷◌, length, Option, Some, None}
 use Rattle.std.specs.Prelude.{Result, Ok, Err, Bool, true, false, nat_lt, ◌==◌, if◌then◌else◌}
-use Rattle.words.specs.declared.version.ImageVersion.TheVariants.{One}
+use Rattle.words.specs.declared.version.ImageVersion.{ImageVersion}
+use Rattle.words.specs.declared.version.ImageVersion.TheVariants.{One, Two}
 use Rattle.isa.specs.declared.fault.DecodeFault.{DecodeFault}
 use Rattle.isa.specs.declared.fault.DecodeFault.TheVariants.{BadMagic, Version, Short, BadInstr, BadTarget, Trailing}
 use Rattle.isa.specs.declared.fault.DecodeFault.TheVariants.{Limit, Memory}
@@ -10,7 +11,7 @@ use Rattle.isa.specs.Instructions.{target}
 use Rattle.isa.specs.Limits.{most_monitors, most_member_words, most_instructions}
 use Rattle.isa.specs.Opcodes.{Form, with_one, with_two, plain_opcodes, operand_opcodes, row_of}
 use Rattle.isa.specs.Programs.{Program}
-use Rattle.isa.specs.Spelling.{magic, version}
+use Rattle.isa.specs.Spelling.{magic}
 
 infixl 10 ◌>>=◌
 -- reads on, unless a fault was met
@@ -28,6 +29,11 @@ unfoldable pub fixed_at : List ℕ → DecodeFault → List ℕ → Result (List
 fixed_at [] fault bytes = Ok bytes
 fixed_at (b ∷ wanted) fault [] = Err Short
 fixed_at (b ∷ wanted) fault (c ∷ rest) = if c == b then fixed_at wanted fault rest else Err fault
+
+-- the version, which is a byte
+unfoldable pub version_at : List ℕ → Result (ImageVersion × List ℕ) DecodeFault
+version_at [] = Err Short
+version_at (b ∷ rest) = if b == 0x01 then Ok (One, rest) else if b == 0x02 then Ok (Two, rest) else Err Version
 
 -- a number with at most so many bytes before its last: there a byte past 0f is past 4294967295, and a last byte of 00
 -- means that fewer bytes would do
@@ -106,11 +112,11 @@ code_at bytes = do
 unfoldable pub image_at : List ℕ → Result (Program × List ℕ) DecodeFault
 image_at bytes = do
   marked ← fixed_at magic BadMagic bytes
-  versioned ← fixed_at version Version marked
-  monitors ← monitors_at versioned
+  versioned ← version_at marked
+  monitors ← monitors_at versioned.1
   start ← number_at monitors.1
   code ← code_at start.1
-  Ok (record { version = One; monitors = monitors.0; start = start.0; code = code.0 }, code.1)
+  Ok (record { version = versioned.0; monitors = monitors.0; start = start.0; code = code.0 }, code.1)
 
 -- whether a place that an instruction names, if any, is one of so many; and whether all of them are
 abbrev pub leads_below : ℕ → Option ℕ → Bool

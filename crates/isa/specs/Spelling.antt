@@ -1,7 +1,8 @@
 -- The bytes of an image: its one spelling.
-use Rattle.std.specs.Prelude.{ℕ, ◌≡◌, ◌<◌, ◌^◌, List, [], ◌∷◌, ◌++◌, length}
+use Rattle.std.specs.Prelude.{ℕ, ◌<◌, ◌^◌, List, [], ◌∷◌, ◌++◌, length}
 use Rattle.std.specs.List.{flat_map, AllByRecursion}
-use Rattle.words.specs.declared.version.ImageVersion.TheVariants.{One}
+use Rattle.words.specs.declared.version.ImageVersion.{ImageVersion}
+use Rattle.words.specs.declared.version.ImageVersion.TheVariants.{One, Two}
 use Rattle.isa.specs.declared.instr.Instr.{Instr}
 use Rattle.isa.specs.Numbers.{number}
 use Rattle.isa.specs.Instructions.{operands}
@@ -12,9 +13,10 @@ use Rattle.isa.specs.Programs.{Program, IsProgram}
 abbrev pub magic : List ℕ
 magic = 0x4d ∷ 0x46 ∷ 0x55 ∷ 0x54 ∷ []
 
--- the byte of the version
-abbrev pub version : List ℕ
-version = 0x01 ∷ []
+-- the byte of a version
+abbrev pub version : ImageVersion → List ℕ
+version One = 0x01 ∷ []
+version Two = 0x02 ∷ []
 
 -- numbers, one after another
 abbrev pub numbers : List ℕ → List ℕ
@@ -38,14 +40,13 @@ code_table code = number (length code) ++ instructions code
 
 -- the bytes of an image
 abbrev pub spelling : Program → List ℕ
-spelling p = magic ++ version ++ monitor_table p.monitors ++ number p.start ++ code_table p.code
+spelling p = magic ++ version p.version ++ monitor_table p.monitors ++ number p.start ++ code_table p.code
 
 -- a word is below 2 ^ 32
 abbrev pub AreWords : List ℕ → Type 0
 AreWords ns = AllByRecursion (λ n. n < 2 ^ 32) ns
 
--- what has a spelling: a program of the first version within the limits, each operand of which is a word
+-- what has a spelling: a program within the limits, each operand of which is a word
 pub record IsSpelled (p : Program) : Type 0 where
-  pub first : p.version ≡ One
   pub within : IsProgram p
   pub words : AllByRecursion (λ i. AreWords (operands i)) p.code

@@ -13,7 +13,7 @@ pub enum DecodeFault {
     /// One of the first four bytes is not that of an image.
     #[error("image error 1 BadMagic")]
     BadMagic = 1,
-    /// The version byte is not 01.
+    /// The version byte is neither 01 nor 02.
     #[error("image error 2 Version")]
     Version = 2,
     /// The bytes end too early.

@@ -1,6 +1,5 @@
 ghost use Rattle.std.specs.Prelude.{◌≡◌, ◌<◌, slice_get, IfSome, IfOk, length, OnSome};
 ghost use Rattle.std.specs.List.{AllByRecursion};
-ghost use Rattle.words.specs.declared.version.ImageVersion.TheVariants.{One};
 ghost use Rattle.isa.specs.Instructions.{operands, IsInstruction, LeadsBelow};
 ghost use Rattle.isa.specs.Spelling.{AreWords, IsSpelled};
 ghost use Rattle.isa.specs.Limits.{most_instructions};
@@ -11,31 +10,31 @@ use std::alloc::{AllocError, Global};
 use std::marker::Model;
 use words::ImageVersion;
 
-/// The code of a program, where it begins, and how many member words each of its monitors has. Contracts see it as
-/// a `Program` that has a spelling: of the first version, within the limits, each operand below 2^32.
+/// The code of a program, where it begins, how many member words each of its monitors has, and of which version it is.
+/// Contracts see it as a `Program` that has a spelling: within the limits, each operand below 2^32.
 #[derive(Drop)]
 pub struct Image {
+    version: ImageVersion,
     monitors: Vec<u32>,
     start: u32,
     code: Vec<Instr>,
 }
 
 impl Model for Image {
-    ghost use Rattle.words.specs.declared.version.ImageVersion.TheVariants.{One};
     ghost use Rattle.isa.specs.Programs.{Program};
     ghost use Rattle.isa.specs.Spelling.{IsSpelled};
 
     ghost Value = { Program };
 
     ghost view = { λ i. record {
-      version = One;
+      version = i.version;
       monitors = i.monitors.items;
       start = i.start;
       code = i.code.items;
     } };
 
     ghost invariant = { λ i. IsSpelled (record {
-      version = One;
+      version = i.version;
       monitors = i.monitors.items;
       start = i.start;
       code = i.code.items;
@@ -62,27 +61,25 @@ fn code_words(code: &[Instr])
 
 impl Image {
     /// The image of these parts, which are within the limits.
-    pub fn new(monitors: Vec<u32>, start: u32, code: Vec<Instr>) -> Image
-        requires { IsProgram (record { version = One; monitors = monitors.items; start = start; code = code.items }) }
-        ensures { result ≡ record { version = One; monitors = monitors.items; start = start; code = code.items } }
+    pub fn new(version: ImageVersion, monitors: Vec<u32>, start: u32, code: Vec<Instr>) -> Image
+        requires { IsProgram
+            (record { version = version; monitors = monitors.items; start = start; code = code.items }) }
+        ensures { result ≡ record { version = version; monitors = monitors.items; start = start; code = code.items } }
     {
         code_words(code.as_slice());
         Image {
+            version,
             monitors,
             start,
             code,
         }
     }
 
-    /// The version, which says how many processes there can be and where the words of the monitors begin. Contracts see
-    /// it in the program, and that it is the first.
+    /// The version, which says how many processes there can be and where the words of the monitors begin.
     pub fn version(&self) -> ImageVersion
         ensures value { result ≡ self.now.version }
-        ensures first { result ≡ One }
     {
-        // What always holds of an image is known where a field of it is used.
-        let _ = &self.monitors;
-        ImageVersion::One
+        self.version
     }
 
     /// The number of the first instruction of the first process.
@@ -126,6 +123,7 @@ impl Image {
         ensures { IfOk result (λ i. i ≡ self.now) }
     {
         Ok(Image {
+            version: self.version,
             monitors: Vec::from_slice(alloc, self.monitors.as_slice())?,
             start: self.start,
             code: Vec::from_slice(alloc, self.code.as_slice())?,

@@ -2,13 +2,13 @@ ghost use Rattle.std.specs.Prelude.{◌≡◌, [], ◌∷◌, Some, None, IfOk, 
 ghost use Rattle.isa.specs.Opcodes.{row_of, slot_of, process_words, faults, plain_opcodes, place_opcodes};
 ghost use Rattle.isa.specs.Opcodes.{operand_opcodes};
 ghost use Rattle.isa.specs.Programs.{Program};
-ghost use Rattle.isa.specs.Reading.{Gives, fixed_at, number_at, limited_at, numbers_at, monitors_at, operands_at};
-ghost use Rattle.isa.specs.Reading.{instruction_at, instructions_at, code_at, program_of};
+ghost use Rattle.isa.specs.Reading.{Gives, fixed_at, version_at, number_at, limited_at, numbers_at, monitors_at};
+ghost use Rattle.isa.specs.Reading.{operands_at, instruction_at, instructions_at, code_at, program_of};
 ghost use Rattle.isa.specs.Reading as Reading;
 ghost use Rattle.isa.specs.Spelling.{IsSpelled, spelling};
 
 use crate::fault::DecodeFault;
-use crate::format::{MAGIC, VERSION};
+use crate::format::{MAGIC, VERSION_ONE, VERSION_TWO};
 use crate::image::Image;
 use crate::instr::Instr;
 use crate::limits::{
@@ -18,7 +18,7 @@ use crate::opcode;
 use crate::operator::Operator;
 use crate::slot::Slot;
 use std::alloc::Global;
-use words::{Fault, ProcessWord};
+use words::{Fault, ImageVersion, ProcessWord};
 
 fn byte(bytes: &[u8]) -> Result<(u8, &[u8]), DecodeFault>
     ensures { MatchResult result (λ x. bytes.now ≡ x.0 ∷ x.1.now)
@@ -43,6 +43,18 @@ fn fixed<'a>(bytes: &'a [u8], wanted: &[u8], fault: DecodeFault) -> Result<&'a [
         rest = after;
     }
     Ok(rest)
+}
+
+#[tactic(auto, unfolding(crate::specs::Reading::version_at))]
+fn version(bytes: &[u8]) -> Result<(ImageVersion, &[u8]), DecodeFault>
+    ensures { Gives (λ x. (x.0, x.1.now)) result (version_at bytes.now) }
+{
+    let (first, rest) = byte(bytes)?;
+    match first {
+        VERSION_ONE => Ok((ImageVersion::One, rest)),
+        VERSION_TWO => Ok((ImageVersion::Two, rest)),
+        _ => Err(DecodeFault::Version),
+    }
 }
 
 fn number(bytes: &[u8]) -> Result<(u32, &[u8]), DecodeFault>
@@ -307,7 +319,7 @@ fn image(alloc: Global, bytes: &[u8]) -> Result<Image, DecodeFault>
     ensures { Gives (λ i. i) result (program_of bytes.now) }
 {
     let rest = fixed(bytes, &MAGIC, DecodeFault::BadMagic)?;
-    let rest = fixed(rest, &VERSION, DecodeFault::Version)?;
+    let (version, rest) = version(rest)?;
     let (monitors, rest) = monitors(alloc, rest)?;
     let (start, rest) = number(rest)?;
     let (code, rest) = code(alloc, rest)?;
@@ -317,7 +329,7 @@ fn image(alloc: Global, bytes: &[u8]) -> Result<Image, DecodeFault>
     if start as usize >= code.len() || !lead_below(code.as_slice(), code.len()) {
         return Err(DecodeFault::BadTarget);
     }
-    Ok(Image::new(monitors, start, code))
+    Ok(Image::new(version, monitors, start, code))
 }
 
 /// The image that the bytes spell, all of the bytes.

@@ -1,12 +1,24 @@
 ghost use Rattle.std.specs.Prelude.{◌≡◌, ◌++◌, OnOk, IfOk};
 ghost use Rattle.isa.specs.Numbers.{number};
 ghost use Rattle.isa.specs.Spelling.{numbers, instruction, instructions, spelling, IsSpelled};
+ghost use Rattle.isa.specs.Spelling as Spelling;
 
-use crate::format::{MAGIC, VERSION};
+use crate::format::{MAGIC, VERSION_ONE, VERSION_TWO};
 use crate::image::Image;
 use crate::instr::Instr;
 use crate::operands::Operands;
 use std::alloc::{AllocError, Global};
+use words::ImageVersion;
+
+fn put_version(out: &mut Vec<u8>, version: ImageVersion) -> Result<(), AllocError>
+    ensures { OnOk result (out.new.items ≡ out.old.items ++ Spelling.version version) }
+{
+    match version {
+        ImageVersion::One => out.push(VERSION_ONE)?,
+        ImageVersion::Two => out.push(VERSION_TWO)?,
+    }
+    Ok(())
+}
 
 fn put_number(out: &mut Vec<u8>, value: u32) -> Result<(), AllocError>
     ensures { OnOk result (out.new.items ≡ out.old.items ++ number value) }
@@ -58,12 +70,13 @@ pub fn encode(alloc: Global, image: &Image) -> Result<Vec<u8>, AllocError>
     ensures spelled { IsSpelled image.now }
     ensures bytes { IfOk result (λ bytes. bytes.items ≡ spelling image.now) }
 {
+    let version = image.version();
     let start = image.start();
     let monitors = image.monitors();
     let code = image.code();
     let mut out = Vec::new(alloc);
     out.extend_from_slice(&MAGIC)?;
-    out.extend_from_slice(&VERSION)?;
+    put_version(&mut out, version)?;
     put_number(&mut out, monitors.len() as u32)?;
     put_numbers(&mut out, monitors)?;
     put_number(&mut out, start)?;

@@ -10,3 +10,4 @@ pub mod Offering
 pub mod Keeping
 pub mod Holding
 pub mod Holders
+pub mod Versions

@@ -1,5 +1,6 @@
 ghost use Rattle.std.specs.Prelude.{◌≡◌, ◌++◌, ◌∷◌, [], ℕ, ℤ, List, Some, None, Contains};
-ghost use Rattle.program.specs.Trees.{Program};
+ghost use Rattle.words.specs.declared.version.ImageVersion.{ImageVersion};
+ghost use Rattle.program.specs.Trees.{Program, as_version};
 ghost use Rattle.program.specs.declared.kinds.Member.{Member};
 ghost use Rattle.meaning.specs.Labels.{Action, Broadcasts, End, Notifies};
 ghost use Rattle.meaning.specs.Processes.{Over};
@@ -20,6 +21,14 @@ pub fn run_laws()
         → IsStep p s a left → IsStep p s a right → left ≡ right }
     ensures one_end { (p : Program) (actions : List Action) (left right : SourceState)
         → IsRun p actions left → IsRun p actions right → left ≡ right }
+{}
+
+/// The version of a program says how many processes there can be at its opening, and no step depends on it otherwise.
+pub fn step_laws()
+    ensures as_other { (v : ImageVersion) (p : Program) (a : Action) (s s' : SourceState)
+        → IsStep p s a s' → IsStep (as_version v p) s a s' }
+    ensures of_other { (v : ImageVersion) (p : Program) (a : Action) (s s' : SourceState)
+        → IsStep (as_version v p) s a s' → IsStep p s a s' }
 {}
 
 /// A notify resumes a process at least where any waits on the condition; after a broadcast nobody waits on it.

@@ -8,6 +8,6 @@ mod monitors;
 mod testing;
 
 pub use abandoning::abandon_next;
-pub use laws::{end_laws, run_laws, wait_laws};
+pub use laws::{end_laws, run_laws, step_laws, wait_laws};
 pub use monitors::monitor_laws;
 pub use testing::tested;

@@ -22,4 +22,4 @@ pub use done::permit;
 pub use laws::{internal_laws, offer_laws};
 pub use naming::{is_named, named};
 pub use state::SourceState;
-pub use step::accepts;
+pub use step::{accepts, accepts_as};

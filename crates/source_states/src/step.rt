@@ -1,6 +1,7 @@
 ghost use Rattle.std.specs.Prelude.{◌≡◌, IfOk, MatchOption, Some, map};
 ghost use Rattle.std.specs.BTreeMap.{get};
 ghost use Rattle.std.specs.Ordering.{nat_cmp};
+ghost use Rattle.program.specs.Trees.{as_version};
 ghost use Rattle.program.specs.Views.{program_of};
 ghost use Rattle.meaning.specs.Offers.{Does};
 ghost use Rattle.meaning.specs.Processes.{Process as ProcessOf};
@@ -191,7 +192,29 @@ impl<'a> SourceState<'a> {
     }
 }
 
-/// The state at the end of a run; None where the actions aren't a run of the program.
+/// The state at the end of a run of the program whose image is of this version, which says how many processes there can
+/// be; None where the actions aren't such a run.
+pub fn accepts_as<'a>(
+    alloc: Global,
+    checked: &'a Checked,
+    version: ImageVersion,
+    actions: &[Action],
+) -> Result<Option<SourceState<'a>>, AllocError>
+    ensures { let p = as_version version (program_of checked.now.tree) in IfOk result
+        (λ o. MatchOption o ((s : SourceStateOf) → IsRun p (map action_named actions.now) s → ⊥)
+        (λ s. IsRun p (map action_named actions.now) (state_in s))) }
+{
+    let mut state = SourceState::opening(alloc, checked, version)?;
+    for action in actions {
+        if !state.advance(alloc, checked.program(), action)? {
+            return Ok(None);
+        }
+    }
+    Ok(Some(state))
+}
+
+/// The state at the end of a run; None where the actions aren't a run of the program, whose image is of the second
+/// version.
 pub fn accepts<'a>(
     alloc: Global,
     checked: &'a Checked,
@@ -202,11 +225,5 @@ pub fn accepts<'a>(
         → ⊥)
         (λ s. IsRun (program_of checked.now.tree) (map action_named actions.now) (state_in s))) }
 {
-    let mut state = SourceState::opening(alloc, checked, ImageVersion::Two)?;
-    for action in actions {
-        if !state.advance(alloc, checked.program(), action)? {
-            return Ok(None);
-        }
-    }
-    Ok(Some(state))
+    accepts_as(alloc, checked, ImageVersion::Two, actions)
 }

@@ -8,7 +8,7 @@ mod seeds;
 
 use crate::lists::failure::Failure;
 use crate::lists::logs::{Outside, show_logs};
-use crate::lists::runs::show_actions;
+use crate::lists::runs::{show_actions, show_actions_as_one};
 use crate::lists::seeds::show_seeds;
 use std::io;
 
@@ -17,6 +17,7 @@ pub fn take_line(rt: &HostRuntime, line: &str) -> io::Result<bool> {
     let (key, row) = line.split_once(' ').unwrap_or((line, ""));
     let shown = match key {
         "actions" => show_actions(rt, row),
+        "actions-as-one" => show_actions_as_one(rt, row),
         "logs" => show_logs(rt, row, Outside::Nothing),
         "strays" => show_logs(rt, row, Outside::Strays),
         "kills" => show_logs(rt, row, Outside::Kills),

@@ -32,6 +32,7 @@
 //!
 //! ```text
 //! actions LIST | TEXT         a list of actions of the program of this text
+//! actions-as-one LIST | TEXT  the same, of the program whose image is of the first version
 //! logs COUNT MOST | TEXT      so many logs of the program's image, each of so many entries at most
 //! strays COUNT MOST | TEXT    the same with wakes from outside of threads that sleep
 //! kills COUNT MOST | TEXT     so many logs of one run, with a thread killed behind the first step, the second ..

@@ -5,10 +5,13 @@ use buckets::{Buckets, ThreadList};
 use futexcalls::{FutexLists, cmp_requeue, wait, wake};
 use std::alloc::Global;
 use std::marker::Model;
-use words::{Addr, MOST_THREADS, Mem};
+use words::{Addr, Mem};
 
 // How many words there are.
 const WORDS: usize = 512;
+
+// How many threads.
+const THREADS: u32 = 64;
 
 /// 512 words, and who of 64 threads sleeps.
 #[derive(Drop)]
@@ -48,7 +51,7 @@ impl Layers {
         }
         Ok(Layers {
             mem: Mem::new(alloc, WORDS)?,
-            buckets: Buckets::new(alloc, buckets, MOST_THREADS)?,
+            buckets: Buckets::new(alloc, buckets, THREADS)?,
         })
     }
 
@@ -149,7 +152,7 @@ impl Layers {
     }
 
     fn sleep(&mut self, t: u32, a: u32) -> Result<Answer, Failure> {
-        if t == 0 || t > MOST_THREADS || self.buckets.asleep(t).is_some() {
+        if t == 0 || t > THREADS || self.buckets.asleep(t).is_some() {
             return Err(Failure::Outside);
         }
         self.buckets.enqueue(t, Addr(a));
@@ -157,14 +160,14 @@ impl Layers {
     }
 
     fn asleep(&self, t: u32) -> Result<Answer, Failure> {
-        if t > MOST_THREADS {
+        if t > THREADS {
             return Err(Failure::Outside);
         }
         Ok(Answer::Place(self.buckets.asleep(t)))
     }
 
     fn drop_out(&mut self, t: u32) -> Result<Answer, Failure> {
-        if t > MOST_THREADS {
+        if t > THREADS {
             return Err(Failure::Outside);
         }
         self.buckets.drop_out(t);
@@ -196,7 +199,7 @@ impl Layers {
     }
 
     fn wait(&mut self, t: u32, a: u32, expected: u32) -> Result<Answer, Failure> {
-        if t == 0 || t > MOST_THREADS || self.buckets.asleep(t).is_some() {
+        if t == 0 || t > THREADS || self.buckets.asleep(t).is_some() {
             return Err(Failure::Outside);
         }
         if a as usize >= WORDS {
@@ -231,7 +234,7 @@ impl Layers {
     }
 
     fn exit(&mut self, alloc: Global, t: u32) -> Result<Answer, Failure> {
-        if t == 0 || t > MOST_THREADS {
+        if t == 0 || t > THREADS {
             return Err(Failure::Outside);
         }
         let mut woken = ThreadList::new(alloc)?;

@@ -7,6 +7,7 @@ use program::Checked;
 use simulation::{LogFault, explain_log_lowered};
 use std::alloc::{AllocError, Global};
 use test_schedules::Sequence;
+use words::ImageVersion;
 
 // What is said of the text of a log.
 #[derive(Clone, Copy, PartialEq, Eq, Debug)]
@@ -53,7 +54,7 @@ fn answer_to(alloc: Global, checked: &Checked, text: &[u8]) -> Answer {
 }
 
 fn answer_to_entries(alloc: Global, checked: &Checked, entries: LogReader<'_>) -> Answer {
-    let Ok(lowered) = lower(alloc, checked) else {
+    let Ok(lowered) = lower(alloc, checked, ImageVersion::Two) else {
         return Answer::Memory;
     };
     match explain_log_lowered(alloc, checked, lowered, entries) {

@@ -30,7 +30,7 @@ const NAMES: [EventName; 8] = [
 ];
 
 // As many threads are drawn, and 0.
-const THREADS: u32 = 64;
+const THREADS: u32 = 1000;
 
 /// How a log is changed, at a place that is drawn.
 #[derive(Clone, Copy, PartialEq, Eq, Debug)]

@@ -2,9 +2,10 @@ use crate::lists::action::append_actions;
 use crate::lists::failure::Failure;
 use compiler::compile_checked;
 use program::Checked;
-use source_states::{Action, SourceState, accepts};
+use source_states::{Action, SourceState, accepts, accepts_as};
 use sourcemeaning::{movers, run_length};
 use std::io;
+use words::ImageVersion;
 
 /// Prints what comes of a list of actions of the program whose text stands behind it.
 pub fn show_actions(rt: &HostRuntime, row: &str) -> Result<(), Failure> {
@@ -13,6 +14,22 @@ pub fn show_actions(rt: &HostRuntime, row: &str) -> Result<(), Failure> {
     let mut actions = Vec::new(rt.alloc());
     append_actions(&mut actions, list)?;
     show_run(rt, &checked, actions.as_slice())
+}
+
+/// Prints what comes of such a list where the program's image is of the first version.
+pub fn show_actions_as_one(rt: &HostRuntime, row: &str) -> Result<(), Failure> {
+    let (list, text) = row.split_once('|').ok_or(Failure::Row)?;
+    let (checked, _) = compile_checked(rt.alloc(), text.as_bytes())?;
+    let mut actions = Vec::new(rt.alloc());
+    append_actions(&mut actions, list)?;
+    let end = accepts_as(rt.alloc(), &checked, ImageVersion::One, actions.as_slice())?;
+    match end {
+        Some(state) => show_end(rt, &checked, &state),
+        None => {
+            println!(rt; "no run")?;
+            Ok(())
+        }
+    }
 }
 
 // Prints what comes of actions.

@@ -5,7 +5,7 @@ use Rattle.isa.proofs.reading.image.Goals as goal
 
 pub new-requires : goal.new-requires
 new-requires c =
-    let few = monitors_bound c.in_ok-rest-2.rest.now (c.in_ok-monitors.monitors.items, c.in_ok-monitors.rest.now)
+    let few = monitors_bound c.in_ok-version.rest.now (c.in_ok-monitors.monitors.items, c.in_ok-monitors.rest.now)
     c.in_ok-monitors.ensures in
     record {
       few_monitors = few.0;
