@@ -40,7 +40,7 @@ pub(crate) struct Memo {
 }
 
 // For how many there is room at least.
-const LEAST: usize = 1 << 15;
+const LEAST: usize = 1 << 16;
 
 // A number that is mostly another where the spot is another.
 fn digest_spot(spot: Spot) -> u64 {
