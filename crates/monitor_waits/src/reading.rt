@@ -34,7 +34,7 @@ struct Reading<'p> {
     actions: &'p [Action],
     // How many of the actions come before the next entry, as far as its entries tell.
     behind: usize,
-    // The threads, the first of thread 1.
+    // The threads up to the last that has an entry, the first of thread 1.
     threads: Vec<Thread>,
     attempts: Vec<Attempt>,
 }
@@ -63,17 +63,13 @@ fn taken(action: &Action) -> Option<u32> {
     }
 }
 
-// The threads as they begin.
-fn threads(alloc: Global) -> Result<Vec<Thread>, AllocError> {
-    let mut threads = Vec::new(alloc);
-    for _thread in 0..MOST_THREADS {
-        threads.push(Thread {
-            point: Point::Elsewhere,
-            holder: 0,
-            open: Vec::new(alloc),
-        })?;
+// A thread as it begins.
+fn new_thread(alloc: Global) -> Thread {
+    Thread {
+        point: Point::Elsewhere,
+        holder: 0,
+        open: Vec::new(alloc),
     }
-    Ok(threads)
 }
 
 // The place of a thread.
@@ -139,11 +135,21 @@ impl<'p> Reading<'p> {
         Ok(())
     }
 
+    // Has a place for this thread, where there can be such a one.
+    fn know(&mut self, alloc: Global, thread: u32) -> Result<(), AllocError> {
+        let known = self.threads.len();
+        for _ in known..thread.min(MOST_THREADS) as usize {
+            self.threads.push(new_thread(alloc))?;
+        }
+        Ok(())
+    }
+
     // Reads an entry.
-    fn read(&mut self, entry: &Entry) -> Result<(), AllocError> {
+    fn read(&mut self, alloc: Global, entry: &Entry) -> Result<(), AllocError> {
         let Some(event) = entry.event else {
             return Ok(());
         };
+        self.know(alloc, entry.thread)?;
         let Some(thread) = self.threads.get_mut(index_of(entry.thread)) else {
             return Ok(());
         };
@@ -175,11 +181,11 @@ pub fn attempts(
     let mut reading = Reading {
         actions,
         behind: 0,
-        threads: threads(alloc)?,
+        threads: Vec::new(alloc),
         attempts: Vec::new(alloc),
     };
     for entry in log {
-        reading.read(&entry)?;
+        reading.read(alloc, &entry)?;
     }
     Ok(reading.attempts)
 }

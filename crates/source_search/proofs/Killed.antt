@@ -3,7 +3,6 @@ use Rattle.std.proofs.Common.{◌≡◌, ◌+◌, ◌-◌, ◌≤◌, ◌==◌, 
 use Rattle.std.proofs.Common.{◌∷◌, Option, Some, None, refl, sym, ap, ◌∙◌, subst, arith, inl, inr}
 use Rattle.std.specs.Prelude.{⊤, if◌then◌else◌}
 use Rattle.std.proofs.lemmas.Bool.{cases_eq, eq-eqb, ne_eqb}
-use Rattle.words.specs.Limits.{most_threads}
 use Rattle.words.specs.Updates.{put}
 use Rattle.program.specs.declared.kinds.Role.{Role}
 use Rattle.program.specs.declared.kinds.Role.TheVariants.{Entry, Internal, Recover, External, Main}
@@ -13,7 +12,9 @@ use Rattle.program.specs.Trees.{Fork, Join, Return, Wait, Notify, Broadcast, Pri
 use Rattle.program.specs.Trees.{NoPart, SomePart, Program}
 use Rattle.meaning.specs.Values.{Variables, Evaluated, Value, Fails, EvaluatedAll, Values, FailsAll, evaluate}
 use Rattle.meaning.specs.Values.{evaluate_all, index_in}
-use Rattle.meaning.specs.Labels.{Action, Cause, Faulted, Killed, End, Ended, Aborted, Label}
+use Rattle.meaning.specs.Labels.{Action, Cause, Faulted, Killed, End, Ended, Aborted, Label, Alone, Stores, Forks}
+use Rattle.meaning.specs.Labels.{FindsFull, Claims, FindsClaimed, Joins, Enters, Resumes, Exits, Waits, Notifies}
+use Rattle.meaning.specs.Labels.{Broadcasts, Abandons, Ends}
 use Rattle.meaning.specs.Processes.{Frame, Caller, Process, Entering, Before, Suspended, Joining, Returning, Failing}
 use Rattle.meaning.specs.Processes.{Dying, Leaving, Over, goes_on, goes_on_by, begins_by, recovers_by}
 use Rattle.meaning.specs.Processes.{hands_over, opening_frame}
@@ -23,6 +24,8 @@ use Rattle.meaning.specs.Offers.{claims, assigns, return_value, statement_offer,
 use Rattle.meaning.specs.Offers.{after_join}
 use Rattle.meaning.specs.Runs.{IsAction, IsStep}
 use Rattle.meaning.specs.States.{SourceState, main_process, opening, processes_after}
+use Rattle.meaning.specs.Table.{Allows, Table}
+use Rattle.meaning.proofs.Ends.{IsNumbered}
 use Rattle.source_search.specs.Found.{is_killed, is_killed_at, killed_in, killed_to, one_kill}
 
 -- who takes up the offer wasn't killed by that, nor who is made by it
@@ -356,24 +359,64 @@ module _ (p : Program) (s s' : SourceState) (a : Action) (x : IsAction p s a s')
       after = sym (ap (λ (f : ℕ → Option Process). is_killed_at (f q)) x.processes) ∙ killed
 
 -- all were counted
-pub counted_all : (s : SourceState) (n k : ℕ) → k ≡ killed_to s.process n → n ≡ most_threads → k ≡ killed_in s
+pub counted_all : (s : SourceState) (n k : ℕ) → k ≡ killed_to s.process n → n ≡ s.table.made → k ≡ killed_in s
 counted_all s n k is e = is ∙ ap (killed_to s.process) e
 
+-- no action takes back who was made
+made_stays : (p : ℕ) (l : Label) (t t' : Table) → Allows p l t t' → t.made ≤ t'.made
+made_stays p (Alone kind) t t' a = let e : t'.made ≡ t.made = ap (λ (x : Table). x.made) a in omega (arith, e)
+made_stays p (Stores m) t t' a = let e : t'.made ≡ t.made = ap (λ (x : Table). x.made) a in omega (arith, e)
+made_stays p (Forks child) t t' a = let e : t'.made ≡ t.made + 1 = ap (λ (x : Table). x.made) a.2 in omega (arith, e)
+made_stays p FindsFull t t' a = let e : t'.made ≡ t.made = ap (λ (x : Table). x.made) a.1 in omega (arith, e)
+made_stays p (Claims child) t t' a = let e : t'.made ≡ t.made = ap (λ (x : Table). x.made) a.1 in omega (arith, e)
+made_stays p (FindsClaimed child) t t' a = let e : t'.made ≡ t.made =
+    ap (λ (x : Table). x.made) a.1 in omega (arith, e)
+made_stays p (Joins child end) t t' a = let e : t'.made ≡ t.made = ap (λ (x : Table). x.made) a.1 in omega (arith, e)
+made_stays p (Enters m w) t t' a = let e : t'.made ≡ t.made = ap (λ (x : Table). x.made) a.1 in omega (arith, e)
+made_stays p (Resumes m w) t t' a = let e : t'.made ≡ t.made = ap (λ (x : Table). x.made) a.2 in omega (arith, e)
+made_stays p (Exits m) t t' a = let e : t'.made ≡ t.made = ap (λ (x : Table). x.made) a in omega (arith, e)
+made_stays p (Waits c) t t' a = let e : t'.made ≡ t.made = ap (λ (x : Table). x.made) a in omega (arith, e)
+made_stays p (Notifies c resumed) t t' a = let e : t'.made ≡ t.made =
+    ap (λ (x : Table). x.made) a.1 in omega (arith, e)
+made_stays p (Broadcasts c resumed) t t' a = let e : t'.made ≡ t.made =
+    ap (λ (x : Table). x.made) a.1 in omega (arith, e)
+made_stays p (Abandons m) t t' a = let e : t'.made ≡ t.made = ap (λ (x : Table). x.made) a in omega (arith, e)
+made_stays p (Ends end) t t' a = let e : t'.made ≡ t.made = ap (λ (x : Table). x.made) a in omega (arith, e)
+
+-- of the processes past those that were made none was killed
+past_made : (s : SourceState) (n : ℕ) → IsNumbered s → killed_to s.process (s.table.made + n) ≡ killed_in s
+past_made s zero is = let none : s.table.made + 0 ≡ s.table.made = omega arith in ap (killed_to s.process) none
+past_made s (suc n) is =
+    let rest = past_made s n is in
+    let next : s.table.made + suc n ≡ suc (s.table.made + n) = omega arith in
+    let here : one (is_killed_at (s.process (suc (s.table.made + n)))) ≡ 0 =
+    ap (λ (o : Option Process). one (is_killed_at o)) (is (suc (s.table.made + n)) (omega arith)) in
+    ap (killed_to s.process) next ∙ omega (arith, rest, here)
+
+made_or_more : (s : SourceState) (m : ℕ) → s.table.made ≤ m → IsNumbered s → killed_to s.process m ≡ killed_in s
+made_or_more s m more is =
+    let sum : m ≡ s.table.made + (m - s.table.made) = omega (arith, more) in
+    ap (killed_to s.process) sum ∙ past_made s (m - s.table.made) is
+
 -- an action kills one process more at most, and only a kill does
-pub killed_more : (p : Program) (s : SourceState) (a : Action) (s' : SourceState) → IsStep p s a s'
+pub killed_more : (p : Program) (s : SourceState) (a : Action) (s' : SourceState) → IsNumbered s → IsStep p s a s'
     → killed_in s' ≤ killed_in s + one_kill a.kind
-killed_more p s a s' (inl x) =
-    let less = fewer s.process s'.process most_threads (own_killed p s s' a x) in omega (arith, less)
-killed_more p s a s' (inr (inl x)) =
-    let same : killed_in s' ≡ killed_in s =
-    ap (λ (f : ℕ → Option Process). killed_to f most_threads) x.2.processes in
+killed_more p s a s' is (inl x) =
+    let less = fewer s.process s'.process s'.table.made (own_killed p s s' a x) in
+    let same = made_or_more s s'.table.made (made_stays a.process x.label s.table s'.table x.allows) is in
+    omega (arith, less, same)
+killed_more p s a s' is (inr (inl x)) =
+    let made : s'.table.made ≡ s.table.made = ap (λ (t : Table). t.made) x.2.allows.1 in
+    let same : killed_in s' ≡ killed_in s = λ i. killed_to (x.2.processes i) (made i) in
     omega (arith, same)
-killed_more p s a s' (inr (inr x)) =
-    let less = at_most_one s.process s'.process a.process most_threads
+killed_more p s a s' is (inr (inr x)) =
+    let made : s'.table.made ≡ s.table.made = ap (λ (t : Table). t.made) x.3.allows.1 in
+    let same : killed_in s' ≡ killed_to s'.process s.table.made = ap (killed_to s'.process) made in
+    let less = at_most_one s.process s'.process a.process s.table.made
     (λ q other. ap (λ (f : ℕ → Option Process). f q) x.3.processes
     ∙ put_there s.process a.process (Some (Dying Killed x.3.monitors)) q other) in
-    let is : one_kill a.kind ≡ 1 = ap one_kill x.2 in
-    omega (arith, less, is)
+    let one_more : one_kill a.kind ≡ 1 = ap one_kill x.2 in
+    omega (arith, less, same, one_more)
 
 none_killed : (f : ℕ → Option Process) (n : ℕ) → ((q : ℕ) → is_killed_at (f q) ≡ false) → killed_to f n ≡ 0
 none_killed f zero each = refl
@@ -384,7 +427,7 @@ none_killed f (suc n) each =
 
 -- nobody was killed where each run begins
 pub killed_opening : (p : Program) → killed_in (opening p) ≡ 0
-killed_opening p = none_killed (opening p).process most_threads (λ q. at (q == 1))
+killed_opening p = none_killed (opening p).process 1 (λ q. at (q == 1))
   where
     at : (b : Bool) → is_killed_at (cond b (Some (main_process p)) None) ≡ false
     at true = begins_spared (opening_frame p (length p.procedures - 1) []).role _ []

@@ -1,5 +1,6 @@
 pub mod Tried
 pub mod Killed
+pub mod Held
 pub mod Kills
 pub mod Successors
 pub mod Endings

@@ -6,7 +6,9 @@ use Rattle.std.proofs.lemmas.List.{take_more}
 use Rattle.std.proofs.lemmas.List.Elements.{All-push, All-set, All-weaker}
 use Rattle.words.specs.Updates.{put}
 use Rattle.words.proofs.Updates.{at_put, at_put2, put_other, put_same}
+use Rattle.program.specs.Trees.{Program}
 use Rattle.meaning.specs.Processes.{Process}
+use Rattle.meaning.specs.Runs.{CanMove}
 use Rattle.meaning.specs.States.{SourceState}
 use Rattle.meaning.specs.Table.{Table}
 use Rattle.meaning.specs.Values.{Variables}
@@ -195,6 +197,17 @@ alone_of parts spot s t v q is_table are_variables is_process made = record {
   });
   stands = ap is_some (ap (λ (r : SourceState). r.process spot.process) made ∙ put_same (λ r. None) spot.process (Some q));
 }
+
+-- what holds a process up by the table holds it up where it is alone
+pub held_alone : (p : Program) (parts : PartsOf) (spot : SpotOf) (n : ℕ) (t : Table) (q : Process)
+    → table_in parts.tables.items spot.table ≡ Some t → process_in parts.processes.items spot.part ≡ Some q
+    → n ≡ spot.process → ((s : SourceState) → s.table ≡ t → s.process n ≡ Some q → CanMove p s n → ⊥)
+    → CanMove p (alone parts spot) spot.process → ⊥
+held_alone p parts spot n t q is_table is_process is held can =
+    held (alone parts spot) (ap some_table is_table)
+    (ap (λ m. (alone parts spot).process m) is
+    ∙ put_same (λ r. None) spot.process (process_in parts.processes.items spot.part) ∙ is_process)
+    (subst (λ m. CanMove p (alone parts spot) m) (sym is) can)
 
 -- the process of a spot, with the others of the kept state beside it
 module _ (parts : PartsOf) (x : PackedOf) (place : ℕ) (spot : SpotOf) (is : IsSpotOf x place spot) where

@@ -12,6 +12,7 @@ use Rattle.meaning.specs.Offers.{offer}
 use Rattle.meaning.specs.Processes.{Process}
 use Rattle.meaning.specs.Runs.{IsStep, Leads}
 use Rattle.meaning.specs.States.{SourceState, opening}
+use Rattle.meaning.proofs.Ends.{numbered}
 use Rattle.meaning.proofs.Holding.{all_stand}
 use Rattle.meaning.proofs.Keeping.{OptionWaits}
 use Rattle.meaning.proofs.Led.{leads_more}
@@ -170,7 +171,7 @@ module _ (p : Program) (wf : WellFormed p) (may : Outside) (kept : List SourceSt
           let next : IsSeen p (is_any may) kept led.0 =
           expands a (is_there p wf done s a led.0 run led.1)
           (from_run may s a.kind named.0 (omega (arith, few))) led.0 led.1 in
-          let more = killed_more p s a led.0 led.1 in
+          let more = killed_more p s a led.0 (numbered p s done run) led.1 in
           goes_to_kept actions (done ++ a ∷ []) led.0 e (leads_more p (opening p) s led.0 done a run led.1)
           (subst (λ (b : Bool). IsSeen p b kept led.0) any next) led.2 named.1 (omega (arith, few, more))
 

@@ -5,13 +5,12 @@ use Rattle.std.proofs.Common.{subst}
 use Rattle.std.specs.Prelude.{IsSome}
 use Rattle.words.specs.Updates.{put}
 use Rattle.program.specs.Trees.{Program}
-use Rattle.words.specs.Limits.{most_threads}
 use Rattle.meaning.specs.Labels.{Action, Kill, Killed, Kind, Stray}
 use Rattle.meaning.specs.Offers.{offer}
 use Rattle.meaning.specs.Processes.{Dying, Process}
 use Rattle.meaning.specs.Runs.{IsKill, IsLeft, IsNotifying, IsStep}
 use Rattle.meaning.specs.States.{SourceState}
-use Rattle.meaning.specs.Table.{AllowsKill, AllowsStray}
+use Rattle.meaning.specs.Table.{AllowsKill, AllowsStray, Table}
 use Rattle.proof_exploration.specs.Exploring.{IsLike}
 use Rattle.proof_exploration.proofs.Alike.{like_action, like_after, like_back, printing}
 use Rattle.source_search.specs.Found.{IsFrom, is_any, killed_in, killed_to}
@@ -66,7 +65,9 @@ module _ (p : Program) (s r : SourceState) (like : IsLike s r) (a : Action) (s' 
 
 -- states that are alike have as many killed
 killed_alike : (s c : SourceState) → IsLike s c → killed_in s ≡ killed_in c
-killed_alike s c like = ap (λ (f : ℕ → Option Process). killed_to f most_threads) like.process
+killed_alike s c like =
+    ap (λ (f : ℕ → Option Process). killed_to f s.table.made) like.process
+    ∙ ap (λ (t : Table). killed_to c.process t.made) like.table
 
 from_alike : (may : Outside) (s c : SourceState) (kind : Kind) → IsLike s c → IsFrom may s kind → IsFrom may c kind
 from_alike may s c (Stray m) like from = from

@@ -1,7 +1,6 @@
 -- What a search over all runs finds.
 use Rattle.std.specs.Prelude.{ℕ, zero, suc, ◌≡◌, ◌+◌, ◌<◌, ◌≤◌, ◌||◌, if◌then◌else◌, nat_lt, Bool, true, false}
 use Rattle.std.specs.Prelude.{List, [], ◌∷◌, Option, Some, None, map, ⊤}
-use Rattle.words.specs.Limits.{most_threads}
 use Rattle.program.specs.Trees.{Program}
 use Rattle.meaning.specs.Labels.{Action, Aborted, Cause, Faulted, Kill, Killed, Kind, Stray}
 use Rattle.meaning.specs.Processes.{Process, Dying, Over}
@@ -31,9 +30,9 @@ abbrev pub killed_to : (ℕ → Option Process) → ℕ → ℕ
 killed_to process zero = 0
 killed_to process (suc n) = killed_to process n + (if is_killed_at (process (suc n)) then 1 else 0)
 
--- how many processes were killed
+-- how many processes were killed, of those that were made
 abbrev pub killed_in : SourceState → ℕ
-killed_in s = killed_to s.process most_threads
+killed_in s = killed_to s.process s.table.made
 
 -- actions of this name are searched in a state: those of processes' own, with strays stray wake-ups, and kills as long as
 -- fewer processes were killed than may be

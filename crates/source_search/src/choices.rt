@@ -50,7 +50,7 @@ fn with_kills<'a>(
     if kills == 0 {
         return Ok(Some(others));
     }
-    if killed_in(state) >= kills {
+    if killed_in(state) >= u64::from(kills) {
         return Ok(Some(others));
     }
     let Some(mut kills) = kills_of(alloc, checked, state, process)? else {

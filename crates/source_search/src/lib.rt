@@ -5,6 +5,7 @@ mod choices;
 mod covering;
 mod digest;
 mod ends;
+mod held_up;
 mod kept;
 mod killing;
 mod learning;

@@ -40,7 +40,7 @@ pub(crate) struct Memo {
 }
 
 // For how many there is room at least.
-const LEAST: usize = 1024;
+const LEAST: usize = 1 << 16;
 
 // A number that is mostly another where the spot is another.
 fn digest_spot(spot: Spot) -> u64 {
@@ -114,16 +114,16 @@ impl Memo {
         }
     }
 
-    /// Has room for half as many as are kept, or a quarter at least; where it gets more, all is forgotten.
+    /// Has room for as many as are kept, or half at least; where it gets more, all is forgotten.
     pub fn fit(&mut self, alloc: Global, states: usize) -> Result<(), AllocError>
         ensures { OnOk result ((k : KnownOf) → Contains self.new.known.items k
             → Contains self.old.known.items k ⊎ (k.spot.process ≡ 0)) }
     {
         let size = self.known.len();
-        if size >= states / 4 && size >= LEAST {
+        if size >= states / 2 && size >= LEAST {
             return Ok(());
         }
-        self.known = room(alloc, LEAST.max(states / 2))?;
+        self.known = room(alloc, LEAST.max(states))?;
         Ok(())
     }
 }

@@ -2,6 +2,7 @@ ghost use Rattle.std.specs.Prelude.{◌≡◌, ◌<◌, All, IfOk, IfSome, OnOk,
 ghost use Rattle.source_states.specs.States.{state_of};
 ghost use Rattle.source_search.specs.Spots.{IsPutAt};
 
+use crate::held_up::is_held_up;
 use crate::packed::Packed;
 use crate::parts::Parts;
 use crate::spot::Spot;
@@ -29,9 +30,11 @@ fn put_part(processes: &mut Vec<u32>, process: u64, part: u32) -> Result<bool, A
 }
 
 impl<'a> Parts<'a> {
+    ghost use Rattle.program.specs.Trees.{Program as ProgramOf};
+    ghost use Rattle.meaning.specs.Runs.{CanMove};
     ghost use Rattle.source_search.specs.Known.{IsNumbered};
     ghost use Rattle.source_search.specs.Packed.{IsGrown, IsWithin};
-    ghost use Rattle.source_search.specs.Spots.{IsAlone, IsMergedOf, IsMergedTo};
+    ghost use Rattle.source_search.specs.Spots.{IsAlone, IsMergedOf, IsMergedTo, alone};
 
     /// The state in which a process stands at this spot, and there is no other; None where a part isn't there.
     pub fn small(&self, alloc: Global, spot: Spot) -> Result<Option<SourceState<'a>>, AllocError>
@@ -50,6 +53,19 @@ impl<'a> Parts<'a> {
         let mut state = SourceState::unpeopled(alloc, table.copy()?, variables.copy()?);
         state.place(u64::from(spot.process), process)?;
         Ok(Some(state))
+    }
+
+    /// Whether the process of this spot is held up there, so that it can't move. It is told without a copy.
+    pub fn is_held_up(&self, spot: Spot) -> bool
+        ensures { result ≡ true → (p : ProgramOf) → CanMove p (alone self.now spot) spot.process → ⊥ }
+    {
+        let Some(part) = self.processes.get(spot.part as usize) else {
+            return false;
+        };
+        let Some(table) = self.tables.get(spot.table as usize) else {
+            return false;
+        };
+        is_held_up(table, u64::from(spot.process), part)
     }
 
     // The numbers of the processes of a kept state, with those of a state, of which these are all, in place of its own;

@@ -7,7 +7,7 @@ ghost use Rattle.source_search.specs.Found.{one_kill};
 
 use source_offers::{End, Process, Stage};
 use source_states::{Action, ActionKind, SourceState};
-use words::{Cause, MOST_THREADS};
+use words::Cause;
 
 /// What comes from outside in the runs that are searched.
 #[derive(Clone, Copy, PartialEq, Eq, Debug)]
@@ -52,12 +52,12 @@ fn is_killed_at(state: &SourceState, number: u64) -> bool
 }
 
 /// How many processes were killed.
-pub(crate) fn killed_in(state: &SourceState) -> u32
+pub(crate) fn killed_in(state: &SourceState) -> u64
     ensures { result ≡ killed_in (state_of state.now) }
 {
     let mut killed = 0;
-    for before in 0..MOST_THREADS {
-        killed += u32::from(is_killed_at(state, u64::from(before) + 1));
+    for before in 0..state.made() {
+        killed += u64::from(is_killed_at(state, before + 1));
     }
     killed
 }

@@ -256,6 +256,9 @@ impl<'a> Kept<'a> {
         let Some(spot) = packed.spot(place) else {
             return Ok(None);
         };
+        if self.parts.is_held_up(spot) {
+            return Ok(Some(false));
+        }
         let Some(known) = memo.find(spot) else {
             return self.follow_new(alloc, checked, memo, packed, origin, place, spot);
         };

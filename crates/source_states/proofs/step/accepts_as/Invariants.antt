@@ -10,5 +10,5 @@ use Rattle.source_states.proofs.step.accepts_as.Given as goal
 abbrev pub invariant-loop-action : goal.invariant-loop-action
 invariant-loop-action l =
     (s : SourceState)
-    → Leads (as_version l.version (program_of l.checked.tree)) (state_of l.state) (map action_of (drop l.action-index l.actions)) s
-    ↔ IsRun (as_version l.version (program_of l.checked.tree)) (map action_of l.actions) s
+    → Leads (as_version l.fn.version (program_of l.checked.tree)) (state_of l.state) (map action_of (drop l.action-index l.actions)) s
+    ↔ IsRun (as_version l.fn.version (program_of l.checked.tree)) (map action_of l.actions) s
