@@ -14,7 +14,7 @@ use Rattle.sourcemeaning.proofs.Moves.{moves}
 
 -- what is decided so doesn't hold where the answer is no
 pub refused : (b : Bool) (X : Type 0) → MatchBool b X (X → ⊥) → not b ≡ true → X → ⊥
-refused true X is no = absurd cc
+refused true X is no = absurd (let e : false ≡ true = no in cc)
 refused false X is no = is
 
 -- a process that stands so can't move, where this table doesn't let what it offers be taken up
