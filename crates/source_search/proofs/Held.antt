@@ -14,8 +14,8 @@ use Rattle.sourcemeaning.proofs.Moves.{moves}
 
 -- what is decided so doesn't hold where the answer is no
 pub refused : (b : Bool) (X : Type 0) → MatchBool b X (X → ⊥) → not b ≡ true → X → ⊥
-refused true X is no = absurd (let e : false ≡ true = no in cc)
-refused false X is no = is
+refused true X decided denied = absurd (let e : false ≡ true = denied in cc)
+refused false X decided denied = decided
 
 -- a process that stands so can't move, where this table doesn't let what it offers be taken up
 pub held_at : (p : Program) (s : SourceState) (n : ℕ) (t : Table) (q : ProcessOf) (stage : StageOf) → q.stage ≡ stage
