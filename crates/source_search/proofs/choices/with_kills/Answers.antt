@@ -7,10 +7,10 @@ use Rattle.source_search.specs.Choices.{AreKills}
 use Rattle.source_search.proofs.Tried.{no_more, some_more}
 use Rattle.source_search.proofs.choices.with_kills.Goals as goal
 
-pub returns-then-killed_in-kills : goal.returns-then-killed_in-kills
-returns-then-killed_in-kills c =
+pub returns-then-killed_in-from : goal.returns-then-killed_in-from
+returns-then-killed_in-from c =
     no_more (program_of c.args.checked.now.tree) c.args.kills (state_of c.args.state.now) c.args.process
-    (map action_of c.args.others.items) (omega (arith, c.killed_in.ensures, c.if-killed_in-kills.true))
+    (map action_of c.args.others.items) (omega (arith, c.killed_in.ensures, c.if-killed_in-from.true))
 
 pub returns : goal.returns
 returns c =
