@@ -2,7 +2,7 @@ use Rattle.std.proofs.Common.{◌<◌, ◌^◌, arith, subst, sym}
 use Rattle.program.specs.Names.{said_by}
 use Rattle.mesamon.proofs.RunsExplained.{of_code, of_own_version, run_explained}
 use Rattle.mesamon.specs.Alone.{outside_alone}
-use Rattle.mesamon.specs.Explaining.{IsWantOfMemory}
+use Rattle.mesamon.specs.Explaining.{IsRefusedExplanation, IsWantOfMemory}
 use Rattle.mesamon.proofs.Failing.{passed}
 use Rattle.mesamon.proofs.explained_run.explain_alone.Goals as goal
 
@@ -26,3 +26,9 @@ pub returns-in_err-actions-clause-only : goal.returns-in_err-actions-clause-only
 returns-in_err-actions-clause-only c p accepts fits =
     passed c.from_residual-in_err-actions.result c.in_err-actions.field-0.0 IsWantOfMemory
     c.from_residual-in_err-actions.ensures (subst IsWantOfMemory (sym c.in_err-actions.ensures) tt)
+
+pub returns-in_err-actions-clause-fault : goal.returns-in_err-actions-clause-fault
+returns-in_err-actions-clause-fault c =
+    passed c.from_residual-in_err-actions.result c.in_err-actions.field-0.0 (IsRefusedExplanation c.args.text.now)
+    c.from_residual-in_err-actions.ensures
+    (subst (IsRefusedExplanation c.args.text.now) (sym c.in_err-actions.ensures) tt)
