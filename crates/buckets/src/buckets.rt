@@ -1,5 +1,5 @@
 ghost use Rattle.std.specs.Prelude.{◌≡◌, ◌≢◌, ℕ, ◌<◌, ◌≤◌, ◌%◌, ◌++◌, ◌∷◌, [], ◌↔◌, ◌==◌, not, None, Some};
-ghost use Rattle.std.specs.Prelude.{if◌then◌else◌, length, take, drop, slice_get, IfOk, IsTrue};
+ghost use Rattle.std.specs.Prelude.{if◌then◌else◌, length, take, drop, IfOk, IsTrue};
 ghost use Rattle.std.specs.List.{filter};
 ghost use Rattle.std.specs.Option.{option_map};
 ghost use Rattle.buckets.specs.Places.{with_place};

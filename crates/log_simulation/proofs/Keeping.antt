@@ -181,7 +181,7 @@ some_thread k (suc t) o stands = omega arith
 pub cost_steps : (p : Program) (log : List Entry) (k : PieceConcrete) → Runs (code_of p) (opening (code_of p)) log k
     → cost log ≡ length (steps_of log)
 cost_steps p log k runs =
-    let r = runs_so (code_of p) log k (most_few p.version) runs in
+    let r = runs_so (code_of p) log k runs in
     let many = as_many r.0 (steps_of log) r.3 in
     let count = r.2 in
     omega (arith, many, count)

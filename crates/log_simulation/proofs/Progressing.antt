@@ -6,7 +6,6 @@ use Rattle.std.specs.Prelude.{◌^◌, ◌++◌, not, replicate}
 use Rattle.std.proofs.lemmas.List.{append-nil, append_assoc, length-replicate, replicate_more}
 use Rattle.words.specs.Limits.{run_buckets}
 use Rattle.words.specs.Updates.{put}
-use Rattle.words.proofs.Versions.{most_few}
 use Rattle.words.proofs.Updates.{put_same}
 use Rattle.locals.specs.Threads.{Thread, is_dying}
 use Rattle.locals.specs.Looks.{Look, Goes, look}
@@ -266,4 +265,4 @@ module _ (p : Program) where
       alive false e = refl
 
   pub opens_so : ComesTo p [] (opening (code_of p)) (opening_progress p)
-  opens_so = opens p run_buckets (omega arith) (most_few p.version)
+  opens_so = opens p run_buckets (omega arith)

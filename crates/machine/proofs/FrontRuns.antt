@@ -73,6 +73,6 @@ run_of p k k' (s ∷ steps) concrete runs = elim runs.1 [
 ]
 
 pub fronts_run_so : FrontsRunSo
-fronts_run_so p k steps fits runs =
-    let r = run_of p (opening_concrete p) k steps ((opens_so p).1 fits) runs in
+fronts_run_so p k steps runs =
+    let r = run_of p (opening_concrete p) k steps (opens_so p).1 runs in
     (r.run, subst (λ (q : State). GoesBy p q r.run (state_of k)) (opens_so p).0 r.goes, r.same)

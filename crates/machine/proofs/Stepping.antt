@@ -5,7 +5,7 @@ use Rattle.std.specs.Prelude.{slice_index}
 use Rattle.std.specs.List.{IsDistinct}
 use Rattle.std.proofs.lemmas.List.{length-replicate}
 use Rattle.words.specs.Versions.{most_of}
-use Rattle.words.proofs.Versions.{most_some}
+use Rattle.words.proofs.Versions.{most_few, most_some}
 use Rattle.isa.specs.Programs.{Program, memory_size}
 use Rattle.isa.specs.declared.instr.Instr.{Instr}
 use Rattle.words.specs.declared.outcome.Fault.{Fault}
@@ -208,9 +208,9 @@ opens_so p = (
     asleep = λ t. None;
     output = [];
   }),
-  λ fits. record {
+  record {
     most = refl;
-    fits = fits;
+    fits = most_few p.version;
     sized = opening_size (memory_size p);
     some = omega arith;
     few = let some = most_some p.version in omega (arith, some);

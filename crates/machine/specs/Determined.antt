@@ -1,7 +1,5 @@
 -- The machine's own steps are steps of the relation.
-use Rattle.std.specs.Prelude.{ℕ, ◌≡◌, ◌≤◌, ◌==◌, ◌↔◌, List, [], ◌∷◌, true, false, None, Ok, Err}
-use Rattle.words.specs.Limits.{most_threads}
-use Rattle.words.specs.Versions.{most_of}
+use Rattle.std.specs.Prelude.{ℕ, ◌≡◌, ◌==◌, ◌↔◌, List, [], ◌∷◌, true, false, None, Ok, Err}
 use Rattle.isa.specs.Programs.{Program}
 use Rattle.machine.specs.declared.event.Event.{Event}
 use Rattle.machine.specs.declared.event.StepFault.TheVariants.{CannotMove, Broken}
@@ -12,11 +10,9 @@ use Rattle.machine.specs.ConcreteSteps.{step_of, can_move}
 use Rattle.machine.specs.ConcreteOutside.{stray_of, kill_of}
 use Rattle.machine.specs.Views.{IsWellFormed}
 
--- the concrete state at the start stands for the opening state, and where a machine can run all threads that there can be,
--- what always holds holds of it
+-- the concrete state at the start stands for the opening state, and what always holds holds of it
 abbrev pub OpensSo : Type 0
-OpensSo = (p : Program) → (state_of (opening_concrete p) ≡ opening_state p)
-    × (most_of p.version ≤ most_threads → IsWellFormed p (opening_concrete p))
+OpensSo = (p : Program) → (state_of (opening_concrete p) ≡ opening_state p) × IsWellFormed p (opening_concrete p)
 
 -- a step that is done is a step of the relation that wakes those of its event, and keeps what always holds
 abbrev pub StepsSo : Type 0

@@ -1,8 +1,6 @@
 -- The runs of the machine itself, in which each wake and each move takes from the front of the address's list, and who
 -- sleeps may wake though nobody called for it, and a thread may be killed.
-use Rattle.std.specs.Prelude.{ℕ, ◌≡◌, ◌≤◌, ◌==◌, ◌⊎◌, List, [], ◌∷◌, Ok, map}
-use Rattle.words.specs.Limits.{most_threads}
-use Rattle.words.specs.Versions.{most_of}
+use Rattle.std.specs.Prelude.{ℕ, ◌≡◌, ◌==◌, ◌⊎◌, List, [], ◌∷◌, Ok, map}
 use Rattle.isa.specs.Programs.{Program}
 use Rattle.machine.specs.declared.event.Event.{Event}
 use Rattle.machine.specs.declared.event.EventName.{EventName}
@@ -53,10 +51,9 @@ abbrev pub event_label : EventStep → Label
 event_label s =
     record { thread = s.thread; woken = s.event.woken; doing = doing_of s.event.name s.event.value }
 
--- a run of the machine itself, which can run all threads that there can be, is a run of the relation, step by step: of the
--- same threads, which wake the same, and with the same wakes and kills from outside
+-- a run of the machine itself is a run of the relation, step by step: of the same threads, which wake the same, and with the
+-- same wakes and kills from outside
 abbrev pub FrontsRunSo : Type 0
 FrontsRunSo =
-    (p : Program) (k : ConcreteState) (steps : List EventStep) → most_of p.version ≤ most_threads
-    → FrontRun p (opening_concrete p) steps k
+    (p : Program) (k : ConcreteState) (steps : List EventStep) → FrontRun p (opening_concrete p) steps k
     → (run : List Step) × MachineRun p run (state_of k) × (map label_of run ≡ map event_label steps)

@@ -7,7 +7,6 @@ use Rattle.std.proofs.lemmas.List.{length-map, length-take, map-append}
 use Rattle.std.proofs.lemmas.Simd.{map-map}
 use Rattle.std.proofs.lemmas.List.Elements.{All-head, All-tail}
 use Rattle.std.proofs.lemmas.List.Sums.{sum_by-cons}
-use Rattle.words.proofs.Versions.{most_few}
 use Rattle.words.specs.Limits.{run_buckets}
 use Rattle.isa.specs.Programs.{Program}
 use Rattle.machine.specs.declared.event.Entry.{Entry}
@@ -82,7 +81,7 @@ replay_explained text image schedule r c f =
     let refines : RefinesInPieces c.program (code_of c.program) = subst (λ (p : Program). RefinesInPieces c.program p)
     c.code c.pieces in
     let (steps, run, count, same, fit) = runs_so (code_of c.program) r.log.items (parts r.last)
-    (most_few c.program.version) followed.follows.legal in
+    followed.follows.legal in
     let single = followed.follows.single in
     let total = ones_cost r.log.items single in
     let many : length r.log.items ≡ length schedule =
@@ -107,7 +106,7 @@ sound_at text image schedule number c (inr (before, k, turn.Kill t, comes, refus
 sound_at text image schedule number c (inr (before, k, turn.Step t, comes, refuses)) =
     let refines : RefinesInPieces c.program (code_of c.program) = subst (λ (p : Program). RefinesInPieces c.program p)
     c.code c.pieces in
-    let (steps, run, count, same, fit) = runs_so (code_of c.program) comes.log k (most_few c.program.version)
+    let (steps, run, count, same, fit) = runs_so (code_of c.program) comes.log k
     comes.follows.legal in
     let total = ones_cost comes.log comes.follows.single in
     let many : length comes.log ≡ min before (length schedule) =

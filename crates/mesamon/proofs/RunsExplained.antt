@@ -1,6 +1,5 @@
 -- A report of a run of compiled code is explained by a run of the program.
 use Rattle.std.proofs.Common.{◌≡◌, ◌≢◌, ◌<◌, ◌^◌, ℕ, List, length, subst, sym, arith}
-use Rattle.words.proofs.Versions.{most_few}
 use Rattle.words.specs.Limits.{run_buckets}
 use Rattle.isa.specs.Programs.{Program}
 use Rattle.machine.specs.declared.event.Entry.{Entry}
@@ -29,8 +28,7 @@ run_explained runs text image may limit r c below report =
     c.code report in
     let refines : RefinesInPieces c.program (code_of c.program) = subst (λ (p : Program). RefinesInPieces c.program p)
     c.code c.pieces in
-    let (steps, run, count, same, fit) = runs (code_of c.program) r.log.items (parts r.last) (most_few c.program.version)
-    reported.legal in
+    let (steps, run, count, same, fit) = runs (code_of c.program) r.log.items (parts r.last) reported.legal in
     let within = reported.within in
     let few : length steps < 2 ^ 32 = omega arith in
     record {
@@ -59,11 +57,10 @@ run_sound runs locally text image may limit Broken c fails below e =
     fails in
     let refines : RefinesInPieces c.program (code_of c.program) = subst (λ (p : Program). RefinesInPieces c.program p)
     c.code c.pieces in
-    let fits = most_few c.program.version in
-    let (steps, run, count, same, fit) = runs (code_of c.program) m.log m.concrete fits m.legal in
+    let (steps, run, count, same, fit) = runs (code_of c.program) m.log m.concrete m.legal in
     let within = m.within in
     let few : length steps < 2 ^ 32 = omega arith in
-    let (awake, broken) = locally (code_of c.program) may limit m fits in
+    let (awake, broken) = locally (code_of c.program) may limit m in
     refines.locally run_buckets steps (pieces_at m.concrete) (omega arith) run few m.thread m.count m.origin m.here
     m.stands awake m.goes broken
 run_sound runs locally text image may limit Memory c fails below e = absurd cc

@@ -1,7 +1,6 @@
 -- A log that comes from outside is that of a text's program, and explained or followed.
 use Rattle.std.proofs.Common.{◌≡◌, ◌<◌, ◌∙◌, ◌^◌, ℕ, List, Result, Ok, Err, IfErr, length, ap, sym, subst, arith}
 use Rattle.std.specs.Prelude.{IfOk, IsErr, IsErrAnd, MatchResult}
-use Rattle.words.proofs.Versions.{most_few}
 use Rattle.words.specs.Limits.{run_buckets}
 use Rattle.isa.specs.Programs.{Program as Image}
 use Rattle.machine.specs.declared.event.Entry.{Entry}
@@ -94,7 +93,7 @@ followed_log text lines image entries slice r c reads same f =
     let refines : RefinesInPieces c.program (code_of c.program) = subst (λ (i : Image). RefinesInPieces c.program i)
     c.code c.pieces in
     let (steps, run, count, labels, fit) = runs_so (code_of c.program) r.log.items (parts r.last)
-    (most_few c.program.version) followed.follows.legal in
+    followed.follows.legal in
     let below = followed.follows.few in
     let few : length steps < 2 ^ 32 = omega (arith, count, below) in
     record {

@@ -1,9 +1,7 @@
 -- Runs of the machine with pieces itself are runs of the relation.
-use Rattle.std.proofs.Common.{◌≡◌, ◌<◌, ◌≤◌, ◌==◌, ◌+◌, ℕ, zero, suc, List, [], ◌∷◌, ◌++◌, Some, map, replicate}
+use Rattle.std.proofs.Common.{◌≡◌, ◌<◌, ◌==◌, ◌+◌, ℕ, zero, suc, List, [], ◌∷◌, ◌++◌, Some, map, replicate}
 use Rattle.std.proofs.Common.{refl, ap, sym, ◌∙◌, subst, inl, inr, arith}
 use Rattle.std.proofs.lemmas.List.{replicate_more}
-use Rattle.words.specs.Limits.{most_threads}
-use Rattle.words.specs.Versions.{most_of}
 use Rattle.isa.specs.Programs.{Program}
 use Rattle.locals.specs.Threads.{Thread}
 use Rattle.locals.specs.Steps.{local_after}
@@ -89,15 +87,15 @@ run_of p k k' (s ∷ steps) fit runs =
     }
 
 -- what always holds holds at the start
-pub opening_fit : (p : Program) (n : ℕ) → 0 < n → most_of p.version ≤ most_threads → IsFit p (opening_at p n)
-opening_fit p n some fits = record {
-  well = (opens_so p).1 fits;
+pub opening_fit : (p : Program) (n : ℕ) → 0 < n → IsFit p (opening_at p n)
+opening_fit p n some = record {
+  well = (opens_so p).1;
   right = subst (IsHeldRight p) (sym (pieces_open_so p n)) (runs_so p n [] (opening_pieces p n) some refl).0;
 }
 
 pub pieces_run_so : PiecesRunSo
-pieces_run_so p n k steps some fits runs =
-    let r = run_of p (opening_at p n) k steps (opening_fit p n some fits) runs in
+pieces_run_so p n k steps some runs =
+    let r = run_of p (opening_at p n) k steps (opening_fit p n some) runs in
     (r.run, subst (λ (s : PieceState). GoesByPieces p s r.run (pieces_at k)) (pieces_open_so p n) r.goes, r.same, r.fit)
 
 -- steps after steps

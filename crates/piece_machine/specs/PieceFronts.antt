@@ -1,8 +1,6 @@
 -- The runs of the machine with pieces itself, in which each wake and each move takes from the front of the address's list,
 -- and who sleeps may wake though nobody called for it, and a thread may be killed.
-use Rattle.std.specs.Prelude.{ℕ, ◌≡◌, ◌<◌, ◌≤◌, ◌⊎◌, List, [], ◌∷◌, Ok, map}
-use Rattle.words.specs.Limits.{most_threads}
-use Rattle.words.specs.Versions.{most_of}
+use Rattle.std.specs.Prelude.{ℕ, ◌≡◌, ◌<◌, ◌⊎◌, List, [], ◌∷◌, Ok, map}
 use Rattle.isa.specs.Programs.{Program}
 use Rattle.machine.specs.declared.event.Event.{Event}
 use Rattle.machine.specs.FrontRuns.{EventStep, label_of, event_label}
@@ -24,10 +22,10 @@ abbrev pub FrontPieces : Program → PieceConcrete → List EventStep → PieceC
 FrontPieces p k [] k' = k ≡ k'
 FrontPieces p k (s ∷ steps) k' = (mid : PieceConcrete) × FrontPiece p k s mid × FrontPieces p mid steps k'
 
--- a run of the machine itself, which can run all threads that there can be, is a run of the relation, step by step: of the
--- same threads, which wake the same, and with the same wakes and kills from outside; and it keeps what always holds
+-- a run of the machine itself is a run of the relation, step by step: of the same threads, which wake the same, and with the
+-- same wakes and kills from outside; and it keeps what always holds
 abbrev pub PiecesRunSo : Type 0
 PiecesRunSo =
-    (p : Program) (n : ℕ) (k : PieceConcrete) (steps : List EventStep) → 0 < n → most_of p.version ≤ most_threads
+    (p : Program) (n : ℕ) (k : PieceConcrete) (steps : List EventStep) → 0 < n
     → FrontPieces p (opening_at p n) steps k
     → (run : List Step) × PieceRun p n run (pieces_at k) × (map label_of run ≡ map event_label steps) × IsFit p k

@@ -95,7 +95,7 @@ procedure_of q = record {
   body = block_in q.body.items;
 }
 
--- a program, whose image has the first version
+-- a program, whose image has the second version
 abbrev pub program_of : ProgramOf → Program
 program_of p = record {
   version = Two;

@@ -1,11 +1,9 @@
 -- A step of the machine in pieces leads the source where its event says.
 use Rattle.std.proofs.Common.{◌≡◌, ◌≢◌, ℕ, ◌+◌, ◌<◌, ◌%◌, ◌==◌, Bool, true, false, List, [], ◌∷◌, length}
 use Rattle.std.proofs.Common.{Some, None, Result, Ok, Err, refl, ap, sym, ◌∙◌, subst, arith, ◌++◌, inl, inr}
-use Rattle.std.specs.Prelude.{◌≤◌, ◌^◌, if◌then◌else◌, map}
+use Rattle.std.specs.Prelude.{◌^◌, if◌then◌else◌, map}
 use Rattle.std.proofs.lemmas.List.{length-map}
-use Rattle.words.specs.Limits.{most_threads}
 use Rattle.words.specs.Updates.{put}
-use Rattle.words.specs.Versions.{most_of}
 use Rattle.isa.specs.Programs.{Program as Image}
 use Rattle.futexcalls.specs.declared.pieces.FutexCall.{FutexCall}
 use Rattle.futexcalls.specs.declared.pieces.FutexCall.TheVariants.{Wait, Wake, Requeue}
@@ -316,14 +314,13 @@ one_thread : {x y : Thread} → Some x ≡ Some y → x ≡ y
 one_thread e = cc
 
 module _ (p : Program) (n : ℕ) where
-  pub opens : 0 < n → most_of p.version ≤ most_threads
-      → ComesTo p n [] (opening_at (code_of p) n) (opening_progress p)
-  opens some fits =
+  pub opens : 0 < n → ComesTo p n [] (opening_at (code_of p) n) (opening_progress p)
+  opens some =
       let o = opens_machine (code_of p) in
       record {
         some = some;
         fit = record {
-          well = o.1 fits;
+          well = o.1;
           right = subst (λ (z : PieceState). IsHeldRight (code_of p) z) (sym (pieces_open_so (code_of p) n))
               (opening_held (code_of p) n some);
         };

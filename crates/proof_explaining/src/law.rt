@@ -1,6 +1,4 @@
-ghost use Rattle.std.specs.Prelude.{[], ◌≡◌, ◌+◌, ◌++◌, ◌<◌, ◌≤◌, ◌==◌, ◌^◌, ◌∷◌, ℕ, true, false, List, Ok, Some, length};
-ghost use Rattle.words.specs.Limits.{most_threads};
-ghost use Rattle.words.specs.Versions.{most_of};
+ghost use Rattle.std.specs.Prelude.{[], ◌≡◌, ◌+◌, ◌++◌, ◌<◌, ◌==◌, ◌^◌, ◌∷◌, ℕ, true, false, List, Ok, Some, length};
 ghost use Rattle.lowering.specs.Pieces.{code_of};
 ghost use Rattle.locals.specs.Looks.{look};
 ghost use Rattle.locals.specs.Threads.{Thread};
@@ -60,7 +58,7 @@ pub fn pieces_explain()
 /// source in any of its pieces. What is due of a visible step, of a wake from outside and of a kill, and how the whole is
 /// explained, follows from what the source has come to.
 pub fn events_explain()
-    ensures opens { (p : Program) (n : ℕ) → 0 < n → most_of p.version ≤ most_threads
+    ensures opens { (p : Program) (n : ℕ) → 0 < n
         → ComesTo p n [] (opening_at (code_of p) n) (opening_progress p) }
     ensures steps { (p : Program) (n : ℕ) (events : List EventStep) (k k' : PieceConcrete) (t : ℕ)
         (event : Event) (g : Progress)

@@ -54,12 +54,12 @@ put_there : {A : Type 0} → (f : ℕ → A) (t : ℕ) (x : A) → put f t x t �
 put_there f t x = rw (eq-eqb t t refl) refl
 
 pub locally_so : LocallySo
-locally_so p may limit m fits =
+locally_so p may limit m =
     let k = m.concrete in
     let t = m.thread in
     let there = with_local k t m.here in
     let u = up k.concrete t m.moves in
-    let fit = kept_put p k t m.count m.origin m.here (holds p m.log k fits m.legal) u.awake m.stands m.goes in
+    let fit = kept_put p k t m.count m.origin m.here (holds p m.log k m.legal) u.awake m.stands m.goes in
     let gives = (refused_by there (piece_of p there t) (local_step p t m.here) Broken m.breaks).1 in
     let b = (piece_breaks_so p there t fit).0 gives in
     let n = b.1 in

@@ -1,11 +1,10 @@
 -- A legal log, unrolled into the steps of a run of the machine itself, and so into those of a run of the relation.
-use Rattle.std.proofs.Common.{◌≡◌, ◌≤◌, ℕ, zero, suc, ◌+◌, ◌-◌, List, [], ◌∷◌, ◌++◌, length, Option, Some, None}
+use Rattle.std.proofs.Common.{◌≡◌, ℕ, zero, suc, ◌+◌, ◌-◌, List, [], ◌∷◌, ◌++◌, length, Option, Some, None}
 use Rattle.std.proofs.Common.{Ok, slice_get, slice_set, replicate, map, refl, ap, sym, ◌∙◌, arith}
 use Rattle.std.proofs.Common.{subst, inl, inr, length-append}
 use Rattle.std.proofs.lemmas.List.{length-replicate, length-map, replicate_more}
 use Rattle.std.proofs.lemmas.List.Sums.{sum_by-cons}
-use Rattle.words.specs.Limits.{most_threads, run_buckets}
-use Rattle.words.specs.Versions.{most_of}
+use Rattle.words.specs.Limits.{run_buckets}
 use Rattle.isa.specs.Programs.{Program}
 use Rattle.locals.specs.Threads.{Thread}
 use Rattle.locals.specs.Steps.{local_step, local_after, and_step}
@@ -153,18 +152,17 @@ kept_put p k t n o here fit awake stands goes =
     (locals_lead p k t n o here awake stands goes)).fit
 
 -- and where a log leads
-pub holds : (p : Program) (log : List Entry) (k : PieceConcrete) → most_of p.version ≤ most_threads
-    → Runs p (opening p) log k → IsFit p k
-holds p log k fits runs = (run_of p (opening p) k (steps_of log) (opening_fit p run_buckets (omega arith) fits)
+pub holds : (p : Program) (log : List Entry) (k : PieceConcrete) → Runs p (opening p) log k → IsFit p k
+holds p log k runs = (run_of p (opening p) k (steps_of log) (opening_fit p run_buckets (omega arith))
     (steps_so p (opening p) k log runs)).fit
 
 pub runs_so : RunsSo
-runs_so p log k fits runs =
-    let r = pieces_run_so p run_buckets k (steps_of log) (omega arith) fits (steps_so p (opening p) k log runs) in
+runs_so p log k runs =
+    let r = pieces_run_so p run_buckets k (steps_of log) (omega arith) (steps_so p (opening p) k log runs) in
     (r.0, r.1, as_many r.0 (steps_of log) r.2 ∙ many log, r.2, r.3)
 
 pub meets_so : MeetsSo
-meets_so p may limit m fits =
+meets_so p may limit m =
     let u = up m.concrete.concrete m.thread m.moves in
     let there = with_local m.concrete m.thread m.here in
     let more = replicate m.count (local_step_of m.thread) in
@@ -172,7 +170,7 @@ meets_so p may limit m fits =
     let runs = run_on p (opening p) m.concrete there (steps_of m.log) more
     (steps_so p (opening p) m.concrete m.log m.legal)
     (locals_lead p m.concrete m.thread m.count m.origin m.here u.awake m.stands m.goes) in
-    let r = pieces_run_so p run_buckets there all (omega arith) fits runs in
+    let r = pieces_run_so p run_buckets there all (omega arith) runs in
     let broken = (refused_by there (piece_of p there m.thread) (local_step p m.thread m.here) Broken m.breaks).1 in
     let long : length r.0 ≡ cost m.log + m.count =
     omega (

@@ -1,7 +1,6 @@
 -- A legal log is a run of the machine with calls in pieces, step by step, and each run of the machine itself is a log's.
-use Rattle.std.specs.Prelude.{◌≡◌, ◌≤◌, ◌+◌, ◌++◌, ℕ, List, [], ◌∷◌, length, map, replicate, Option, Some, None}
-use Rattle.words.specs.Limits.{most_threads, run_buckets}
-use Rattle.words.specs.Versions.{most_of}
+use Rattle.std.specs.Prelude.{◌≡◌, ◌+◌, ◌++◌, ℕ, List, [], ◌∷◌, length, map, replicate, Option, Some, None}
+use Rattle.words.specs.Limits.{run_buckets}
 use Rattle.isa.specs.Programs.{Program}
 use Rattle.machine.specs.declared.event.Entry.{Entry}
 use Rattle.machine.specs.declared.event.Event.{Event}
@@ -42,11 +41,11 @@ LogsSo =
     (p : Program) (k k' : PieceConcrete) (steps : List EventStep) → FrontPieces p k steps k'
     → (log : List Entry) × Runs p k log k' × (steps_of log ≡ steps)
 
--- where a machine can run all threads that there can be, a run of the relation, of as many steps as the log costs,
--- which are the log's own, leads to where the log leads, and what always holds holds there
+-- a run of the relation, of as many steps as the log costs, which are the log's own, leads to where the log leads, and what
+-- always holds holds there
 abbrev pub RunsSo : Type 0
 RunsSo =
-    (p : Program) (log : List Entry) (k : PieceConcrete) → most_of p.version ≤ most_threads → Runs p (opening p) log k
+    (p : Program) (log : List Entry) (k : PieceConcrete) → Runs p (opening p) log k
     → (steps : List Step) × PieceRun p run_buckets steps (pieces_at k) × (length steps ≡ cost log)
     × (map label_of steps ≡ map event_label (steps_of log)) × IsFit p k
 
@@ -54,7 +53,7 @@ RunsSo =
 -- may not be
 abbrev pub MeetsSo : Type 0
 MeetsSo =
-    (p : Program) (may : Outside) (limit : ℕ) (m : MeetsBroken p may limit) → most_of p.version ≤ most_threads
+    (p : Program) (may : Outside) (limit : ℕ) (m : MeetsBroken p may limit)
     → (steps : List Step) × (s : PieceState)
     × PieceRun p run_buckets steps s × (length steps ≡ cost m.log + m.count) × NextPieceIsBroken p s m.thread
     × (map label_of steps ≡ map event_label (steps_of m.log ++ replicate m.count (local_step_of m.thread)))
@@ -63,7 +62,7 @@ MeetsSo =
 -- where its next step may not be
 abbrev pub LocallySo : Type 0
 LocallySo =
-    (p : Program) (may : Outside) (limit : ℕ) (m : MeetsBroken p may limit) → most_of p.version ≤ most_threads
+    (p : Program) (may : Outside) (limit : ℕ) (m : MeetsBroken p may limit)
     → (m.concrete.concrete.common.asleep m.thread ≡ None)
     × NextPieceIsBroken p (record (pieces_at m.concrete) {
       base = with_thread (state_of m.concrete.concrete) m.thread m.here;

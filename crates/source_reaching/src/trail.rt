@@ -1,5 +1,5 @@
 use source_states::Action;
-use std::alloc::{AllocError, Global};
+use std::alloc::AllocError;
 
 /// Where actions are noted that were followed.
 pub trait Trail {

@@ -26,7 +26,7 @@ fn are_quiet(ends: &[End], process: u64) -> bool {
 }
 
 impl<'a> Parts<'a> {
-    ghost use Rattle.std.specs.Prelude.{◌≡◌, IfOk, IfSome, OnOk};
+    ghost use Rattle.std.specs.Prelude.{IfOk, IfSome, OnOk};
     ghost use Rattle.program.specs.Trees.{Program as ProgramOf};
     ghost use Rattle.meaning.specs.Runs.{CanMove};
     ghost use Rattle.source_reaching.specs.Among.{AreEnds};

@@ -35,7 +35,7 @@ procedure u q = record {
   body = block (record { unit = u; piece = q }) q.body.statements;
 }
 
--- the program of a unit, whose image has the first version
+-- the program of a unit, whose image has the second version
 abbrev pub resolved : UnitTree → Program
 resolved u = record {
   version = Two;

@@ -1,5 +1,4 @@
 use Rattle.std.proofs.Common.{◌≡◌, ◌<◌, ◌∙◌, Some, ap, arith, below_more, get_or, length, refl, slice_get, slice_set, suc, sym}
-use Rattle.std.proofs.lemmas.Bool.Decides.{nat_tests}
 use Rattle.std.proofs.lemmas.Option.{slice_get-get_or}
 use Rattle.source_search.proofs.Merged.{put_within, same_list, set_length}
 use Rattle.source_search.proofs.packed.are_but_at.Goals as goal

@@ -1,4 +1,4 @@
-use Rattle.std.proofs.Common.{◌≡◌, Some, ap, slice_get, subst}
+use Rattle.std.proofs.Common.{◌≡◌, ap, slice_get, subst}
 use Rattle.words.specs.Versions.{most_of}
 use Rattle.words.specs.declared.outcome.Cause.TheVariants.{Faulted}
 use Rattle.locals.specs.Looks.{Goes}

@@ -1,7 +1,5 @@
 -- The parts are those of the opening.
-use Rattle.std.proofs.Common.{◌≡◌, ◌≤◌, ap, sym, ◌∙◌, subst, arith}
-use Rattle.words.specs.Limits.{most_threads}
-use Rattle.words.specs.Versions.{most_of}
+use Rattle.std.proofs.Common.{◌≡◌, ap, sym, ◌∙◌, subst}
 use Rattle.machine.specs.States.{ConcreteState, opening_concrete}
 use Rattle.machine.specs.Views.{ShowsAble, concrete_of, parts_of}
 use Rattle.machine.proofs.Ables.{shows_opening}
@@ -22,10 +20,8 @@ pub invariant_of-result : goal.invariant_of-result
 invariant_of-result c =
     let is : parts_of c.in_ok-new.field-0 c.in_ok-opening_threads.field-0.items
     ≡ opening_concrete c.args.image.now = returns-clause-opening c in
-    let most = c.in_ok-new.ensures.threads in
-    let few = c.in_ok-new.ensures.few in
-    let fits : most_of c.args.image.now.version ≤ most_threads = omega (arith, most, few) in (
-      rw (c.in_ok-copy.ensures, is) ((opens_so c.args.image.now).1 fits),
+    (
+      rw (c.in_ok-copy.ensures, is) (opens_so c.args.image.now).1,
       rw c.in_ok-copy.ensures c.in_ok-opening_threads.ensures.space,
       subst (λ (k : ConcreteState). ShowsAble c.put.new.self.words k) (sym is)
           (shows_opening c.args.image.now c.new-able.result.words c.put.new.self.words c.new-able.ensures
