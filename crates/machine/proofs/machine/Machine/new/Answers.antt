@@ -19,8 +19,7 @@ returns-clause-opening c =
 pub invariant_of-result : goal.invariant_of-result
 invariant_of-result c =
     let is : parts_of c.in_ok-new.field-0 c.in_ok-opening_threads.field-0.items
-    ≡ opening_concrete c.args.image.now = returns-clause-opening c in
-    (
+    ≡ opening_concrete c.args.image.now = returns-clause-opening c in (
       rw (c.in_ok-copy.ensures, is) (opens_so c.args.image.now).1,
       rw c.in_ok-copy.ensures c.in_ok-opening_threads.ensures.space,
       subst (λ (k : ConcreteState). ShowsAble c.put.new.self.words k) (sym is)
