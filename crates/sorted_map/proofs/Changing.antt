@@ -1,5 +1,6 @@
 -- A map that is changed at one key, in its place.
 use Rattle.std.proofs.Common.{◌≡◌, ℕ, zero, suc, Bool, true, false, cond, List, [], ◌∷◌, set, Option, Some, None, sym, ap, ◌∙◌, refl}
+use Rattle.std.proofs.Common.{◌<◌, length, get_or, arith, subst}
 use Rattle.std.proofs.lemmas.Map.{lookup-insert, lookup-none, lookup-remove_entry}
 use Rattle.std.proofs.lemmas.Map.Keys.{IsDistinct-from_sorted}
 use Rattle.std.specs.BTreeMap.{is_at}
@@ -10,7 +11,7 @@ use Rattle.std.specs.List.{AllByRecursion, insert, remove}
 use Rattle.std.specs.List.Sorted.{IsStrictlySortedBy}
 use Rattle.std.specs.Map.{keys_of, lookup, remove_entry}
 use Rattle.std.specs.Ordering.{is_eq, ordering_reverse}
-use Rattle.sorted_map.specs.Maps.{IsFoundAt, IsGapAt, IsOrdered, Updates}
+use Rattle.sorted_map.specs.Maps.{IsFoundAt, IsGapAt, IsOrdered, Updates, with_value_at}
 use Rattle.sorted_map.proofs.Finding.{none_in_gap}
 
 -- the first is asked before the second, or after it
@@ -30,6 +31,25 @@ all : {K : Type 0} {P Q : K → Type 0} → ((y : K) → P y → Q y) → (ks : 
 all more [] a = tt
 all more (k ∷ ks) a = (more k a.0, all more ks a.1)
 
+module _ {K X : Type 0} where
+  keys_stay : (w : X) (es : List (K × X)) (i : ℕ) → keys_of (with_value_at es i w) ≡ keys_of es
+  keys_stay w [] i = refl
+  keys_stay w (e ∷ es) zero = refl
+  keys_stay w (e ∷ es) (suc i) = ap (λ ks. e.0 ∷ ks) (keys_stay w es i)
+
+  -- the keys still rise where one gets another value
+  pub stays_ordered : (cmp : K → K → Ordering) (w : X) (es : List (K × X)) (i : ℕ) → IsOrdered cmp es
+      → IsOrdered cmp (with_value_at es i w)
+  stays_ordered cmp w es i ordered = subst (IsStrictlySortedBy cmp) (sym (keys_stay w es i)) ordered
+
+  -- an entry's value is written in the entry's place
+  pub value_written : (w : X) (es : List (K × X)) (i : ℕ) (e : K × X) → i < length es → e ≡ get_or es i e
+      → set es i (e.0, w) ≡ with_value_at es i w
+  value_written w [] i e within at = absurd (omega (arith, within))
+  value_written w (d ∷ es) zero e within at = ap (λ (f : K × X). (f.0, w) ∷ es) at
+  value_written w (d ∷ es) (suc i) e within at =
+      ap (λ l. d ∷ l) (value_written w es i e (omega (arith, within)) at)
+
 module _ {K : Type 0} {cmp : K → K → Ordering} (total : IsTotalOrder cmp) (k : K) where
   same_test : (x q : K) → cmp k x ≡ Equal → is_at (cmp q) x ≡ is_at (cmp k) q
   same_test x q e = (eq_by_cmp_equiv total).symm q x ∙ ap is_eq (sym (total.congr k x q e))
@@ -42,33 +62,16 @@ module _ {K : Type 0} {cmp : K → K → Ordering} (total : IsTotalOrder cmp) (k
   one_class x y at = (eq_by_cmp_equiv total).congr k x y at
 
 module _ {K X : Type 0} {cmp : K → K → Ordering} (total : IsTotalOrder cmp) (k : K) where
-  -- over an entry that is there
-  all_set : (P : K → Type 0) (v : X) (es : List (K × X)) (i : ℕ) → P k → AllByRecursion P (keys_of es)
-      → AllByRecursion P (keys_of (set es i (k, v)))
-  all_set P v [] i p a = tt
-  all_set P v (e ∷ es) zero p a = (p, a.1)
-  all_set P v (e ∷ es) (suc i) p a = (a.0, all_set P v es i p a.1)
-
-  pub set_ordered : (v : X) (es : List (K × X)) (i : ℕ) → IsOrdered cmp es → IsFoundAt cmp k es i
-      → IsOrdered cmp (set es i (k, v))
-  unfolding IsStrictlySortedBy
-  set_ordered v [] i ordered found = tt
-  set_ordered v (e ∷ es) zero ordered found = (all (λ y less. total.congr k e.0 y found ∙ less) (keys_of es) ordered.0, ordered.1)
-  set_ordered v (e ∷ es) (suc i) ordered found = (
-    all_set (λ y. cmp e.0 y ≡ Less) v es i (total.antisymm e.0 k ∙ ap ordering_reverse found.0) ordered.0,
-    set_ordered v es i ordered.1 found.1,
-  )
-
-  pub set_updates : (v : X) (es : List (K × X)) (i : ℕ) → IsFoundAt cmp k es i
-      → Updates cmp es (set es i (k, v)) k (Some v)
-  set_updates v [] i found q = absurd found
-  set_updates v (e ∷ es) zero found q =
-      ap (λ b. cond b (Some v) (lookup (is_at (cmp q)) es)) ((eq_by_cmp_equiv total).symm q k ∙ sym (same_test total k e.0 q found))
-      ∙ same_choice (is_at (cmp q) e.0) (is_at (cmp k) q) (Some e.1) (Some v) (lookup (is_at (cmp q)) es)
+  -- another value for a key that is there
+  pub value_updates : (w : X) (es : List (K × X)) (i : ℕ) → IsFoundAt cmp k es i
+      → Updates cmp es (with_value_at es i w) k (Some w)
+  value_updates w [] i found q = absurd found
+  value_updates w (e ∷ es) zero found q =
+      same_choice (is_at (cmp q) e.0) (is_at (cmp k) q) (Some e.1) (Some w) (lookup (is_at (cmp q)) es)
       (same_test total k e.0 q found)
-  set_updates v (e ∷ es) (suc i) found q =
-      ap (cond (is_at (cmp q) e.0) (Some e.1)) (set_updates v es i found.1 q)
-      ∙ swapped (is_at (cmp q) e.0) (is_at (cmp k) q) (Some e.1) (Some v) (lookup (is_at (cmp q)) es)
+  value_updates w (e ∷ es) (suc i) found q =
+      ap (cond (is_at (cmp q) e.0) (Some e.1)) (value_updates w es i found.1 q)
+      ∙ swapped (is_at (cmp q) e.0) (is_at (cmp k) q) (Some e.1) (Some w) (lookup (is_at (cmp q)) es)
       (other_test total k e.0 q found.0)
 
   -- a new entry in its gap

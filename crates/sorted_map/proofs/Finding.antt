@@ -1,6 +1,6 @@
 -- Where a key is among keys that rise, or where it would go.
 use Rattle.std.proofs.Common.{◌≡◌, ◌<◌, ◌≤◌, ℕ, zero, suc, List, [], ◌∷◌, length, get_or, Some, Result, Ok, Err}
-use Rattle.std.proofs.Common.{MatchResult, refl, sym, ap, ◌∙◌, arith}
+use Rattle.std.proofs.Common.{MatchResult, slice_get, refl, sym, ap, ◌∙◌, arith}
 use Rattle.std.proofs.Common.{inl, inr}
 use Rattle.std.proofs.Math.ListN.{get_or-map}
 use Rattle.std.proofs.lemmas.Bool.{cases_eq}
@@ -14,7 +14,7 @@ use Rattle.std.specs.declared.cmp.Ordering.{Ordering}
 use Rattle.std.specs.declared.cmp.Ordering.TheVariants.{Less, Equal, Greater}
 use Rattle.std.specs.List.{AllByRecursion, AllWithin, HoldsAt}
 use Rattle.std.specs.List.Sorted.{IsBinarySearchResult, IsNonDecreasingBy, IsSearchInRange}
-use Rattle.std.specs.Map.{keys_of, lookup}
+use Rattle.std.specs.Map.{keys_of, lookup, values_of}
 use Rattle.std.specs.Ordering.{is_eq, ordering_index, ordering_reverse}
 use Rattle.sorted_map.specs.Maps.{IsFoundAt, IsGapAt, IsOrdered}
 
@@ -94,12 +94,12 @@ module _ {K X : Type 0} {cmp : K → K → Ordering} (total : IsTotalOrder cmp) 
   gap_within (e ∷ es) (suc i) gap = omega (arith, gap_within es i gap.1)
 
   -- the value of a key that is there
-  pub found_value : (es : List (K × X)) (i : ℕ) (d : K × X) → IsFoundAt cmp k es i
-      → lookup (is_at (cmp k)) es ≡ Some (get_or es i d).1
-  found_value [] i d found = absurd found
-  found_value (e ∷ es) zero d found = lookup_head (is_at (cmp k)) e es (ap is_eq found)
-  found_value (e ∷ es) (suc i) d found =
-      lookup_tail (is_at (cmp k)) e es (ap is_eq found.0) ∙ found_value es i d found.1
+  pub found_value : (es : List (K × X)) (i : ℕ) → IsFoundAt cmp k es i
+      → lookup (is_at (cmp k)) es ≡ slice_get (values_of es) i
+  found_value [] i found = absurd found
+  found_value (e ∷ es) zero found = lookup_head (is_at (cmp k)) e es (ap is_eq found)
+  found_value (e ∷ es) (suc i) found =
+      lookup_tail (is_at (cmp k)) e es (ap is_eq found.0) ∙ found_value es i found.1
 
   -- no key is equal to one that is not there
   pub none_in_gap : (es : List (K × X)) (i : ℕ) → IsOrdered cmp es → IsGapAt cmp k es i → NonePasses (is_at (cmp k)) es
@@ -107,3 +107,11 @@ module _ {K X : Type 0} {cmp : K → K → Ordering} (total : IsTotalOrder cmp) 
   none_in_gap (e ∷ es) zero ordered gap = none_below_head total k e es ordered gap
   none_in_gap (e ∷ es) (suc i) ordered gap =
       (ap is_eq gap.0, none_in_gap es i (sorted_tail cmp e.0 (keys_of es) ordered) gap.1)
+
+module _ {K X : Type 0} where
+  -- the value of an entry
+  pub value_at : (es : List (K × X)) (i : ℕ) (e : K × X) → i < length es → e ≡ get_or es i e
+      → slice_get (values_of es) i ≡ Some e.1
+  value_at [] i e within at = absurd (omega (arith, within))
+  value_at (d ∷ es) zero e within at = ap (λ (f : K × X). Some f.1) (sym at)
+  value_at (d ∷ es) (suc i) e within at = value_at es i e (omega (arith, within)) at

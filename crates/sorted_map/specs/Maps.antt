@@ -15,6 +15,13 @@ module _ {K X : Type 0} (cmp : K → K → Ordering) where
   abbrev pub get : List (K × X) → K → Option X
   get es k = lookup (is_at (cmp k)) es
 
+module _ {K X : Type 0} where
+  -- the map with this value at a place
+  abbrev pub with_value_at : List (K × X) → ℕ → X → List (K × X)
+  with_value_at [] i w = []
+  with_value_at (e ∷ es) zero w = (e.0, w) ∷ es
+  with_value_at (e ∷ es) (suc i) w = e ∷ with_value_at es i w
+
 module _ {K X : Type 0} (cmp : K → K → Ordering) where
   -- the second map has this at the key, and at every other key what the first has
   abbrev pub Updates : List (K × X) → List (K × X) → K → Option X → Type 0
