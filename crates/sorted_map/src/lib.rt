@@ -128,10 +128,7 @@ impl<K: Copy + Ord, V: Copy> SortedMap<K, V> {
     pub fn get(&self, key: K) -> Option<V>
         ensures { result ≡ get K.cmp self.now key }
     {
-        match self.find(key) {
-            Ok(place) => Some(self.entries[place].1),
-            Err(_) => None,
-        }
+        self.get_ref(key).copied()
     }
 
     /// The same map once more.
