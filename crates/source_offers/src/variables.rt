@@ -3,7 +3,6 @@ ghost use Rattle.meaning.specs.Values.{with_variable};
 
 use sorted_map::SortedMap;
 use std::alloc::{AllocError, Global};
-use std::hash::{FoldHasher, Hasher};
 
 /// Where a variable stands: its monitor, its member, and in an array its index (0 where the member is no array).
 #[derive(Clone, Copy, PartialEq, Eq, PartialOrd, Ord, Debug)]
@@ -24,7 +23,7 @@ pub struct Variables {
 }
 
 impl Variables {
-    ghost use Rattle.source_offers.specs.Stores.{variables_of};
+    ghost use Rattle.source_offers.specs.Stores.{variables_in, variables_of};
 
     /// All variables as they begin: 0, FALSE, or the empty handle.
     pub fn new(alloc: Global) -> Variables
@@ -74,13 +73,10 @@ impl Variables {
         self.values == other.values
     }
 
-    /// Writes the values that aren't 0 to a hasher, each with its place.
-    pub fn feed(&self, hasher: &mut FoldHasher) {
-        for (place, value) in self.values.entries() {
-            hasher.write_u32(place.monitor);
-            hasher.write_u32(place.member);
-            hasher.write_u32(place.index);
-            hasher.write_i64(*value);
-        }
+    /// The variables that aren't 0 with their values, by rising places.
+    pub fn entries(&self) -> &[(Place, i64)]
+        ensures { variables_in result.now ≡ variables_of self.now }
+    {
+        self.values.entries()
     }
 }

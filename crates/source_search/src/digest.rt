@@ -1,10 +1,9 @@
 use crate::memo::Outcome;
 use crate::packed::Packed;
 use program::{Member, Program, Statement, Target};
-use source_offers::{End, Frame, Process, Stage, Variables};
+use source_offers::{End, Frame, Place, Process, Stage, Variables};
 use source_states::SourceState;
 use source_table::Hold;
-use std::hash::{FoldHasher, Hasher};
 use words::Cause;
 
 // What spreads numbers.
@@ -134,6 +133,12 @@ fn feed_hold(hold: Hold, digest: &mut Mixer) {
     }
 }
 
+fn feed_variable(place: Place, value: i64, digest: &mut Mixer) {
+    digest.feed_kind(u64::from(place.monitor), u64::from(place.member));
+    digest.feed(u64::from(place.index));
+    digest.feed(value.cast_unsigned());
+}
+
 // Who holds each monitor.
 fn feed_holds(program: &Program, state: &SourceState, digest: &mut Mixer) {
     let mut monitor: u32 = 0;
@@ -170,9 +175,11 @@ pub(crate) fn digest_table(program: &Program, state: &SourceState, made: u64) ->
 
 /// The digest of the values of variables.
 pub(crate) fn digest_variables(variables: &Variables) -> u64 {
-    let mut hasher = FoldHasher::default();
-    variables.feed(&mut hasher);
-    hasher.finish()
+    let mut digest = Mixer::new();
+    for (place, value) in variables.entries() {
+        feed_variable(*place, *value, &mut digest);
+    }
+    mixed(digest.number)
 }
 
 // What a part at a place adds to the digest of a kept state.
