@@ -1,3 +1,4 @@
+pub mod Places
 pub mod Openings
 pub mod Effects
 pub mod Acts

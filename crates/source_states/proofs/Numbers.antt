@@ -1,34 +1,40 @@
--- The numbers of a map's keys.
-use Rattle.std.proofs.Common.{◌≡◌, ◌==◌, ◌↔◌, ℕ, true, List, Contains, Option, Some, None, refl, sym, ◌∙◌, nat_cmp}
-use Rattle.std.proofs.Common.{arith}
+-- The numbers of the processes.
+use Rattle.std.proofs.Common.{◌≡◌, ◌==◌, ◌↔◌, ◌+◌, ◌<◌, ◌++◌, ℕ, true, List, ◌∷◌, [], Contains, Option, Some, None}
+use Rattle.std.proofs.Common.{add-one, ap, arith, get_or, length, refl, sym, take, ◌∙◌}
+use Rattle.std.proofs.Math.Seq.{take-suc}
 use Rattle.std.proofs.lemmas.Bool.Decides.{nat_tests}
-use Rattle.std.proofs.lemmas.Map.Made.{is_member-Decides}
-use Rattle.std.specs.Cmp.{unsigned_tied}
-use Rattle.std.specs.Bool.{Decides}
-use Rattle.std.specs.BTreeMap as tree
-use Rattle.std.specs.BTreeMap.{BTreeMap}
-use Rattle.std.specs.Ordering.{eq_by_cmp}
+use Rattle.std.proofs.lemmas.Cmp.{nat_cmp_total}
+use Rattle.std.proofs.lemmas.List.{map-append}
+use Rattle.std.proofs.lemmas.Map.Views.{Contains-keys_from_lookup, IsSome-lookup_from_Contains}
+use Rattle.std.specs.Cmp.{eq_by_cmp_equiv, unsigned_tied}
+use Rattle.std.specs.Map.{keys_of}
+use Rattle.std.specs.Ordering.{eq_by_cmp, nat_cmp}
 use Rattle.std.specs.Prelude.{IsSome, is_some, option_map}
-use Rattle.std.specs.Set.{is_member}
+use Rattle.sorted_map.specs.Maps.{get}
 use Rattle.source_offers.specs.declared.process.Process.{Process as ProcessOf}
 use Rattle.source_offers.specs.Stages.{process_of}
 use Rattle.source_states.specs.States.{processes_in}
 
-eq_decides : (a b : ℕ) → Decides (eq_by_cmp nat_cmp a b) (a ≡ b)
-eq_decides a b = (
-  λ h. let is : (a == b) ≡ true = sym (unsigned_tied a b) ∙ h in grind (arith, nat_tests),
-  λ e. let is : (a == b) ≡ true = grind (arith, nat_tests) in unsigned_tied a b ∙ is,
-)
+alike : (a b : ℕ) → eq_by_cmp nat_cmp a b ≡ true → a ≡ b
+alike a b h = let is : (a == b) ≡ true = sym (unsigned_tied a b) ∙ h in grind (arith, nat_tests)
 
 some_stays : (o : Option ProcessOf) → is_some (option_map process_of o) ≡ is_some o
 some_stays None = refl
 some_stays (Some q) = refl
 
 -- a process is there where its number is one of them
-pub are_numbers : (m : BTreeMap ℕ ProcessOf) (ks : List ℕ) (q : ℕ)
-    → is_some (tree.get nat_cmp m q) ≡ is_member (eq_by_cmp nat_cmp) ks q
-    → Contains ks q ↔ IsSome (processes_in m q)
-are_numbers m ks q has = (
-  λ h. some_stays (tree.get nat_cmp m q) ∙ has ∙ (is_member-Decides eq_decides ks q).1 h,
-  λ h. (is_member-Decides eq_decides ks q).0 (sym has ∙ sym (some_stays (tree.get nat_cmp m q)) ∙ h),
+pub are_numbers : (es : List (ℕ × ProcessOf)) (q : ℕ) → Contains (keys_of es) q ↔ IsSome (processes_in es q)
+are_numbers es q = (
+  λ h. some_stays (get nat_cmp es q) ∙ IsSome-lookup_from_Contains (eq_by_cmp_equiv nat_cmp_total) q es h,
+  λ h. Contains-keys_from_lookup alike q es (sym (some_stays (get nat_cmp es q)) ∙ h),
 )
+
+-- one number more is seen
+pub seen-more : (es : List (ℕ × ProcessOf)) (ns ms : List ℕ) (k : ℕ) (e : ℕ × ProcessOf) → k < length es
+    → e ≡ get_or es k e → ms ≡ ns ++ e.0 ∷ [] → ns ≡ keys_of (take k es) → ms ≡ keys_of (take (k + 1) es)
+seen-more es ns ms k e l is pushed before =
+    pushed ∙ ap (λ xs. xs ++ e.0 ∷ []) before
+    ∙ sym (ap keys_of taken ∙ map-append (λ (f : ℕ × ProcessOf). f.0) (take k es) (e ∷ []))
+  where
+    taken : take (k + 1) es ≡ take k es ++ e ∷ []
+    taken = ap (λ n. take n es) (add-one k) ∙ take-suc es k e l ∙ ap (λ x. take k es ++ x ∷ []) (sym is)

@@ -1,8 +1,7 @@
 -- The state that the code keeps, as a state of the meaning.
-use Rattle.std.specs.Prelude.{ℕ, [], None, Option, option_map}
+use Rattle.std.specs.Prelude.{ℕ, List, [], None, Option, map, option_map}
 use Rattle.std.specs.Ordering.{nat_cmp}
-use Rattle.std.specs.BTreeMap as map
-use Rattle.std.specs.BTreeMap.{BTreeMap}
+use Rattle.sorted_map.specs.Maps.{get}
 use Rattle.meaning.specs.Processes.{Process}
 use Rattle.meaning.specs.States.{SourceState}
 use Rattle.meaning.specs.Table.{Table}
@@ -14,8 +13,12 @@ use Rattle.source_table.specs.Tables.{table_of}
 use Rattle.source_states.specs.declared.state.SourceState.{SourceState as StateOf}
 
 -- the process of each number
-abbrev pub processes_in : BTreeMap ℕ ProcessOf → ℕ → Option Process
-processes_in processes p = option_map process_of (map.get nat_cmp processes p)
+abbrev pub processes_in : List (ℕ × ProcessOf) → ℕ → Option Process
+processes_in processes p = option_map process_of (get nat_cmp processes p)
+
+-- the processes with their numbers
+abbrev pub numbered : List (ℕ × ProcessOf) → List (ℕ × Process)
+numbered processes = map (λ e. (e.0, process_of e.1)) processes
 
 -- a state
 abbrev pub state_of : StateOf → SourceState

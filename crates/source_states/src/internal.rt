@@ -61,7 +61,7 @@ impl<'a> SourceState<'a> {
             (λ o. IsInternalTaken (program_of program.now) number (option_map kind_of o)
             (state_of self.old) (state_of self.new)) }
     {
-        let Some(process) = self.processes.get_mut(&number) else {
+        let Some(process) = self.processes.get_mut(number) else {
             return Ok(None);
         };
         if !is_internal(&self.table, look_ahead(program, &self.variables, process)) {

@@ -26,7 +26,7 @@ impl<'a> SourceState<'a> {
             (IsKill (program_of program.now) (state_of self.old) number resumed.now last)
             (state_of self.new)) }
     {
-        let Some(process) = self.processes.get_mut(&number) else {
+        let Some(process) = self.processes.get_mut(number) else {
             return Ok(false);
         };
         if !is_killable(process) {

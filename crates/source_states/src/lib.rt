@@ -2,6 +2,7 @@
 #![tactic(auto)]
 
 mod action;
+mod copying;
 mod done;
 mod dying;
 mod entering;

@@ -49,7 +49,7 @@ impl<'a> SourceState<'a> {
         ensures { IfOk result (λ o. IsOwnTaken (program_of program.now) number (option_map kind_of o)
             (state_of self.old) (state_of self.new)) }
     {
-        let Some(process) = self.processes.get_mut(&number) else {
+        let Some(process) = self.processes.get_mut(number) else {
             return Ok(None);
         };
         let Some(resumed) = to_resume(alloc, &self.table, foresee(process))? else {

@@ -36,8 +36,7 @@ impl<'a> SourceState<'a> {
           process = put (state_of self.old).process number (Some (process_of process.entry));
         }) }
     {
-        let _before = self.processes.insert(number, process)?;
-        Ok(())
+        self.processes.insert(number, process)
     }
 
     // A process faults, where the action is named so.

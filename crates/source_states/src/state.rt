@@ -10,10 +10,10 @@ ghost use Rattle.source_offers.specs.Stores.{variables_of};
 ghost use Rattle.source_table.specs.Tables.{hold_of, table_of};
 
 use program::{Checked, Member, Program};
+use sorted_map::SortedMap;
 use source_offers::{End, Frame, Place, Process, Stage, Variables};
 use source_table::{Hold, Table};
 use std::alloc::{AllocError, Global};
-use std::collections::BTreeMap;
 use words::ImageVersion;
 
 /// A state of a source program. `state_of` makes it a state of the meaning.
@@ -24,7 +24,7 @@ pub struct SourceState<'a> {
     // The value of each variable.
     pub(crate) variables: Variables,
     // The processes that were made, by number.
-    pub(crate) processes: BTreeMap<u64, Process<'a>>,
+    pub(crate) processes: SortedMap<u64, Process<'a>>,
     // The numbers printed.
     pub(crate) printed: Vec<i64>,
 }
@@ -62,8 +62,8 @@ impl<'a> SourceState<'a> {
         let program = checked.program();
         let last = program.procedures.len().saturating_sub(1);
         let main = SourceState::main_process(alloc, program, last as u32)?;
-        let mut processes = BTreeMap::new(alloc);
-        let _none = processes.insert(1, main)?;
+        let mut processes = SortedMap::new(alloc);
+        processes.insert(1, main)?;
         Ok(SourceState {
             table: Table::new(alloc, version),
             variables: Variables::new(alloc),
@@ -79,7 +79,7 @@ impl<'a> SourceState<'a> {
         SourceState {
             table,
             variables,
-            processes: BTreeMap::new(alloc),
+            processes: SortedMap::new(alloc),
             printed: Vec::new(alloc),
         }
     }
@@ -112,30 +112,15 @@ impl<'a> SourceState<'a> {
         &self.table
     }
 
-    /// The same state once more, but with nothing printed.
-    pub fn copy(&self, alloc: Global) -> Result<SourceState<'a>, AllocError>
-        ensures { IfOk result (λ s. state_of s ≡ record (state_of self.now) { printed = [] }) }
-    {
-        let mut copy = SourceState {
-            table: self.table.copy()?,
-            variables: self.variables.copy()?,
-            processes: BTreeMap::new(alloc),
-            printed: Vec::new(alloc),
-        };
-        for (number, process) in self.processes.iter() {
-            copy.place(*number, process.copy(alloc)?)?;
-        }
-        Ok(copy)
-    }
-
     /// The numbers of the processes that were made, rising.
     pub fn numbers(&self, alloc: Global) -> Result<Vec<u64>, AllocError>
         ensures rising { IfOk result (λ v. IsStrictlyIncreasing v.items) }
         ensures all { IfOk result (λ v. (q : ℕ)
             → Contains v.items q ↔ IsSome ((state_of self.now).process q)) }
     {
-        let mut numbers = Vec::new(alloc);
-        for number in self.processes.keys() {
+        let processes = self.processes.entries();
+        let mut numbers = Vec::with_capacity(alloc, processes.len())?;
+        for (number, _) in processes {
             numbers.push(*number)?;
         }
         Ok(numbers)
@@ -187,7 +172,7 @@ impl<'a> SourceState<'a> {
     pub fn process(&self, process: u64) -> Option<&Process<'a>>
         ensures { option_map (λ q. process_of q.now) result ≡ (state_of self.now).process process }
     {
-        self.processes.get(&process)
+        self.processes.get_ref(process)
     }
 
     /// A stray wake-up: a process resumes that waits on the condition; false, and nothing is done, where it doesn't.

@@ -1,6 +1,4 @@
 ghost use Rattle.std.specs.Prelude.{◌≡◌, IfOk, MatchOption, Some, map};
-ghost use Rattle.std.specs.BTreeMap.{get};
-ghost use Rattle.std.specs.Ordering.{nat_cmp};
 ghost use Rattle.program.specs.Trees.{as_version};
 ghost use Rattle.program.specs.Views.{program_of};
 ghost use Rattle.meaning.specs.Offers.{Does};
@@ -9,7 +7,6 @@ ghost use Rattle.meaning.specs.Runs.{IsAction, IsRun, IsStep};
 ghost use Rattle.meaning.specs.States.{SourceState as SourceStateOf};
 ghost use Rattle.source_offers.specs.NextAction.{offer_of};
 ghost use Rattle.source_offers.specs.Offered.{effect_of, label_of, offer_with};
-ghost use Rattle.source_offers.specs.declared.process.Process.{Process as ProcessIn};
 ghost use Rattle.source_states.specs.Actions.{action_of as action_named};
 ghost use Rattle.source_states.specs.States.{state_of as state_in};
 
@@ -20,6 +17,7 @@ use crate::state::SourceState;
 use program::{Checked, Program};
 use source_offers::{Effect, Label, Offer, Offered, Process, next_offer};
 use std::alloc::{AllocError, Global};
+use std::mem;
 use words::ImageVersion;
 
 impl<'a> SourceState<'a> {
@@ -106,28 +104,8 @@ impl<'a> SourceState<'a> {
         }
     }
 
-    // A process takes up its offer, and is out of the state meanwhile.
-    fn take_up_outside(
-        &mut self,
-        alloc: Global,
-        program: &'a Program,
-        number: u64,
-        kind: &ActionKind,
-        offer: Offer<'a>,
-    ) -> Result<bool, AllocError>
-        ensures { IfOk result (λ b. (q : ProcessIn) → get nat_cmp self.old.processes number ≡ Some q
-            → IsAnswer b
-            (IsTakenUp number (kind_of kind.now) (offer_of (program_of program.now) offer.entry q)
-            (state_of self.old)) (state_of self.new)) }
-    {
-        let found = self.processes.insert(number, blank(alloc))?;
-        let Some(process) = found else {
-            return Ok(false);
-        };
-        self.take_up(alloc, program, number, kind, offer, process)
-    }
-
-    // An action of a process's own. Mostly the process stays where it is in the state, since moving it takes time.
+    // An action of a process's own. Mostly the process stays where it is in the state, since moving it takes time, and
+    // else something blank stands there while it acts.
     fn act(
         &mut self,
         alloc: Global,
@@ -139,14 +117,15 @@ impl<'a> SourceState<'a> {
             (state_of self.new)) }
     {
         let number = action.process;
-        let Some(process) = self.processes.get_mut(&number) else {
+        let Some(process) = self.processes.get_mut(number) else {
             return Ok(false);
         };
         let offer = next_offer(alloc, program, &self.variables, process)?;
         if let Offer::Own(Offered::Does(label, effect)) = offer {
             return self.act_alone(number, &action.kind, label, effect);
         }
-        self.take_up_outside(alloc, program, number, &action.kind, offer)
+        let process = mem::replace(process, blank(alloc));
+        self.take_up(alloc, program, number, &action.kind, offer, process)
     }
 
     /// Does an action; false where it isn't possible, and then nothing is known of the state.

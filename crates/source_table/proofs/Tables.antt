@@ -2,8 +2,7 @@
 use Rattle.std.proofs.Common.{◌≡◌, ℕ, Bool, true, false, cond, ◌==◌, List, Option, refl, ap, ◌∙◌, arith}
 use Rattle.std.proofs.lemmas.Grind.{common_steps}
 use Rattle.std.specs.Ordering.{nat_cmp}
-use Rattle.std.specs.BTreeMap as map
-use Rattle.std.specs.BTreeMap.{BTreeMap, is_at}
+use Rattle.std.specs.BTreeMap.{is_at}
 use Rattle.words.specs.Updates.{put}
 use Rattle.sorted_map.specs.Maps as flat
 
@@ -22,9 +21,3 @@ put_in f before after k w at = λ i j. (
     ap f (at j)
     ∙ chosen_at f (is_at (nat_cmp k) j) w (flat.get nat_cmp before j)
     ∙ ap (λ b. cond b (f w) (f (flat.get nat_cmp before j))) (is_at-number k j)) i
-
--- the same of a tree
-pub put_at : {X Y : Type 0} (f : Option X → Y) (before after : BTreeMap ℕ X) (k : ℕ) (w : Option X)
-    → ((q : ℕ) → map.get nat_cmp after q ≡ cond (is_at (nat_cmp k) q) w (map.get nat_cmp before q))
-    → (λ q. f (map.get nat_cmp after q)) ≡ put (λ q. f (map.get nat_cmp before q)) k (f w)
-put_at f before after k w at = put_in f before.entries after.entries k w at

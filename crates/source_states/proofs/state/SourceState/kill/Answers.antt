@@ -1,5 +1,5 @@
 use Rattle.std.proofs.Common.{Some, ap, rules, sym}
-use Rattle.std.specs.Prelude.{option_map}
+use Rattle.std.specs.Prelude.{is_some, option_map}
 use Rattle.program.specs.Views.{program_of}
 use Rattle.words.specs.declared.outcome.Cause.TheVariants.{Killed}
 use Rattle.source_offers.specs.declared.process.Process.{Process as ProcessOf}
@@ -7,7 +7,7 @@ use Rattle.source_offers.specs.declared.process.Stage.TheVariants.{Dying}
 use Rattle.source_offers.specs.NextAction.{offer_of}
 use Rattle.source_offers.specs.Stages.{process_of}
 use Rattle.source_table.specs.Tables.{table_of}
-use Rattle.source_table.proofs.Tables.{put_at}
+use Rattle.source_table.proofs.Tables.{put_in}
 use Rattle.source_states.specs.States.{processes_in, state_of}
 use Rattle.source_states.proofs.Kills.{killed, not_allowed, not_left}
 use Rattle.source_states.proofs.state.SourceState.kill.Goals as goal
@@ -52,5 +52,5 @@ returns c =
     (rw c.in-Some-2.is at c.in_ok-monitors-2.ensures)
     (c.notified.ensures (program_of c.args.program.now) c.next_offer.new.process) c.if-not-kill.ensures
     (ap (λ f. record (state_of c.args.self.now) { table = table_of c.kill.new.self; process = f })
-    (put_at (option_map process_of) c.args.self.now.processes after c.args.number (Some q)
-    ((c.get_mut.follows.holds q).3 (search rules)).0))
+    (put_in (option_map process_of) c.args.self.now.processes after c.args.number (Some q)
+    (c.get_mut.follows.holds q (ap is_some (sym c.in-Some.ensures.value))).0))

@@ -2,12 +2,12 @@ use Rattle.std.proofs.Common.{ℕ, Option, Some, ap}
 use Rattle.std.specs.Prelude.{option_map}
 use Rattle.meaning.specs.Processes.{Process}
 use Rattle.source_offers.specs.Stages.{process_of}
-use Rattle.source_table.proofs.Tables.{put_at}
+use Rattle.source_table.proofs.Tables.{put_in}
 use Rattle.source_states.specs.States.{state_of}
 use Rattle.source_states.proofs.state.SourceState.place.Goals as goal
 
 pub returns : goal.returns
 returns c =
     ap (λ (f : ℕ → Option Process). record (state_of c.args.self.now) { process = f })
-    (put_at (option_map process_of) c.args.self.now.processes c.insert.new.self c.args.number (Some c.args.process)
-    c.in_ok-_before.ensures.updates.0)
+    (put_in (option_map process_of) c.args.self.now.processes c.insert.new.self c.args.number (Some c.args.process)
+    c.insert.ensures.ok)

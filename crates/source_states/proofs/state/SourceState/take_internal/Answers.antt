@@ -9,9 +9,10 @@ use Rattle.source_offers.specs.Offered.{effect_of, label_of}
 use Rattle.source_offers.specs.Stages.{process_of}
 use Rattle.source_offers.specs.declared.next_action.Offer.TheVariants.{Own}
 use Rattle.source_offers.specs.declared.offers.Offered.TheVariants.{Claims, Does, Makes}
-use Rattle.source_table.proofs.Tables.{put_at}
+use Rattle.source_table.proofs.Tables.{put_in}
 use Rattle.source_states.specs.Internal.{IsInternalTaken, internal_kind}
 use Rattle.source_states.specs.States.{processes_in, state_of}
+use Rattle.source_states.proofs.Places.{there}
 use Rattle.source_states.proofs.Settled.{does, full, claimed}
 use Rattle.source_states.proofs.state.SourceState.take_internal.Goals as goal
 
@@ -22,7 +23,7 @@ returns-in-Own-Does c =
     let before = process_of c.in-Some.process.now in
     let q = c.next_offer.new.process in
     let after = c.get_mut.follows.lender q in
-    let at = (c.get_mut.follows.holds q).3 (search rules) in
+    let at = c.get_mut.follows.holds q (ap is_some (sym c.in-Some.ensures.value)) in
     let is : c.in_ok-label.field-0 ≡ Own (Does c.in-Own-Does.label c.in-Own-Does.effect) = cc in
     let some : is_some (internal_kind (offer p s.variable before) s.table) ≡ true =
     sym (c.is_internal.ensures (offer p s.variable before) c.look_ahead.ensures) ∙ search rules in
@@ -32,8 +33,8 @@ returns-in-Own-Does c =
     (ap (option_map process_of) (sym c.in-Some.ensures.value))
     some (label_of c.in-Own-Does.label) (effect_of c.in-Own-Does.effect) (process_of q) (processes_in after)
     (sym (ap (λ o. offer_of p o q) is) ∙ c.in_ok-label.ensures)
-    (put_at (option_map process_of) c.args.self.now.processes after c.args.number (Some q) at.0)
-    (h.1 (process_of q) (ap (option_map process_of) at.1)))) c.perform_named.ensures
+    (put_in (option_map process_of) c.args.self.now.processes after c.args.number (Some q) at)
+    (h.1 (process_of q) (there c.args.self.now.processes after c.args.number q at)))) c.perform_named.ensures
 
 pub returns-in-Own-Makes : goal.returns-in-Own-Makes
 returns-in-Own-Makes c =
@@ -42,7 +43,7 @@ returns-in-Own-Makes c =
     let before = process_of c.in-Some.process.now in
     let q = c.next_offer.new.process in
     let after = c.get_mut.follows.lender c.fail.new.process in
-    let at = (c.get_mut.follows.holds c.fail.new.process).3 (search rules) in
+    let at = c.get_mut.follows.holds c.fail.new.process (ap is_some (sym c.in-Some.ensures.value)) in
     let is : c.in_ok-label.field-0 ≡ Own (Makes c.in-Own-Makes.field-0-0 c.in-Own-Makes.field-0-1) = cc in
     let some : is_some (internal_kind (offer p s.variable before) s.table) ≡ true =
     sym (c.is_internal.ensures (offer p s.variable before) c.look_ahead.ensures) ∙ search rules in
@@ -52,7 +53,7 @@ returns-in-Own-Makes c =
     (ap (option_map process_of) (sym c.in-Some.ensures.value)) some _ _ _
     (sym (ap (λ o. offer_of p o q) is) ∙ c.in_ok-label.ensures)
     (ap (λ f. record s { process = f })
-    (put_at (option_map process_of) c.args.self.now.processes after c.args.number (Some c.fail.new.process) at.0
+    (put_in (option_map process_of) c.args.self.now.processes after c.args.number (Some c.fail.new.process) at
     ∙ ap (λ x. put s.process c.args.number (Some x)) h.1)))) c.fail.ensures
 
 pub returns-in-Own-Claims : goal.returns-in-Own-Claims
@@ -63,7 +64,7 @@ returns-in-Own-Claims c =
     let q = c.next_offer.new.process in
     let failed = c.fail-in-Own-Claims.new.process in
     let after = c.get_mut.follows.lender failed in
-    let at = (c.get_mut.follows.holds failed).3 (search rules) in
+    let at = c.get_mut.follows.holds failed (ap is_some (sym c.in-Some.ensures.value)) in
     let is : c.in_ok-label.field-0
     ≡ Own (Claims c.in-Own-Claims.field-0-0 c.in-Own-Claims.field-0-1 c.in-Own-Claims.field-0-2) = cc in
     let some : is_some (internal_kind (offer p s.variable before) s.table) ≡ true =
@@ -74,5 +75,5 @@ returns-in-Own-Claims c =
     (ap (option_map process_of) (sym c.in-Some.ensures.value)) some _ _ _
     (sym (ap (λ o. offer_of p o q) is) ∙ c.in_ok-label.ensures)
     (ap (λ f. record s { process = f })
-    (put_at (option_map process_of) c.args.self.now.processes after c.args.number (Some failed) at.0
+    (put_in (option_map process_of) c.args.self.now.processes after c.args.number (Some failed) at
     ∙ ap (λ x. put s.process c.args.number (Some x)) h.1)))) c.fail-in-Own-Claims.ensures
