@@ -10,5 +10,5 @@ pub mod Kills
 pub mod Leading
 pub mod Numbers
 pub mod Settled
-pub mod Copying
+pub mod Copied
 pub mod Notices

@@ -1,10 +1,10 @@
 -- The numbers of the processes.
-use Rattle.std.proofs.Common.{◌≡◌, ◌==◌, ◌↔◌, ◌+◌, ◌<◌, ◌++◌, ℕ, true, List, ◌∷◌, [], Contains, Option, Some, None}
+use Rattle.std.proofs.Common.{◌≡◌, ◌==◌, ◌↔◌, ◌+◌, ◌<◌, ◌≤◌, ◌++◌, ℕ, true, List, ◌∷◌, [], Contains, Option, Some, None}
 use Rattle.std.proofs.Common.{add-one, ap, arith, get_or, length, refl, sym, take, ◌∙◌}
 use Rattle.std.proofs.Math.Seq.{take-suc}
 use Rattle.std.proofs.lemmas.Bool.Decides.{nat_tests}
 use Rattle.std.proofs.lemmas.Cmp.{nat_cmp_total}
-use Rattle.std.proofs.lemmas.List.{map-append}
+use Rattle.std.proofs.lemmas.List.{map-append, take_all}
 use Rattle.std.proofs.lemmas.Map.Views.{Contains-keys_from_lookup, IsSome-lookup_from_Contains}
 use Rattle.std.specs.Cmp.{eq_by_cmp_equiv, unsigned_tied}
 use Rattle.std.specs.Map.{keys_of}
@@ -38,3 +38,8 @@ seen-more es ns ms k e l is pushed before =
   where
     taken : take (k + 1) es ≡ take k es ++ e ∷ []
     taken = ap (λ n. take n es) (add-one k) ∙ take-suc es k e l ∙ ap (λ x. take k es ++ x ∷ []) (sym is)
+
+-- the numbers of all that were gone through
+pub all_seen : (es all : List (ℕ × ProcessOf)) (ns : List ℕ) (k : ℕ) → length es ≤ k → es ≡ all
+    → ns ≡ keys_of (take k es) → ns ≡ keys_of all
+all_seen es all ns k past is seen = seen ∙ ap keys_of (take_all k es past ∙ is)

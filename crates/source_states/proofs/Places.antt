@@ -1,17 +1,12 @@
 -- A process that is put in its place.
-use Rattle.std.proofs.Common.{◌≡◌, ℕ, List, Some, ap, ◌∙◌}
+use Rattle.std.proofs.Common.{◌≡◌, ℕ, List, Option, ap, ◌∙◌}
 use Rattle.std.specs.Ordering.{nat_cmp}
-use Rattle.std.specs.Prelude.{option_map}
 use Rattle.words.proofs.Updates.{put_same}
-use Rattle.sorted_map.specs.Maps.{Updates}
-use Rattle.source_offers.specs.declared.process.Process.{Process as ProcessOf}
-use Rattle.source_offers.specs.Stages.{process_of}
+use Rattle.sorted_map.specs.Maps.{Updates, get}
 use Rattle.source_table.proofs.Tables.{put_in}
-use Rattle.source_states.specs.States.{processes_in}
 
--- a process that was put at a number is there
-pub there : (before after : List (ℕ × ProcessOf)) (n : ℕ) (q : ProcessOf) → Updates nat_cmp before after n (Some q)
-    → processes_in after n ≡ Some (process_of q)
-there before after n q at =
-    ap (λ f. f n) (put_in (option_map process_of) before after n (Some q) at)
-    ∙ put_same (processes_in before) n (Some (process_of q))
+-- what was put at a number is there
+pub there : {X : Type 0} (before after : List (ℕ × X)) (k : ℕ) (w : Option X) → Updates nat_cmp before after k w
+    → get nat_cmp after k ≡ w
+there before after k w at =
+    ap (λ f. f k) (put_in (λ o. o) before after k w at) ∙ put_same (get nat_cmp before) k w

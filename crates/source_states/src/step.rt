@@ -1,4 +1,6 @@
 ghost use Rattle.std.specs.Prelude.{◌≡◌, IfOk, MatchOption, Some, map};
+ghost use Rattle.std.specs.Ordering.{nat_cmp};
+ghost use Rattle.sorted_map.specs.Maps.{get};
 ghost use Rattle.program.specs.Trees.{as_version};
 ghost use Rattle.program.specs.Views.{program_of};
 ghost use Rattle.meaning.specs.Offers.{Does};
@@ -7,6 +9,7 @@ ghost use Rattle.meaning.specs.Runs.{IsAction, IsRun, IsStep};
 ghost use Rattle.meaning.specs.States.{SourceState as SourceStateOf};
 ghost use Rattle.source_offers.specs.NextAction.{offer_of};
 ghost use Rattle.source_offers.specs.Offered.{effect_of, label_of, offer_with};
+ghost use Rattle.source_offers.specs.declared.process.Process.{Process as ProcessIn};
 ghost use Rattle.source_states.specs.Actions.{action_of as action_named};
 ghost use Rattle.source_states.specs.States.{state_of as state_in};
 
@@ -104,8 +107,29 @@ impl<'a> SourceState<'a> {
         }
     }
 
-    // An action of a process's own. Mostly the process stays where it is in the state, since moving it takes time, and
-    // else something blank stands there while it acts.
+    // A process takes up its offer. It is out of the state meanwhile, and something blank stands in its place, so that no
+    // other process is moved.
+    fn take_up_outside(
+        &mut self,
+        alloc: Global,
+        program: &'a Program,
+        number: u64,
+        kind: &ActionKind,
+        offer: Offer<'a>,
+    ) -> Result<bool, AllocError>
+        ensures { IfOk result (λ b. (q : ProcessIn) → get nat_cmp self.old.processes number ≡ Some q
+            → IsAnswer b
+            (IsTakenUp number (kind_of kind.now) (offer_of (program_of program.now) offer.entry q)
+            (state_of self.old)) (state_of self.new)) }
+    {
+        let Some(place) = self.processes.get_mut(number) else {
+            return Ok(false);
+        };
+        let process = mem::replace(place, blank(alloc));
+        self.take_up(alloc, program, number, kind, offer, process)
+    }
+
+    // An action of a process's own. Mostly the process stays where it is in the state, since moving it takes time.
     fn act(
         &mut self,
         alloc: Global,
@@ -124,8 +148,7 @@ impl<'a> SourceState<'a> {
         if let Offer::Own(Offered::Does(label, effect)) = offer {
             return self.act_alone(number, &action.kind, label, effect);
         }
-        let process = mem::replace(process, blank(alloc));
-        self.take_up(alloc, program, number, &action.kind, offer, process)
+        self.take_up_outside(alloc, program, number, &action.kind, offer)
     }
 
     /// Does an action; false where it isn't possible, and then nothing is known of the state.

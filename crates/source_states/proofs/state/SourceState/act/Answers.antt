@@ -1,4 +1,4 @@
-use Rattle.std.proofs.Common.{Some, ap, sym, subst, rules}
+use Rattle.std.proofs.Common.{Some, ap, sym, subst}
 use Rattle.std.proofs.lemmas.Result.{IfOk-weaker}
 use Rattle.std.specs.Prelude.{is_some, option_map}
 use Rattle.program.specs.Views.{program_of}
@@ -31,19 +31,18 @@ returns-in-Own-Does c =
     (subst (λ o. IsAnswer b (IsTakenUp c.args.action.now.process (kind_of c.args.action.now.kind)
     (offer_with o q) (record (state_of c.args.self.now) { process = processes_in after }))
     (state_of c.act_alone.new.self)) (sym (rw c.in-Own-Does.is at c.in-Own-Does.field-0-is))
-    (h (process_of q) (there c.args.self.now.processes after c.args.action.now.process q at))))) c.act_alone.ensures
+    (h (process_of q) (ap (option_map process_of) (there c.args.self.now.processes after c.args.action.now.process (Some q) at)))))) c.act_alone.ensures
 
 pub returns : goal.returns
 returns c =
     let q = c.next_offer.new.process in
-    let blank = c.blank.result in
-    let after = c.get_mut.follows.lender blank in
-    let at = c.get_mut.follows.holds blank (ap is_some (sym c.in-Some.ensures.value)) in
-    IfOk-weaker c.take_up.result _ _ (λ b h.
+    let after = c.get_mut.follows.lender q in
+    let at = c.get_mut.follows.holds q (ap is_some (sym c.in-Some.ensures.value)) in
+    IfOk-weaker c.take_up_outside.result _ _ (λ b h.
     answered (program_of c.args.program.now) (state_of c.args.self.now)
-    (action_of c.args.action.now) (process_of c.in-Some.process.now) (Some (process_of blank))
-    (offer_of (program_of c.args.program.now) c.in_ok-offer.offer q) b (state_of c.take_up.new.self)
+    (action_of c.args.action.now) (process_of c.in-Some.process.now) (Some (process_of q))
+    (offer_of (program_of c.args.program.now) c.in_ok-offer.offer q) b _
     (processes_in after) (ap (option_map process_of) (sym c.in-Some.ensures.value))
     c.in_ok-offer.ensures
-    (put_in (option_map process_of) c.args.self.now.processes after c.args.action.now.process (Some blank) at)
-    ?) c.take_up.ensures
+    (put_in (option_map process_of) c.args.self.now.processes after c.args.action.now.process (Some q) at)
+    (h q (there c.args.self.now.processes after c.args.action.now.process (Some q) at))) c.take_up_outside.ensures

@@ -1,4 +1,4 @@
-use Rattle.std.proofs.Common.{Some, ap, rules, sym}
+use Rattle.std.proofs.Common.{Some, ap, sym}
 use Rattle.std.specs.Prelude.{is_some, option_map}
 use Rattle.program.specs.Views.{program_of}
 use Rattle.words.specs.declared.outcome.Cause.TheVariants.{Killed}
@@ -53,4 +53,4 @@ returns c =
     (c.notified.ensures (program_of c.args.program.now) c.next_offer.new.process) c.if-not-kill.ensures
     (ap (λ f. record (state_of c.args.self.now) { table = table_of c.kill.new.self; process = f })
     (put_in (option_map process_of) c.args.self.now.processes after c.args.number (Some q)
-    (c.get_mut.follows.holds q (ap is_some (sym c.in-Some.ensures.value))).0))
+    (c.get_mut.follows.holds q (ap is_some (sym c.in-Some.ensures.value)))))

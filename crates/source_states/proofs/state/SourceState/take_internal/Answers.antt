@@ -34,7 +34,7 @@ returns-in-Own-Does c =
     some (label_of c.in-Own-Does.label) (effect_of c.in-Own-Does.effect) (process_of q) (processes_in after)
     (sym (ap (λ o. offer_of p o q) is) ∙ c.in_ok-label.ensures)
     (put_in (option_map process_of) c.args.self.now.processes after c.args.number (Some q) at)
-    (h.1 (process_of q) (there c.args.self.now.processes after c.args.number q at)))) c.perform_named.ensures
+    (h.1 (process_of q) (ap (option_map process_of) (there c.args.self.now.processes after c.args.number (Some q) at))))) c.perform_named.ensures
 
 pub returns-in-Own-Makes : goal.returns-in-Own-Makes
 returns-in-Own-Makes c =

@@ -1,4 +1,4 @@
-use Rattle.std.proofs.Common.{◌≡◌, Some, ap, rules, subst, sym, ◌∙◌}
+use Rattle.std.proofs.Common.{◌≡◌, Some, ap, subst, sym, ◌∙◌}
 use Rattle.std.proofs.lemmas.Result.{IfOk-weaker}
 use Rattle.std.specs.Prelude.{is_some, option_map}
 use Rattle.program.specs.Views.{program_of}
@@ -36,7 +36,7 @@ returns-in-Own-Does c =
     (ap (option_map process_of) (sym c.in-Some.ensures.value))
     (sym (ap (λ o. offer_of p o q) is) ∙ c.in_ok-label.ensures)
     (put_in (option_map process_of) c.args.self.now.processes after c.args.number (Some q) at)
-    (h.1 (process_of q) (there c.args.self.now.processes after c.args.number q at)))) c.perform_named.ensures
+    (h.1 (process_of q) (ap (option_map process_of) (there c.args.self.now.processes after c.args.number (Some q) at))))) c.perform_named.ensures
 
 pub returns-in-Own-NotifiesSome : goal.returns-in-Own-NotifiesSome
 returns-in-Own-NotifiesSome c =
