@@ -8,6 +8,8 @@ pub mod OneByOne
 pub mod Passing
 pub mod Lives
 pub mod Waiting
+pub mod Wanting
+pub mod Noting
 pub mod Resting
 pub mod Walking
 pub mod Scheduling

@@ -1,6 +1,8 @@
 //! Threads that make entries in one log, on one machine.
 #![tactic(auto)]
 
+mod attempt;
+mod calling;
 mod drawing;
 mod entering;
 mod fault;
@@ -9,6 +11,7 @@ mod laws;
 mod log_schedule;
 mod naming;
 mod next;
+mod passing_over;
 mod piece;
 mod report;
 mod rounds;
