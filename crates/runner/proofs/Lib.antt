@@ -10,6 +10,8 @@ pub mod Lives
 pub mod Waiting
 pub mod Wanting
 pub mod Noting
+pub mod Joining
+pub mod Shutting
 pub mod Resting
 pub mod Walking
 pub mod Scheduling

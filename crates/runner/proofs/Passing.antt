@@ -98,14 +98,14 @@ entered_apart p k k' e fit enters =
     (kept_put p k e.thread e.local enters.origin enters.here fit (up k.concrete e.thread enters.moves).awake enters.stands
     enters.goes) enters.stands enters.ends
 
-outside_apart : (p : Program) (k k' : PieceConcrete) (t : ℕ) (event : Event) → IsFit p k
+pub outside_apart : (p : Program) (k k' : PieceConcrete) (t : ℕ) (event : Event) → IsFit p k
     → stray_piece k t ≡ Ok (k', event) → Apart p k k' t
 outside_apart p k k' t event fit gives =
     let s = piece_strays_so p k k' t event fit gives in
     let b = stray_beside event.value (pieces_at k) (pieces_at k') (stray_step t event.value) s.0.step in
     record { beside = b.base; phases = b.phases; buckets = b.buckets; fit = s.1 }
 
-kill_apart : (p : Program) (k k' : PieceConcrete) (t : ℕ) (event : Event) → IsFit p k
+pub kill_apart : (p : Program) (k k' : PieceConcrete) (t : ℕ) (event : Event) → IsFit p k
     → kill_piece p k t ≡ Ok (k', event) → Apart p k k' t
 kill_apart p k k' t event fit gives =
     let s = piece_kills_so p k k' t event fit gives in

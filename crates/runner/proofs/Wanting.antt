@@ -1,6 +1,6 @@
 -- A thread of which it is known which bucket it wants is held up as long as that is held, and wants it still behind the
 -- entries of others.
-use Rattle.std.proofs.Common.{◌≡◌, ◌≢◌, ℕ, zero, ◌%◌, ◌<◌, ◌≤◌, Bool, true, false, List, [], ◌∷◌, length, Option, Some}
+use Rattle.std.proofs.Common.{◌≡◌, ◌≢◌, ℕ, ◌%◌, ◌<◌, Bool, true, false, List, [], ◌∷◌, length, Option, Some}
 use Rattle.std.proofs.Common.{None, Result, Ok, Err, IfOk, inl, inr, refl, sym, ap, ◌∙◌, subst}
 use Rattle.std.specs.Prelude.{if◌then◌else◌, nat_le}
 use Rattle.std.specs.Result.{result_and}
@@ -30,7 +30,7 @@ use Rattle.machine.specs.declared.event.Event.{Event}
 use Rattle.machine.specs.declared.event.StepFault.{StepFault}
 use Rattle.machine.specs.declared.event.StepFault.TheVariants.{Broken, CannotMove}
 use Rattle.piece_machine.specs.PieceConcrete.{PieceConcrete, Outcome, call_step, lies_in, lock_at, look_step, piece_at}
-use Rattle.piece_machine.specs.PieceConcrete.{piece_fault_at, pieces_at, take_at, with_local}
+use Rattle.piece_machine.specs.PieceConcrete.{piece_fault_at, take_at, with_local}
 use Rattle.piece_machine.specs.PieceDetermined.{IsFit}
 use Rattle.piece_machine.specs.PieceViews.{PieceView as MachineView, GoesTo, parts}
 use Rattle.piece_machine.proofs.Blocked.{told_is}
@@ -39,7 +39,7 @@ use Rattle.runner.specs.declared.attempt.Obstacle.{Obstacle}
 use Rattle.runner.specs.declared.attempt.Obstacle.TheVariants as obstacle
 use Rattle.runner.specs.declared.in_place.Taken.{Taken}
 use Rattle.runner.specs.Attempts.{AsksFirst, HasEntered, WantsBucket}
-use Rattle.runner.specs.Entries.{entry_end, taken_entry}
+use Rattle.runner.specs.Entries.{taken_entry}
 use Rattle.runner.specs.Logs.{EntersOwn}
 use Rattle.runner.specs.Reports.{IsHeldUp}
 use Rattle.runner.specs.Walks.{LooksFrom}

@@ -21,7 +21,7 @@ use Rattle.runner.specs.Logs.{EntersOwn}
 
 -- whether the entry was made
 abbrev pub is_made : Attempt → Bool
-is_made Made = true
+is_made (Made took) = true
 is_made (HeldUp obstacle) = false
 is_made Refused = false
 
@@ -57,6 +57,6 @@ WantsIf p k t Other = Unit {0}
 
 -- what is told of a try that led from one state to the other
 abbrev pub TriedSo : Program → PieceConcrete → ℕ → Attempt → PieceConcrete → Type 0
-TriedSo p k t Made k' = HasEntered p k t k'
+TriedSo p k t (Made took) k' = HasEntered p k t k'
 TriedSo p k t (HeldUp obstacle) k' = WantsIf p k' t obstacle
 TriedSo p k t Refused k' = Unit {0}

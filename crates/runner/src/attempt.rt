@@ -13,8 +13,8 @@ pub enum Obstacle {
 /// What came of a try to make a thread's next entry.
 #[derive(Clone, Copy)]
 pub enum Attempt {
-    /// It was made.
-    Made,
+    /// It was made, and took this bucket, if it is known to have taken one.
+    Made(Option<u32>),
     /// A held bucket is in its way.
     HeldUp(Obstacle),
     /// It would pass the limit, or the thread can't move.
@@ -26,6 +26,6 @@ impl Attempt {
     pub fn is_made(self) -> bool
         ensures { result ≡ is_made self }
     {
-        matches!(self, Attempt::Made)
+        matches!(self, Attempt::Made(_))
     }
 }

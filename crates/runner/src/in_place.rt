@@ -1,6 +1,6 @@
 ghost use Rattle.words.specs.Limits.{most_local_steps};
 ghost use Rattle.std.specs.Prelude.{◌≡◌, ◌≢◌, ◌≤◌, ◌<◌, ◌+◌, ◌++◌, ◌∷◌, ℕ, [], length, true, None, Some, Err, IfErr, IfOk};
-ghost use Rattle.std.specs.Prelude.{MatchBool, OnErr, OnOk};
+ghost use Rattle.std.specs.Prelude.{IfSome, MatchBool, OnErr, OnOk};
 ghost use Rattle.locals.specs.Looks.{look};
 ghost use Rattle.locals.specs.Requests.{next_step_of};
 ghost use Rattle.locals.specs.Threads.{Thread};
@@ -26,7 +26,7 @@ use crate::stepping::is_local;
 use futexcalls::FutexPhase;
 use isa::Image;
 use locals::{Local, NextStep};
-use machine::{Event, Machine, StepFault};
+use machine::{Event, EventName, Machine, StepFault};
 use packed_log::PackedLog;
 use piece_machine::PieceMachine;
 use words::MOST_LOCAL_STEPS;
@@ -38,6 +38,17 @@ pub struct Taken {
     pub local: u32,
     /// Whether a shared step comes behind them.
     pub shared: bool,
+}
+
+/// The bucket that an entry took which was made in its place, if it took one.
+pub fn bucket_taken(taken: Taken, event: &Event) -> Option<u32>
+    ensures { IfSome result (λ bucket. bucket ≡ event.now.value) }
+{
+    if taken.shared && event.name == EventName::FutexLock {
+        Some(event.value)
+    } else {
+        None
+    }
 }
 
 /// Puts the entry of thread `t` that was made in its place at the end of a log that has room for it, with the event of its

@@ -21,6 +21,7 @@ mod seeded;
 mod share;
 mod shared;
 mod stepping;
+mod thread_bits;
 
 pub use fault::RunFault;
 pub use laws::logs_are_machine_runs;

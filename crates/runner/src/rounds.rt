@@ -7,7 +7,7 @@ ghost use Rattle.runner.specs.Logs.{cost};
 ghost use Rattle.runner.specs.Reports.{CanFail, IsStopped};
 ghost use Rattle.runner.specs.Rounds.{AllPast, Idle};
 ghost use Rattle.runner.specs.Views.{log_state};
-ghost use Rattle.runner.specs.Waits.{AllWant};
+ghost use Rattle.runner.specs.Waits.{AllWait};
 
 use crate::attempt::{Attempt, Obstacle};
 use crate::fault::RunFault;
@@ -83,9 +83,9 @@ fn run_round<J: RunName, G: Gate>(
     requires image { image.now ≡ J.program }
     requires room { length refused.old ≡ suc most_threads }
     requires past { AllPast J.program J.limit (log_state shared.old) refused.old }
-    requires waits { AllWant J.program (log_state shared.old).concrete waiting.old }
+    requires waits { AllWait J.program (log_state shared.old).concrete waiting.old }
     ensures past { OnOk result (AllPast J.program J.limit (log_state shared.new) refused.new) }
-    ensures waits { OnOk result (AllWant J.program (log_state shared.new).concrete waiting.new) }
+    ensures waits { OnOk result (AllWait J.program (log_state shared.new).concrete waiting.new) }
     ensures made { IfOk result (λ made. made ≡ true → (cost shared.old.log < cost shared.new.log)
         × (cost shared.new.log ≤ J.limit)) }
     ensures none { IfOk result (λ made. made ≡ false
@@ -117,9 +117,9 @@ fn take_turn<J: RunName, G: Gate>(
     requires thread { (0 < t) × (t ≤ most_threads) }
     requires kept { IsFit J.program (log_state shared.old).concrete }
     requires past { AllPast J.program J.limit (log_state shared.old) refused.old }
-    requires waits { AllWant J.program (log_state shared.old).concrete waiting.old }
+    requires waits { AllWait J.program (log_state shared.old).concrete waiting.old }
     ensures past { OnOk result (AllPast J.program J.limit (log_state shared.new) refused.new) }
-    ensures waits { OnOk result (AllWant J.program (log_state shared.new).concrete waiting.new) }
+    ensures waits { OnOk result (AllWait J.program (log_state shared.new).concrete waiting.new) }
     ensures made { IfOk result (λ made. made ≡ true → (cost shared.old.log < cost shared.new.log)
         × (cost shared.new.log ≤ J.limit)) }
     ensures none { IfOk result (λ made. made ≡ false → (log_state shared.new ≡ log_state shared.old)
@@ -128,7 +128,7 @@ fn take_turn<J: RunName, G: Gate>(
     ensures err { IfErr result (λ fault. CanFail J.program J.outside J.limit fault) }
 {
     let attempt = attempt_entry(shared, refused, image, share, gate, t, piece)?;
-    waiting.follow(t, attempt);
+    waiting.follow(shared.piece_machine(), t, attempt);
     Ok(attempt.is_made())
 }
 
@@ -230,7 +230,7 @@ fn try_entry<J: RunName, G: Gate>(
     piece.go_on(image);
     gate.pass(t);
     match shared.enter(t, piece, share) {
-        Ok(()) => Ok(Attempt::Made),
+        Ok(()) => Ok(Attempt::Made(None)),
         Err(RunFault::Limit) => {
             refused[t as usize] = true;
             Ok(Attempt::Refused)

@@ -21,7 +21,7 @@ ghost use Rattle.runner.specs.Views.{log_state};
 use crate::attempt::Attempt;
 use crate::entering::{enter, enter_kill, enter_outside, make_room};
 use crate::fault::RunFault;
-use crate::in_place::{push_taken, take_entry, take_if_free};
+use crate::in_place::{bucket_taken, push_taken, take_entry, take_if_free};
 use crate::naming::RunName;
 use crate::next::{After, Next};
 use crate::piece::Piece;
@@ -503,7 +503,8 @@ impl<J: RunName> Shared<J> {
                 push_taken(&mut self.log, t, taken, &self.event);
                 self.steps += taken.local + u32::from(taken.shared);
                 share.count_one(&mut self.book);
-                outcome.and(Ok(Attempt::Made))
+                let took = bucket_taken(taken, &self.event);
+                outcome.and(Ok(Attempt::Made(took)))
             }
         }
     }

@@ -2,7 +2,7 @@ use Rattle.std.proofs.Common.{arith}
 use Rattle.std.specs.Prelude.{Some, None}
 use Rattle.piece_machine.specs.PieceViews.{parts}
 use Rattle.runner.specs.Views.{log_state}
-use Rattle.runner.proofs.Noting.{all_stopped, free_at, stopped_to, want_at}
+use Rattle.runner.proofs.Noting.{all_stopped, free_at, stopped_to, wait_at}
 use Rattle.runner.proofs.Passing.{made_step, none_step, same_step}
 use Rattle.runner.proofs.Unrolling.{holds}
 use Rattle.runner.proofs.rounds.run_round.Goals as goal
@@ -10,7 +10,7 @@ use Rattle.runner.proofs.rounds.run_round.Goals as goal
 pub next_free-requires-clause-waits : goal.next_free-requires-clause-waits
 next_free-requires-clause-waits g c =
     let m = c.piece_machine in
-    want_at g.J.RunName.program m.result.now.view.program (log_state c.loop-t.shared).concrete (parts m.result.now)
+    wait_at g.J.RunName.program m.result.now.view.program (log_state c.loop-t.shared).concrete (parts m.result.now)
     c.loop-t.waiting m.ensures.program m.ensures.parts c.loop-t.invariant.waits
 
 pub take_turn-requires-clause-kept : goal.take_turn-requires-clause-kept

@@ -55,7 +55,7 @@ returns-in-Ok-clause-err g c =
     let e = c.take_if_free in
     let moves = subst (λ (x : SharedView). can_move (log_state x).concrete.concrete c.args.t ≡ true) (sym c.self.view_is)
     c.requires.thread in
-    and_err (λ fault. CanFail g.J.RunName.program g.J.RunName.outside g.J.RunName.limit fault) c.in-Ok.outcome Made c.and.result
+    and_err (λ fault. CanFail g.J.RunName.program g.J.RunName.outside g.J.RunName.limit fault) c.in-Ok.outcome (Made c.bucket_taken-took.result) c.and.result
     c.and.ensures
     (breaks_can g.J.RunName.program g.J.RunName.outside s.machine.view.program m.new.machine.view.program
     g.J.RunName.limit (parts s.machine) (parts m.new.machine) s.log.items s.steps s.limit s.kills c.args.t
@@ -69,7 +69,7 @@ returns-in-Ok-clause-tried g c =
     let m = c.make_room in
     let e = c.take_if_free in
     and_ok (λ (a : Attempt). TriedSo p (log_state c.args.self.now).concrete c.args.t a (parts e.new.machine)) c.in-Ok.outcome
-    Made c.and.result c.and.ensures
+    (Made c.bucket_taken-took.result) c.and.result c.and.ensures
     (subst (λ (x : SharedView). HasEntered p (log_state x).concrete c.args.t (parts e.new.machine)) c.self.view_is
     (entered_so p s.machine.view.program m.new.machine.view.program (parts s.machine) (parts m.new.machine)
     (parts e.new.machine) c.args.t c.in-Ok.taken e.new.event c.self.invariant.0.program m.ensures.program m.ensures.same.0
