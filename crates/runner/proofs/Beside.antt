@@ -214,19 +214,22 @@ acts_awake t (Requeue a b wakes moves expected) asleep after woken moved acts = 
 pub record BesidePiece (t : ℕ) (s s' : PieceState) : Type 0 where
   pub base : Beside t s.base s'.base
   pub phases : (u : ℕ) → u ≢ t → s'.phase u ≡ s.phase u
+  pub buckets : s'.buckets ≡ s.buckets
 
 outside_piece : (t : ℕ) (s s' : PieceState) (mid : State) (buckets : List ℕ) (x : Thread) → Beside t s.base mid
     → s' ≡ goes_outside s t mid buckets x → BesidePiece t s s'
 outside_piece t s s' mid buckets x b is = record {
   base = then_thread t s.base mid s'.base x b (ap (λ (q : PieceState). q.base) is);
   phases = λ u other. ap (λ (q : PieceState). q.phase u) is ∙ at_other u t First (s.phase u) other;
+  buckets = ap (λ (q : PieceState). q.buckets) is;
 }
 
 within_piece : (t : ℕ) (s s' : PieceState) (phase : FutexPhase) → s'.base ≡ s.base → s'.phase ≡ put s.phase t phase
-    → BesidePiece t s s'
-within_piece t s s' phase is phases = record {
+    → s'.buckets ≡ s.buckets → BesidePiece t s s'
+within_piece t s s' phase is phases buckets = record {
   base = to t s.base s.base s'.base is (same t s.base);
   phases = λ u other. ap (λ (f : ℕ → FutexPhase). f u) phases ∙ at_other u t phase (s.phase u) other;
+  buckets = buckets;
 }
 
 -- any step of its own
@@ -244,9 +247,10 @@ piece_beside p s s' t x woken numbered (IsExit phase after next looks first step
     }) is
 piece_beside p s s' t x woken numbered (IsLock call go b looks lies takes free quiet is) =
     within_piece t s s' (after_lock s.buckets (s.phase t) call) (ap (λ (q : PieceState). q.base) is)
-    (ap (λ (q : PieceState). q.phase) is)
+    (ap (λ (q : PieceState). q.phase) is) (ap (λ (q : PieceState). q.buckets) is)
 piece_beside p s s' t x woken numbered (IsEqual call go a v looks compares at equal quiet is) =
     within_piece t s s' Act (ap (λ (q : PieceState). q.base) is) (ap (λ (q : PieceState). q.phase) is)
+    (ap (λ (q : PieceState). q.buckets) is)
 piece_beside p s s' t x woken numbered (IsAgain call go a v looks compares at differs quiet is) =
     outside_piece t s s' s.base (buckets_of s.buckets call) (go (again_of call)) (same t s.base) is
 piece_beside p s s' t x woken numbered (IsAct call go moved after looks at acts is) =
@@ -262,6 +266,7 @@ pub stray_beside : (a : ℕ) (s s' : PieceState) (step : Step) → IsPieceStray 
 stray_beside a s s' step stray = record {
   base = outside_beside step.thread s.base s'.base stray.strays.after;
   phases = λ u other. ap (λ (q : PieceState). q.phase u) stray.others;
+  buckets = ap (λ (q : PieceState). q.buckets) stray.others;
 }
 
 -- a kill
@@ -270,9 +275,14 @@ killed_phases : (p : Program) (begins : Bool) (s : PieceState) (t u : ℕ) → u
 killed_phases p true s t u other = at_other u t First (s.phase u) other
 killed_phases p false s t u other = refl
 
+killed_buckets : (p : Program) (begins : Bool) (s : PieceState) (t : ℕ) → (killed_piece p begins s t).buckets ≡ s.buckets
+killed_buckets p true s t = refl
+killed_buckets p false s t = refl
+
 pub kills_beside : (p : Program) (begins : Bool) (s s' : PieceState) (step : Step) → IsPieceKill p begins s step s'
     → BesidePiece step.thread s s'
 kills_beside p begins s s' step kill = record {
   base = kill_beside step.thread s.base s'.base begins kill.kills.after;
   phases = λ u other. ap (λ (q : PieceState). q.phase u) kill.after ∙ killed_phases p begins s step.thread u other;
+  buckets = ap (λ (q : PieceState). q.buckets) kill.after ∙ killed_buckets p begins s step.thread;
 }

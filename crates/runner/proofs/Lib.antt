@@ -8,6 +8,10 @@ pub mod OneByOne
 pub mod Passing
 pub mod Lives
 pub mod Waiting
+pub mod Wanting
+pub mod Noting
+pub mod Joining
+pub mod Shutting
 pub mod Resting
 pub mod Walking
 pub mod Scheduling

@@ -9,6 +9,7 @@ use Rattle.isa.specs.Programs.{Program}
 use Rattle.locals.specs.Threads.{Thread}
 use Rattle.locals.specs.Looks.{look}
 use Rattle.locals.specs.Steps.{local_step, local_after}
+use Rattle.machine.specs.declared.event.Entry.{Entry}
 use Rattle.machine.specs.declared.event.Event.{Event}
 use Rattle.machine.specs.declared.event.StepFault.{StepFault}
 use Rattle.machine.specs.declared.event.StepFault.TheVariants.{Broken, CannotMove}
@@ -26,7 +27,7 @@ use Rattle.piece_machine.proofs.Refused.{piece_breaks_so}
 use Rattle.runner.specs.declared.fault.RunFault.TheVariants.{Limit}
 use Rattle.runner.specs.declared.fault.RunFault.TheVariants.{CannotMove as CannotMove'}
 use Rattle.runner.specs.Views.{PieceView, LogState}
-use Rattle.runner.specs.Logs.{Ends, event_cost, cost}
+use Rattle.runner.specs.Logs.{Ends, EntersOwn, event_cost, cost}
 use Rattle.runner.specs.Entries.{entry_end, Takes, TakesKill, TakesOutside, RefusesEntry}
 use Rattle.runner.specs.Reports.{IsHeldUp, IsStopped}
 use Rattle.runner.specs.Rounds.{AllPast, IsPast, step_cost}
@@ -38,9 +39,10 @@ use Rattle.runner.proofs.Once.{no_stray}
 use Rattle.runner.proofs.Unrolling.{kept_put}
 
 -- what an entry leaves to the other threads
-record Apart (p : Program) (k k' : PieceConcrete) (t : ℕ) : Type 0 where
+pub record Apart (p : Program) (k k' : PieceConcrete) (t : ℕ) : Type 0 where
   pub beside : Beside t (state_of k.concrete) (state_of k'.concrete)
   pub phases : (u : ℕ) → u ≢ t → k'.phase u ≡ k.phase u
+  pub buckets : k'.buckets ≡ k.buckets
   pub fit : IsFit p k'
 
 numbered : (k : ConcreteState) (u : ℕ) (x : Thread) → thread_of k u ≡ Some x → u ≤ length k.threads
@@ -68,7 +70,7 @@ ends_apart : (p : Program) (k k' : PieceConcrete) (t : ℕ) (o here : Thread) (e
     → Apart p k k' t
 ends_apart p k k' t o here None fit stands is =
     subst (λ (q : PieceConcrete). Apart p k q t) (sym is)
-    (record { beside = put_beside k.concrete t o here stands; phases = λ u other. refl; fit = fit })
+    (record { beside = put_beside k.concrete t o here stands; phases = λ u other. refl; buckets = refl; fit = fit })
 ends_apart p k k' t o here (Some e) fit stands is =
     let there = with_local k t here in
     let s = piece_steps_so p there k' t e fit is.1 in
@@ -77,6 +79,7 @@ ends_apart p k k' t o here (Some e) fit stands is =
     record {
       beside = both t k.concrete there.concrete k'.concrete (put_beside k.concrete t o here stands) b.base;
       phases = b.phases;
+      buckets = b.buckets;
       fit = s.1;
     }
 
@@ -87,22 +90,30 @@ apart p k k' t n o here event fit moves stands goes given =
     ends_apart p k k' t o here event (kept_put p k t n o here fit (up k.concrete t moves).awake stands goes) stands
     (ends p k k' t here event given)
 
-outside_apart : (p : Program) (k k' : PieceConcrete) (t : ℕ) (event : Event) → IsFit p k
+-- the same of an entry of its own
+pub entered_apart : (p : Program) (k k' : PieceConcrete) (e : Entry) → IsFit p k → EntersOwn p k e k'
+    → Apart p k k' e.thread
+entered_apart p k k' e fit enters =
+    ends_apart p k k' e.thread enters.origin enters.here e.event
+    (kept_put p k e.thread e.local enters.origin enters.here fit (up k.concrete e.thread enters.moves).awake enters.stands
+    enters.goes) enters.stands enters.ends
+
+pub outside_apart : (p : Program) (k k' : PieceConcrete) (t : ℕ) (event : Event) → IsFit p k
     → stray_piece k t ≡ Ok (k', event) → Apart p k k' t
 outside_apart p k k' t event fit gives =
     let s = piece_strays_so p k k' t event fit gives in
     let b = stray_beside event.value (pieces_at k) (pieces_at k') (stray_step t event.value) s.0.step in
-    record { beside = b.base; phases = b.phases; fit = s.1 }
+    record { beside = b.base; phases = b.phases; buckets = b.buckets; fit = s.1 }
 
-kill_apart : (p : Program) (k k' : PieceConcrete) (t : ℕ) (event : Event) → IsFit p k
+pub kill_apart : (p : Program) (k k' : PieceConcrete) (t : ℕ) (event : Event) → IsFit p k
     → kill_piece p k t ≡ Ok (k', event) → Apart p k k' t
 kill_apart p k k' t event fit gives =
     let s = piece_kills_so p k k' t event fit gives in
     let b = kills_beside p (event.value == 1) (pieces_at k) (pieces_at k') (kill_step t (event.value == 1)) s.0.step in
-    record { beside = b.base; phases = b.phases; fit = s.1 }
+    record { beside = b.base; phases = b.phases; buckets = b.buckets; fit = s.1 }
 
 -- a thread that can move still can after another's entry
-moves_stay : (p : Program) (k k' : PieceConcrete) (t u : ℕ) → Apart p k k' t → u ≢ t → can_move k.concrete u ≡ true
+pub moves_stay : (p : Program) (k k' : PieceConcrete) (t u : ℕ) → Apart p k k' t → u ≢ t → can_move k.concrete u ≡ true
     → can_move k'.concrete u ≡ true
 moves_stay p k k' t u a other moves =
     let is = up k.concrete u moves in

@@ -67,7 +67,7 @@ held_up_taken p k t fit w =
     record { bucket = taken.bucket; holder = taken.holder; holds = taken.holds }
 
 -- who stands before a shared step goes nowhere by local steps
-stays_there : (p : Program) (t n : ℕ) (o here : Thread) → local_step p t o ≡ None → local_after p t n o ≡ Some here
+pub stays_there : (p : Program) (t n : ℕ) (o here : Thread) → local_step p t o ≡ None → local_after p t n o ≡ Some here
     → o ≡ here
 stays_there p t zero o here none goes = cc
 stays_there p t (suc n) o here none goes = absurd (cc (sym (past_last p t n o none) ∙ goes))

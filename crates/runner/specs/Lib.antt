@@ -4,8 +4,10 @@ pub mod Legal
 pub mod Entries
 pub mod Nexts
 pub mod Afters
+pub mod Attempts
 pub mod Reports
 pub mod Walks
+pub mod Waits
 pub mod Rounds
 pub mod LogRuns
 pub mod Schedules

@@ -1,6 +1,6 @@
 ghost use Rattle.words.specs.Limits.{most_local_steps};
-ghost use Rattle.std.specs.Prelude.{◌≡◌, ◌≢◌, ◌≤◌, ◌<◌, ◌+◌, ◌++◌, ◌∷◌, [], length, true, None, Some, Err, IfErr, IfNone, IfSome};
-ghost use Rattle.std.specs.Prelude.{MatchBool, OnOk};
+ghost use Rattle.std.specs.Prelude.{◌≡◌, ◌≢◌, ◌≤◌, ◌<◌, ◌+◌, ◌++◌, ◌∷◌, ℕ, [], length, true, None, Some, Err, IfErr, IfOk};
+ghost use Rattle.std.specs.Prelude.{IfSome, MatchBool, OnErr, OnOk};
 ghost use Rattle.locals.specs.Looks.{look};
 ghost use Rattle.locals.specs.Requests.{next_step_of};
 ghost use Rattle.locals.specs.Threads.{Thread};
@@ -11,17 +11,22 @@ ghost use Rattle.machine.specs.Views.{concrete};
 ghost use Rattle.piece_machine.specs.PieceConcrete.{PieceConcrete, piece_fault_at, with_local};
 ghost use Rattle.piece_machine.specs.PieceDetermined.{IsFit};
 ghost use Rattle.piece_machine.specs.PieceViews.{GoesTo, parts};
+ghost use Rattle.runner.specs.Attempts.{AsksFirst, WantsIf};
 ghost use Rattle.runner.specs.Entries.{BreaksAfter, entry_end, taken_entry, event_if};
 ghost use Rattle.runner.specs.Logs.{EntersOwn, event_cost};
 ghost use Rattle.runner.specs.Reports.{IsHeldUp};
 ghost use Rattle.runner.specs.Walks.{Walked, LooksFrom};
+ghost use Rattle.runner.specs.declared.attempt.Obstacle;
 
+use crate::attempt::Obstacle;
+use crate::calling::call_in;
 use crate::entering::event_if;
 use crate::fault::RunFault;
 use crate::stepping::is_local;
+use futexcalls::FutexPhase;
 use isa::Image;
 use locals::{Local, NextStep};
-use machine::{Event, Machine, StepFault};
+use machine::{Event, EventName, Machine, StepFault};
 use packed_log::PackedLog;
 use piece_machine::PieceMachine;
 use words::MOST_LOCAL_STEPS;
@@ -33,6 +38,17 @@ pub struct Taken {
     pub local: u32,
     /// Whether a shared step comes behind them.
     pub shared: bool,
+}
+
+/// The bucket that an entry took which was made in its place, if it took one.
+pub fn bucket_taken(taken: Taken, event: &Event) -> Option<u32>
+    ensures { IfSome result (λ bucket. bucket ≡ event.now.value) }
+{
+    if taken.shared && event.name == EventName::FutexLock {
+        Some(event.value)
+    } else {
+        None
+    }
 }
 
 /// Puts the entry of thread `t` that was made in its place at the end of a log that has room for it, with the event of its
@@ -69,40 +85,41 @@ pub fn take_entry(
     end_entry(machine, t, local, &next, event)
 }
 
-/// The same of a thread that may be held up: None where a held bucket is in its way, and then nothing has changed. Where
-/// one may be, the thread takes its local steps ahead of the machine first, in `ahead`.
+/// The same of a thread that may be held up: refused with the held bucket that is in its way, and then nothing has
+/// changed. Where one may be, the thread takes its local steps ahead of the machine first, in `ahead`.
 pub fn take_if_free(
     machine: &mut PieceMachine,
     image: &Image,
     t: u32,
     ahead: &mut Local,
     event: &mut Event,
-) -> Option<(Taken, Result<(), RunFault>)>
+) -> Result<(Taken, Result<(), RunFault>), Obstacle>
     requires image { image.now ≡ machine.old.view.program }
     requires thread { can_move (concrete machine.old.view) t ≡ true }
     requires fit { IsFit machine.old.view.program (parts machine.old) }
     requires room { 1 ≤ machine.old.view.room }
-    ensures enters { IfSome result (λ taken. EntersOwn machine.old.view.program (parts machine.old)
+    ensures enters { IfOk result (λ taken. EntersOwn machine.old.view.program (parts machine.old)
         (taken_entry t taken.0 event.new) (parts machine.new)) }
-    ensures turn { IfSome result (λ taken. taken.0.local ≤ most_local_steps) }
-    ensures goes { IfSome result (λ taken. OnOk taken.1
+    ensures turn { IfOk result (λ taken. taken.0.local ≤ most_local_steps) }
+    ensures goes { IfOk result (λ taken. OnOk taken.1
         (1 ≤ taken.0.local + event_cost (event_if taken.0.shared event.new))) }
-    ensures breaks { IfSome result (λ taken. IfErr taken.1
+    ensures breaks { IfOk result (λ taken. IfErr taken.1
         (λ fault. (fault ≡ RunFault.Broken)
         × BreaksAfter machine.old.view.program (parts machine.old) t taken.0.local)) }
-    ensures held { IfNone result ((parts machine.new ≡ parts machine.old)
+    ensures held { OnErr result ((parts machine.new ≡ parts machine.old)
         × IsHeldUp machine.old.view.program (parts machine.old) t) }
+    ensures wants { IfErr result (λ obstacle. WantsIf machine.old.view.program (parts machine.old) t obstacle) }
     ensures program { machine.new.view.program ≡ machine.old.view.program }
 {
     if machine.holds_none() {
-        return Some(take_entry(machine, t, event));
+        return Ok(take_entry(machine, t, event));
     }
     let (local, next) = look_ahead(machine.machine(), image, t, ahead);
     if waits_for_bucket(machine, t, next) {
-        return None;
+        return Err(obstacle_of(machine, t, next));
     }
     catch_up(machine, t, local, ahead);
-    Some(end_entry(machine, t, local, &next, event))
+    Ok(end_entry(machine, t, local, &next, event))
 }
 
 // How many local steps thread `t` takes in its turn, and what its next step is behind them. It takes them in `ahead`,
@@ -133,6 +150,31 @@ fn waits_for_bucket(machine: &PieceMachine, t: u32, next: NextStep) -> bool
         Some(StepFault::CannotMove) => true,
         Some(StepFault::Broken) | None => false,
     }
+}
+
+// Which held bucket is in the way of thread `t`, as one is, if its local steps led it to where its next step is `next`.
+fn obstacle_of(machine: &PieceMachine, t: u32, next: NextStep) -> Obstacle
+    ensures { (bucket : ℕ) (here : Thread) → result ≡ Obstacle.First bucket → GoesTo machine.now.view t here
+        → next ≡ next_step_of (look machine.now.view.program t here)
+        → AsksFirst machine.now.view.program (parts machine.now) t bucket here }
+{
+    let NextStep::Shared(request) = next else {
+        return Obstacle::Other;
+    };
+    let Some(call) = call_in(request) else {
+        return Obstacle::Other;
+    };
+    let machine = machine.machine();
+    let Some(bucket) = machine.next_bucket(call, FutexPhase::First) else {
+        return Obstacle::Other;
+    };
+    let Some(holder) = machine.holder(bucket) else {
+        return Obstacle::Other;
+    };
+    if holder == t {
+        return Obstacle::Other;
+    }
+    Obstacle::First(bucket)
 }
 
 // Puts thread `t` on the machine where its local steps led ahead of it, if it took any.

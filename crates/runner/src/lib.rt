@@ -1,6 +1,8 @@
 //! Threads that make entries in one log, on one machine.
 #![tactic(auto)]
 
+mod attempt;
+mod calling;
 mod drawing;
 mod entering;
 mod fault;
@@ -9,6 +11,7 @@ mod laws;
 mod log_schedule;
 mod naming;
 mod next;
+mod passing_over;
 mod piece;
 mod report;
 mod rounds;
@@ -18,6 +21,7 @@ mod seeded;
 mod share;
 mod shared;
 mod stepping;
+mod thread_bits;
 
 pub use fault::RunFault;
 pub use laws::logs_are_machine_runs;

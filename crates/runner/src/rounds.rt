@@ -2,13 +2,17 @@ ghost use Rattle.words.specs.Limits.{most_threads};
 ghost use Rattle.std.specs.Prelude.{suc, ◌≡◌, ◌≤◌, ◌<◌, length, true, false, IfOk, IfErr, OnOk};
 ghost use Rattle.machine.specs.ConcreteSteps.{can_move};
 ghost use Rattle.piece_machine.specs.PieceDetermined.{IsFit};
+ghost use Rattle.runner.specs.Attempts.{TriedSo, is_made};
 ghost use Rattle.runner.specs.Logs.{cost};
 ghost use Rattle.runner.specs.Reports.{CanFail, IsStopped};
 ghost use Rattle.runner.specs.Rounds.{AllPast, Idle};
 ghost use Rattle.runner.specs.Views.{log_state};
+ghost use Rattle.runner.specs.Waits.{AllWait};
 
+use crate::attempt::{Attempt, Obstacle};
 use crate::fault::RunFault;
 use crate::naming::RunName;
+use crate::passing_over::Waiting;
 use crate::piece::Piece;
 use crate::share::Share;
 use crate::shared::Shared;
@@ -17,7 +21,7 @@ use words::{Gate, MOST_THREADS};
 
 /// Makes entries, round after round, until no thread can make one. A round goes through the threads by rising number,
 /// those made in the round included. A thread that was refused with `Limit` is passed over from then on, and one that a
-/// held bucket is in the way of in that round alone.
+/// held bucket is in the way of as long as it's held.
 pub fn run_rounds<J: RunName, G: Gate>(
     shared: &mut Shared<J>,
     image: &Image,
@@ -29,8 +33,17 @@ pub fn run_rounds<J: RunName, G: Gate>(
     ensures err { IfErr result (λ fault. CanFail J.program J.outside J.limit fault) }
 {
     let mut refused = [false; MOST_THREADS as usize + 1];
+    let mut waiting = Waiting::new();
     let mut piece = Piece::idle(1);
-    while run_round(shared, &mut refused, image, share, gate, &mut piece)? {}
+    while run_round(
+        shared,
+        &mut refused,
+        &mut waiting,
+        image,
+        share,
+        gate,
+        &mut piece,
+    )? {}
     Ok(())
 }
 
@@ -56,11 +69,12 @@ pub fn run_alone<J: RunName, G: Gate>(
     Ok(())
 }
 
-// Makes an entry for each thread that can make one and wasn't refused before, from one that can move to the next. Says
-// whether it made any.
+// Makes an entry for each thread that can make one and wasn't refused before, from one that can move and isn't known to
+// be held up to the next. Says whether it made any.
 fn run_round<J: RunName, G: Gate>(
     shared: &mut Shared<J>,
     refused: &mut [bool],
+    waiting: &mut Waiting,
     image: &Image,
     share: &mut Share<J>,
     gate: &G,
@@ -69,7 +83,9 @@ fn run_round<J: RunName, G: Gate>(
     requires image { image.now ≡ J.program }
     requires room { length refused.old ≡ suc most_threads }
     requires past { AllPast J.program J.limit (log_state shared.old) refused.old }
+    requires waits { AllWait J.program (log_state shared.old).concrete waiting.old }
     ensures past { OnOk result (AllPast J.program J.limit (log_state shared.new) refused.new) }
+    ensures waits { OnOk result (AllWait J.program (log_state shared.new).concrete waiting.new) }
     ensures made { IfOk result (λ made. made ≡ true → (cost shared.old.log < cost shared.new.log)
         × (cost shared.new.log ≤ J.limit)) }
     ensures none { IfOk result (λ made. made ≡ false
@@ -78,11 +94,42 @@ fn run_round<J: RunName, G: Gate>(
 {
     let mut made = false;
     let mut from = 1;
-    while let Some(t) = shared.machine().next_able(from) {
-        made |= make_entry(shared, refused, image, share, gate, t, piece)?;
+    while let Some(t) = waiting.next_free(shared.piece_machine(), from) {
+        made |= take_turn(shared, refused, waiting, image, share, gate, t, piece)?;
         from = t + 1;
     }
     Ok(made)
+}
+
+// Makes the next entry of thread `t`, as `make_entry` does, and keeps who waits for which bucket.
+fn take_turn<J: RunName, G: Gate>(
+    shared: &mut Shared<J>,
+    refused: &mut [bool],
+    waiting: &mut Waiting,
+    image: &Image,
+    share: &mut Share<J>,
+    gate: &G,
+    t: u32,
+    piece: &mut Piece<J>,
+) -> Result<bool, RunFault>
+    requires image { image.now ≡ J.program }
+    requires room { length refused.old ≡ suc most_threads }
+    requires thread { (0 < t) × (t ≤ most_threads) }
+    requires kept { IsFit J.program (log_state shared.old).concrete }
+    requires past { AllPast J.program J.limit (log_state shared.old) refused.old }
+    requires waits { AllWait J.program (log_state shared.old).concrete waiting.old }
+    ensures past { OnOk result (AllPast J.program J.limit (log_state shared.new) refused.new) }
+    ensures waits { OnOk result (AllWait J.program (log_state shared.new).concrete waiting.new) }
+    ensures made { IfOk result (λ made. made ≡ true → (cost shared.old.log < cost shared.new.log)
+        × (cost shared.new.log ≤ J.limit)) }
+    ensures none { IfOk result (λ made. made ≡ false → (log_state shared.new ≡ log_state shared.old)
+        × (can_move (log_state shared.new).concrete.concrete t ≡ true
+        → IsStopped J.program J.limit shared.new.log (log_state shared.new).concrete t)) }
+    ensures err { IfErr result (λ fault. CanFail J.program J.outside J.limit fault) }
+{
+    let attempt = attempt_entry(shared, refused, image, share, gate, t, piece)?;
+    waiting.follow(shared.piece_machine(), t, attempt);
+    Ok(attempt.is_made())
 }
 
 /// Makes the next entry of thread `t`, if it can make one and wasn't refused before. Says whether it did. A thread whose
@@ -110,11 +157,40 @@ pub(crate) fn make_entry<J: RunName, G: Gate>(
         → IsStopped J.program J.limit shared.new.log (log_state shared.new).concrete t)) }
     ensures err { IfErr result (λ fault. CanFail J.program J.outside J.limit fault) }
 {
+    let attempt = attempt_entry(shared, refused, image, share, gate, t, piece)?;
+    Ok(attempt.is_made())
+}
+
+// The same, and what came of it.
+fn attempt_entry<J: RunName, G: Gate>(
+    shared: &mut Shared<J>,
+    refused: &mut [bool],
+    image: &Image,
+    share: &mut Share<J>,
+    gate: &G,
+    t: u32,
+    piece: &mut Piece<J>,
+) -> Result<Attempt, RunFault>
+    requires image { image.now ≡ J.program }
+    requires room { length refused.old ≡ suc most_threads }
+    requires thread { (0 < t) × (t ≤ most_threads) }
+    requires kept { IsFit J.program (log_state shared.old).concrete }
+    requires past { AllPast J.program J.limit (log_state shared.old) refused.old }
+    ensures past { OnOk result (AllPast J.program J.limit (log_state shared.new) refused.new) }
+    ensures made { IfOk result (λ a. is_made a ≡ true → (cost shared.old.log < cost shared.new.log)
+        × (cost shared.new.log ≤ J.limit)) }
+    ensures none { IfOk result (λ a. is_made a ≡ false → (log_state shared.new ≡ log_state shared.old)
+        × (can_move (log_state shared.new).concrete.concrete t ≡ true
+        → IsStopped J.program J.limit shared.new.log (log_state shared.new).concrete t)) }
+    ensures tried { IfOk result (λ a. TriedSo J.program (log_state shared.old).concrete t a
+        (log_state shared.new).concrete) }
+    ensures err { IfErr result (λ fault. CanFail J.program J.outside J.limit fault) }
+{
     if !shared.has_room() {
         return try_entry(shared, refused, image, share, gate, t, piece);
     }
     if !shared.machine().can_move(t) {
-        return Ok(false);
+        return Ok(Attempt::Refused);
     }
     gate.pass(t);
     shared.try_on(image, t, share)
@@ -129,36 +205,38 @@ fn try_entry<J: RunName, G: Gate>(
     gate: &G,
     t: u32,
     piece: &mut Piece<J>,
-) -> Result<bool, RunFault>
+) -> Result<Attempt, RunFault>
     requires image { image.now ≡ J.program }
     requires room { length refused.old ≡ suc most_threads }
     requires thread { (0 < t) × (t ≤ most_threads) }
     requires kept { IsFit J.program (log_state shared.old).concrete }
     requires past { AllPast J.program J.limit (log_state shared.old) refused.old }
     ensures past { OnOk result (AllPast J.program J.limit (log_state shared.new) refused.new) }
-    ensures made { IfOk result (λ made. made ≡ true → (cost shared.old.log < cost shared.new.log)
+    ensures made { IfOk result (λ a. is_made a ≡ true → (cost shared.old.log < cost shared.new.log)
         × (cost shared.new.log ≤ J.limit)) }
-    ensures none { IfOk result (λ made. made ≡ false → (log_state shared.new ≡ log_state shared.old)
+    ensures none { IfOk result (λ a. is_made a ≡ false → (log_state shared.new ≡ log_state shared.old)
         × (can_move (log_state shared.new).concrete.concrete t ≡ true
         → IsStopped J.program J.limit shared.new.log (log_state shared.new).concrete t)) }
+    ensures tried { IfOk result (λ a. TriedSo J.program (log_state shared.old).concrete t a
+        (log_state shared.new).concrete) }
     ensures err { IfErr result (λ fault. CanFail J.program J.outside J.limit fault) }
 {
     if refused[t as usize] {
-        return Ok(false);
+        return Ok(Attempt::Refused);
     }
     if !shared.begin(t, piece) {
-        return Ok(false);
+        return Ok(Attempt::Refused);
     }
     piece.go_on(image);
     gate.pass(t);
     match shared.enter(t, piece, share) {
-        Ok(()) => Ok(true),
+        Ok(()) => Ok(Attempt::Made(None)),
         Err(RunFault::Limit) => {
             refused[t as usize] = true;
-            Ok(false)
+            Ok(Attempt::Refused)
         }
         // A held bucket is in its way.
-        Err(RunFault::CannotMove) => Ok(false),
+        Err(RunFault::CannotMove) => Ok(Attempt::HeldUp(Obstacle::Other)),
         Err(fault) => Err(fault),
     }
 }

@@ -19,8 +19,8 @@ use words::Gate;
 ///
 /// It makes entries round after round. A round goes through the threads by rising number, those made in the round
 /// included, and makes one entry for each that can move; one whose entry would pass the limit is passed over from then
-/// on, and one that a held bucket is in the way of in that round alone. The run ends with a round that makes no entry. No
-/// entry comes from outside.
+/// on, and one that a held bucket is in the way of as long as the bucket is held. The run ends with a round that makes no
+/// entry. No entry comes from outside.
 ///
 /// Refuses only with `Memory` and with `Broken`, where some legal log within the limit leads a thread, within a turn
 /// of local steps, to a step that may not be.

@@ -7,6 +7,7 @@ ghost use Rattle.machine.specs.States.{thread_of};
 ghost use Rattle.machine.specs.ConcreteSteps.{can_move};
 ghost use Rattle.piece_machine.specs.PieceDetermined.{IsFit};
 ghost use Rattle.piece_machine.specs.PieceViews.{parts};
+ghost use Rattle.runner.specs.Attempts.{TriedSo, is_made};
 ghost use Rattle.runner.specs.Logs.{HasOnly, Runs, cost, kills_in, opening};
 ghost use Rattle.runner.specs.Entries.{Takes, TakesOutside, RefusesEntry, RefusesOutside, IsFine, Stands};
 ghost use Rattle.runner.specs.Entries.{TakesKill, RefusesKill, Begins};
@@ -17,9 +18,10 @@ ghost use Rattle.runner.specs.declared.fault.RunFault;
 ghost use Rattle.machine.specs.Views.{concrete};
 ghost use Rattle.runner.specs.Views.{log_state};
 
+use crate::attempt::Attempt;
 use crate::entering::{enter, enter_kill, enter_outside, make_room};
 use crate::fault::RunFault;
-use crate::in_place::{push_taken, take_entry, take_if_free};
+use crate::in_place::{bucket_taken, push_taken, take_entry, take_if_free};
 use crate::naming::RunName;
 use crate::next::{After, Next};
 use crate::piece::Piece;
@@ -471,21 +473,23 @@ impl<J: RunName> Shared<J> {
         outcome
     }
 
-    /// The same of a thread that may be held up, and whether it made its entry: a thread that is held up makes none, and
-    /// then nothing has changed.
+    /// The same of a thread that may be held up, and what came of it: a thread that is held up makes no entry, and then
+    /// nothing has changed.
     pub(crate) fn try_on(
         &mut self,
         image: &Image,
         t: u32,
         share: &mut Share<J>,
-    ) -> Result<bool, RunFault>
+    ) -> Result<Attempt, RunFault>
         requires image { image.now ≡ J.program }
         requires thread { can_move (log_state self.old).concrete.concrete t ≡ true }
         requires fit { IsFit J.program (log_state self.old).concrete }
         requires room { cost self.old.log + suc most_local_steps ≤ J.limit }
-        ensures made { IfOk result (λ made. made ≡ true → cost self.old.log < cost self.new.log) }
-        ensures none { IfOk result (λ made. made ≡ false → (log_state self.new ≡ log_state self.old)
+        ensures made { IfOk result (λ a. is_made a ≡ true → cost self.old.log < cost self.new.log) }
+        ensures none { IfOk result (λ a. is_made a ≡ false → (log_state self.new ≡ log_state self.old)
             × IsHeldUp J.program (log_state self.new).concrete t) }
+        ensures tried { IfOk result (λ a. TriedSo J.program (log_state self.old).concrete t a
+            (log_state self.new).concrete) }
         ensures err { IfErr result (λ fault. CanFail J.program J.outside J.limit fault) }
         ensures within { cost self.new.log ≤ J.limit }
     {
@@ -493,14 +497,16 @@ impl<J: RunName> Shared<J> {
             return Err(RunFault::Memory);
         }
         let machine = &mut self.machine;
-        let Some(made) = take_if_free(machine, image, t, &mut self.ahead, &mut self.event) else {
-            return Ok(false);
-        };
-        let (taken, outcome) = made;
-        push_taken(&mut self.log, t, taken, &self.event);
-        self.steps += taken.local + u32::from(taken.shared);
-        share.count_one(&mut self.book);
-        outcome.and(Ok(true))
+        match take_if_free(machine, image, t, &mut self.ahead, &mut self.event) {
+            Err(obstacle) => Ok(Attempt::HeldUp(obstacle)),
+            Ok((taken, outcome)) => {
+                push_taken(&mut self.log, t, taken, &self.event);
+                self.steps += taken.local + u32::from(taken.shared);
+                share.count_one(&mut self.book);
+                let took = bucket_taken(taken, &self.event);
+                outcome.and(Ok(Attempt::Made(took)))
+            }
+        }
     }
 
     // Why the piece, which stands where its next step is `next`, is refused, if not for memory.

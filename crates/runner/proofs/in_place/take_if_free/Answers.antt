@@ -4,9 +4,11 @@ use Rattle.isa.specs.Programs.{Program}
 use Rattle.piece_machine.specs.PieceViews.{parts}
 use Rattle.runner.specs.Entries.{BreaksAfter, entry_end, taken_entry}
 use Rattle.runner.specs.Logs.{EntersOwn}
+use Rattle.runner.proofs.Noting.{wants_if}
 use Rattle.runner.proofs.Waiting.{none_free}
 use Rattle.runner.proofs.Walking.{free_ahead, goes_ahead, goes_there, held_ahead, if_err, looked, next_there, walked_after}
 use Rattle.runner.proofs.Walking.{walked_as, walked_awake, walked_made}
+use Rattle.runner.proofs.Wanting.{wants_so}
 use Rattle.runner.proofs.in_place.take_if_free.Goals as goal
 
 pub take_entry-requires-clause-free : goal.take_entry-requires-clause-free
@@ -73,6 +75,19 @@ returns-then-waits_for_bucket-clause-held c =
           (c.if-waits_for_bucket.ensures l.looks.here (goes_ahead m.view c.args.t n s.result.1 s.new.ahead l)
           l.looks.next_is),
     )
+
+pub returns-then-waits_for_bucket-clause-wants : goal.returns-then-waits_for_bucket-clause-wants
+returns-then-waits_for_bucket-clause-wants c =
+    let m = c.args.machine.now in
+    let s = c.look_ahead-local in
+    let n = s.result.0 in
+    let l = looked m.view c.machine.result.now c.args.t n s.result.1 s.new.ahead c.machine.ensures.shows c.requires.thread
+    s.ensures in
+    let goes = goes_ahead m.view c.args.t n s.result.1 s.new.ahead l in
+    wants_if m.view.program (parts m) c.args.t c.obstacle_of.result
+    (λ bucket is. wants_so m.view.program (parts m) c.args.t bucket n l.origin s.new.ahead s.result.1 l.stands
+    c.requires.thread l.looks (c.if-waits_for_bucket.ensures l.looks.here goes l.looks.next_is)
+    (c.obstacle_of.ensures bucket l.looks.here is goes l.looks.next_is))
 
 pub returns-clause-enters : goal.returns-clause-enters
 returns-clause-enters c =

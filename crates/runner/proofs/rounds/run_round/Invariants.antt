@@ -5,11 +5,13 @@ use Rattle.runner.specs.Logs.{cost}
 use Rattle.runner.specs.Reports.{IsStopped}
 use Rattle.runner.specs.Rounds.{AllPast}
 use Rattle.runner.specs.Views.{log_state}
+use Rattle.runner.specs.Waits.{AllWait}
 use Rattle.runner.proofs.rounds.run_round.Given as goal
 
 abbrev pub invariant-loop-t : goal.invariant-loop-t
 invariant-loop-t g l = record {
   past : AllPast g.J.RunName.program g.J.RunName.limit (log_state l.shared) l.refused;
+  waits : AllWait g.J.RunName.program (log_state l.shared).concrete l.waiting;
   from_one : 0 < l.from;
   few : l.from ≤ suc most_threads;
   made : l.made ≡ true → (cost l.fn.shared.log < cost l.shared.log) × (cost l.shared.log ≤ g.J.RunName.limit);

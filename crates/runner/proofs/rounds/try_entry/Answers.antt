@@ -1,9 +1,11 @@
-use Rattle.std.proofs.Common.{◌≡◌, ◌∙◌, Some, true, false, slice_set, ap, refl, sym, slice_get, subst, arith}
+use Rattle.std.proofs.Common.{◌≡◌, ◌∙◌, ℕ, Some, true, false, slice_set, ap, refl, sym, slice_get, subst, arith}
 use Rattle.std.proofs.lemmas.Option.{slice_get-get_or}
+use Rattle.locals.specs.Steps.{local_after}
 use Rattle.runner.specs.declared.fault.RunFault.{RunFault}
 use Rattle.runner.specs.Views.{LogState, log_state}
 use Rattle.runner.specs.Entries.{RefusesEntry}
 use Rattle.runner.specs.Rounds.{AllPast}
+use Rattle.runner.proofs.Growing.{enters, entry}
 use Rattle.runner.proofs.Passing.{all_past, one_past, passes, stops}
 use Rattle.runner.proofs.rounds.try_entry.Goals as goal
 
@@ -37,3 +39,16 @@ returns-in-Err-Limit-clause-past g c =
     r.whole in
     subst (λ (s : LogState). AllPast p limit s (slice_set c.args.refused.now c.args.t true)) (sym h.0)
     (one_past p limit (log_state c.args.shared.now) c.args.t c.args.refused.now now c.requires.past)
+
+pub returns-in-Ok-clause-tried : goal.returns-in-Ok-clause-tried
+returns-in-Ok-clause-tried g c =
+    let a = c.go_on.new.self in
+    let takes = c.in-Ok.ensures.ok in
+    let p = g.J.RunName.program in
+    let goes : local_after p c.args.t a.count a.origin ≡ Some a.here =
+    ap (λ (u : ℕ). local_after p u a.count a.origin) (sym takes.stands.0) ∙ c.go_on.ensures.reached in (
+      entry c.args.t a.count takes.event,
+      refl,
+      enters p (log_state c.args.shared.now).concrete (log_state c.enter.new.self).concrete c.args.t a.count a.origin a.here
+          takes.event takes.stands.1 takes.moves goes takes.gives,
+    )

@@ -2,7 +2,7 @@ use Rattle.std.proofs.Common.{inr}
 use Rattle.std.proofs.lemmas.Result.{IfOk-weaker}
 use Rattle.runner.specs.Views.{log_state}
 use Rattle.runner.proofs.Passing.{none_yet, on_any}
-use Rattle.runner.proofs.rounds.make_entry.Goals as goal
+use Rattle.runner.proofs.rounds.attempt_entry.Goals as goal
 
 pub returns-clause-past : goal.returns-clause-past
 returns-clause-past g c =
@@ -12,8 +12,8 @@ returns-clause-past g c =
 
 pub returns-clause-made : goal.returns-clause-made
 returns-clause-made g c =
-    IfOk-weaker c.try_on.result _ _ (λ made h is. (h is, c.try_on.ensures.within)) c.try_on.ensures.made
+    IfOk-weaker c.try_on.result _ _ (λ a h is. (h is, c.try_on.ensures.within)) c.try_on.ensures.made
 
 pub returns-clause-none : goal.returns-clause-none
 returns-clause-none g c =
-    IfOk-weaker c.try_on.result _ _ (λ made h is. ((h is).0, λ moves. inr (h is).1)) c.try_on.ensures.none
+    IfOk-weaker c.try_on.result _ _ (λ a h is. ((h is).0, λ moves. inr (h is).1)) c.try_on.ensures.none

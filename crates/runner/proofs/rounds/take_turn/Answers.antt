@@ -1,0 +1,25 @@
+use Rattle.std.proofs.Common.{◌∙◌, ap, sym, subst}
+use Rattle.piece_machine.specs.PieceConcrete.{PieceConcrete}
+use Rattle.runner.specs.Attempts.{TriedSo}
+use Rattle.runner.specs.Views.{LogState, log_state}
+use Rattle.runner.specs.Waits.{AllWait}
+use Rattle.runner.proofs.Noting.{legal_buckets}
+use Rattle.runner.proofs.rounds.take_turn.Goals as goal
+
+pub follow-requires-clause-buckets : goal.follow-requires-clause-buckets
+follow-requires-clause-buckets g c =
+    ap (λ (k : PieceConcrete). k.buckets) c.piece_machine.ensures.parts
+    ∙ legal_buckets g.J.RunName.program c.attempt_entry.new.shared.log (log_state c.attempt_entry.new.shared).concrete
+    c.piece_machine.ensures.legal
+
+pub returns-clause-waits : goal.returns-clause-waits
+returns-clause-waits g c =
+    let p = g.J.RunName.program in
+    let e = c.in_ok-attempt.ensures in
+    let old = (log_state c.args.shared.now).concrete in
+    let new = (log_state c.attempt_entry.new.shared).concrete in
+    let here = c.piece_machine.ensures.parts in
+    subst (λ (k : PieceConcrete). AllWait p k c.follow.new.self) here
+    (c.follow.ensures p old c.requires.kept c.requires.waits.want
+    (λ stays. here ∙ ap (λ (h : LogState). h.concrete) (e.none stays).0)
+    (subst (λ (k : PieceConcrete). TriedSo p old c.args.t c.in_ok-attempt.attempt k) (sym here) e.tried))

@@ -1,0 +1,227 @@
+//! Which threads a held bucket is in the way of.
+ghost use Rattle.std.specs.Prelude.{◌≡◌, ◌≢◌, ◌≤◌, ◌<◌, ℕ, suc, false, slice_get, slice_set, Some, None, IfSome};
+ghost use Rattle.std.specs.Int.{bit_at};
+ghost use Rattle.words.specs.Limits.{most_threads, run_buckets};
+ghost use Rattle.isa.specs.Programs.{Program};
+ghost use Rattle.piece_machine.specs.PieceConcrete.{PieceConcrete};
+ghost use Rattle.piece_machine.specs.PieceDetermined.{IsFit};
+ghost use Rattle.piece_machine.specs.PieceViews.{parts};
+ghost use Rattle.runner.specs.Attempts.{TriedSo, WantsIf, is_made};
+ghost use Rattle.runner.specs.Waits.{AllHeld, AllWait, AllWant, IsHeldIf, IsNextFree, IsSound};
+
+use crate::attempt::{Attempt, Obstacle};
+use crate::thread_bits::{ThreadBits, lowest_from};
+use piece_machine::PieceMachine;
+use words::{BUCKETS, MOST_THREADS};
+
+const PLACES: usize = MOST_THREADS as usize + 1;
+
+/// Which threads are known to want which bucket. Such a thread is passed over as long as another one holds it: its next
+/// entry wants the bucket until it is made, whatever others do. What an entry costs doesn't grow with how many are passed
+/// over.
+#[derive(Drop)]
+pub struct Waiting {
+    // For each thread from 0 the bucket that it wants, where that is known.
+    wants: [Option<u32>; PLACES],
+    // For each bucket the threads that are known to want it.
+    wanting: [ThreadBits; BUCKETS as usize],
+    // A bit for each bucket that is held and whose threads are passed over.
+    shut: u64,
+    // The threads that aren't passed over.
+    ready: ThreadBits,
+}
+
+impl Waiting {
+    /// Of no thread it is known.
+    pub fn new() -> Waiting
+        ensures { (p : Program) (k : PieceConcrete) → AllWait p k result }
+    {
+        Waiting {
+            wants: [None; PLACES],
+            wanting: [ThreadBits::none(); BUCKETS as usize],
+            shut: 0,
+            ready: ThreadBits::all(),
+        }
+    }
+
+    /// The first thread from this number on that can move and isn't passed over, if there is one: those before it are
+    /// held up.
+    pub fn next_free(&self, machine: &PieceMachine, from: u32) -> Option<u32>
+        requires waits { AllWait machine.now.view.program (parts machine.now) self.now }
+        requires from { from ≤ suc most_threads }
+        ensures free { IsNextFree machine.now.view.program (parts machine.now) from result }
+        ensures number { IfSome result (λ t. (0 < t) × (t ≤ most_threads)) }
+    {
+        let mut at = from;
+        while let Some(t) = machine.machine().next_able(at) {
+            if self.ready.contains(t) {
+                return Some(t);
+            }
+            let Some(next) = self.ready.next_from(t) else {
+                return None;
+            };
+            at = next;
+        }
+        None
+    }
+
+    /// Keeps what came of a try to make the next entry of thread `t`, behind which the machine is this one.
+    pub fn follow(&mut self, machine: &PieceMachine, t: u32, attempt: Attempt)
+        requires thread { (0 < t) × (t ≤ most_threads) }
+        requires buckets { (parts machine.now).buckets ≡ run_buckets }
+        requires sound { IsSound self.old }
+        ensures { (p : Program) (k : PieceConcrete) → IsFit p k → AllWant p k self.old
+            → (is_made attempt ≡ false → parts machine.now ≡ k) → TriedSo p k t attempt (parts machine.now)
+            → AllWait p (parts machine.now) self.new }
+    {
+        self.check(machine);
+        match attempt {
+            Attempt::Made(took) => {
+                self.leave(t);
+                self.shut_taken(machine, took);
+            }
+            Attempt::HeldUp(obstacle) => self.note(machine, t, obstacle),
+            Attempt::Refused => {}
+        }
+    }
+
+    // Opens each bucket that is held no more.
+    fn check(&mut self, machine: &PieceMachine)
+        requires buckets { (parts machine.now).buckets ≡ run_buckets }
+        requires sound { IsSound self.old }
+        ensures sound { IsSound self.new }
+        ensures wants { self.new.wants ≡ self.old.wants }
+        ensures held { AllHeld (parts machine.now) self.new }
+    {
+        let mut at = 0;
+        while at < BUCKETS {
+            let Some(bucket) = lowest_from(self.shut, at) else {
+                return;
+            };
+            self.check_bucket(machine, bucket);
+            at = bucket + 1;
+        }
+    }
+
+    // Opens a bucket that is held no more.
+    fn check_bucket(&mut self, machine: &PieceMachine, bucket: u32)
+        requires bucket { bucket < run_buckets }
+        requires buckets { (parts machine.now).buckets ≡ run_buckets }
+        requires sound { IsSound self.old }
+        ensures sound { IsSound self.new }
+        ensures wants { self.new.wants ≡ self.old.wants }
+        ensures held { IsHeldIf (parts machine.now) self.new.shut bucket }
+        ensures others { (b : ℕ) → b < run_buckets → b ≢ bucket → bit_at self.new.shut b ≡ bit_at self.old.shut b }
+    {
+        if machine.machine().holder(bucket).is_none() {
+            self.open_bucket(bucket);
+        }
+    }
+
+    // Passes the threads over no more that want a bucket.
+    fn open_bucket(&mut self, bucket: u32)
+        requires bucket { bucket < run_buckets }
+        requires sound { IsSound self.old }
+        ensures sound { IsSound self.new }
+        ensures wants { self.new.wants ≡ self.old.wants }
+        ensures opened { bit_at self.new.shut bucket ≡ 0 }
+        ensures others { (b : ℕ) → b < run_buckets → b ≢ bucket → bit_at self.new.shut b ≡ bit_at self.old.shut b }
+    {
+        let set = self.wanting[bucket as usize];
+        self.shut &= !(1 << bucket);
+        self.ready.put_all(&set);
+    }
+
+    // Passes the threads over that want a bucket, where it's held.
+    fn shut_bucket(&mut self, machine: &PieceMachine, bucket: u32)
+        requires bucket { bucket < run_buckets }
+        requires buckets { (parts machine.now).buckets ≡ run_buckets }
+        requires sound { IsSound self.old }
+        requires held { AllHeld (parts machine.now) self.old }
+        ensures sound { IsSound self.new }
+        ensures wants { self.new.wants ≡ self.old.wants }
+        ensures held { AllHeld (parts machine.now) self.new }
+    {
+        let set = self.wanting[bucket as usize];
+        if set.is_empty() {
+            return;
+        }
+        if machine.machine().holder(bucket).is_none() {
+            return;
+        }
+        self.shut |= 1 << bucket;
+        self.ready.take_all(&set);
+    }
+
+    // The same of a bucket that an entry took, if it took one.
+    fn shut_taken(&mut self, machine: &PieceMachine, took: Option<u32>)
+        requires buckets { (parts machine.now).buckets ≡ run_buckets }
+        requires sound { IsSound self.old }
+        requires held { AllHeld (parts machine.now) self.old }
+        ensures sound { IsSound self.new }
+        ensures wants { self.new.wants ≡ self.old.wants }
+        ensures held { AllHeld (parts machine.now) self.new }
+    {
+        let Some(bucket) = took else {
+            return;
+        };
+        if bucket < BUCKETS {
+            self.shut_bucket(machine, bucket);
+        }
+    }
+
+    // Forgets which bucket thread `t` wants.
+    fn leave(&mut self, t: u32)
+        requires thread { (0 < t) × (t ≤ most_threads) }
+        requires sound { IsSound self.old }
+        ensures sound { IsSound self.new }
+        ensures wants { self.new.wants ≡ slice_set self.old.wants t None }
+        ensures shut { self.new.shut ≡ self.old.shut }
+    {
+        let Some(bucket) = self.wants[t as usize] else {
+            return;
+        };
+        let mut set = self.wanting[bucket as usize];
+        set.put(t, false);
+        self.wants[t as usize] = None;
+        self.wanting[bucket as usize] = set;
+        self.ready.put(t, true);
+    }
+
+    // Keeps which bucket thread `t` wants, of which nothing is known.
+    fn enter(&mut self, t: u32, bucket: u32)
+        requires thread { (0 < t) × (t ≤ most_threads) }
+        requires bucket { bucket < run_buckets }
+        requires none { slice_get self.old.wants t ≡ Some None }
+        requires sound { IsSound self.old }
+        ensures sound { IsSound self.new }
+        ensures wants { self.new.wants ≡ slice_set self.old.wants t (Some bucket) }
+        ensures shut { self.new.shut ≡ self.old.shut }
+    {
+        let mut set = self.wanting[bucket as usize];
+        set.put(t, true);
+        self.wants[t as usize] = Some(bucket);
+        self.wanting[bucket as usize] = set;
+    }
+
+    // Notes which bucket thread `t` wants, where that is known.
+    fn note(&mut self, machine: &PieceMachine, t: u32, obstacle: Obstacle)
+        requires thread { (0 < t) × (t ≤ most_threads) }
+        requires buckets { (parts machine.now).buckets ≡ run_buckets }
+        requires sound { IsSound self.old }
+        requires held { AllHeld (parts machine.now) self.old }
+        ensures sound { IsSound self.new }
+        ensures held { AllHeld (parts machine.now) self.new }
+        ensures wants { (p : Program) → AllWant p (parts machine.now) self.old
+            → WantsIf p (parts machine.now) t obstacle → AllWant p (parts machine.now) self.new }
+    {
+        let Obstacle::First(bucket) = obstacle else {
+            return;
+        };
+        if bucket < BUCKETS {
+            self.leave(t);
+            self.enter(t, bucket);
+            self.shut_bucket(machine, bucket);
+        }
+    }
+}
