@@ -1,5 +1,5 @@
 -- What is covered behind the actions of one process, and behind those of all.
-use Rattle.std.proofs.Common.{◌≡◌, ◌<◌, ◌+◌, ℕ, zero, suc, List, [], ◌∷◌, ◌++◌, length, get_or, map, slice_get, take}
+use Rattle.std.proofs.Common.{◌≡◌, ◌<◌, ◌+◌, not, ℕ, zero, suc, List, [], ◌∷◌, ◌++◌, length, get_or, map, slice_get, take}
 use Rattle.std.proofs.Common.{Option, Some, None, All, Bool, refl, sym, ap, ◌∙◌, subst, arith, false, true, inl, inr}
 use Rattle.std.specs.Prelude.{IsSome}
 use Rattle.std.proofs.lemmas.List.{map_more}
@@ -143,6 +143,11 @@ module _ (p : Program) where
         absurd (none_strays may none (subst (IsFrom may (unpacked parts x)) y.1 from))
     expanded_own a there from s' (inr (inr y)) =
         absurd (none_kills may (killed_in (unpacked parts x)) none (subst (IsFrom may (unpacked parts x)) y.2 from))
+
+-- what is denied is false
+pub denied : (b : Bool) → not b ≡ true → b ≡ false
+denied true e = absurd (let no : false ≡ true = e in cc)
+denied false e = refl
 
 -- one of two, and what follows of either
 pub either_moves : (a b r : Bool) → (r ≡ true → a ≡ false → b ≡ true) → (X : Type 0) → (a ≡ true → X) → (b ≡ true → X)

@@ -1,8 +1,8 @@
 -- Kept states with the processes of a state in place of their own.
 use Rattle.std.proofs.Common.{◌≡◌, ◌<◌, ◌+◌, ◌↔◌, ◌++◌, ℕ, zero, suc, List, [], ◌∷◌, Option, Some, None, All, Contains}
-use Rattle.std.proofs.Common.{length, slice_get, slice_set, take, get_or, refl, sym, ap, ◌∙◌, subst, arith, false, true}
+use Rattle.std.proofs.Common.{below_more, length, slice_get, slice_set, take, get_or, refl, sym, ap, ◌∙◌, subst, arith, false, true}
 use Rattle.std.specs.Prelude.{IsSome, is_some, option_map}
-use Rattle.std.proofs.lemmas.List.{take_more}
+use Rattle.std.proofs.lemmas.List.{length-append, take_more}
 use Rattle.std.proofs.lemmas.List.Elements.{All-push, All-set, All-weaker}
 use Rattle.words.specs.Updates.{put}
 use Rattle.words.proofs.Updates.{at_put, at_put2, put_other, put_same}
@@ -21,11 +21,13 @@ use Rattle.source_reaching.specs.Among.{among, or_else}
 use Rattle.source_search.specs.Packed.{IsGrown, IsPrefix, process_in, processes_at, some_process, some_table}
 use Rattle.source_search.specs.Packed.{some_variables, table_in, unpacked, variables_in}
 use Rattle.source_search.specs.Spots.{IsAlone, IsMergedOf, IsMergedTo, IsPutAt, IsSpotOf, alone, over}
+use Rattle.source_search.specs.Known.{EndSo, IsPutBehind, IsPutWith, with_child}
+use Rattle.source_search.specs.declared.memo.Outcome.{Outcome as OutcomeOf}
 use Rattle.source_search.specs.declared.packed.Packed.{Packed as PackedOf}
 use Rattle.source_search.specs.declared.parts.Parts.{Parts as PartsOf}
 use Rattle.source_search.specs.declared.spot.Spot.{Spot as SpotOf}
 use Rattle.source_search.proofs.Packing.{at_still, prefix_get, prefix_twice, prefix_within, slice_get_last}
-use Rattle.source_search.proofs.Packing.{some_within}
+use Rattle.source_search.proofs.Packing.{slice_get_more, some_within}
 
 -- the other elements of a list that has one more, or another one at a place
 get_beside : {X : Type 0} (xs : List X) (x : X) (j : ℕ) → (j ≡ length xs → ⊥)
@@ -93,6 +95,54 @@ put_within ids ids' n place part is less e = subst (λ m. IsPutAt ids m part ids
       (λ j ne. ap (λ l. slice_get l j) e ∙ get_set_other ids place j part ne);
   within = λ m l all. subst (All (λ k. k < m)) (sym e) (All-set (λ k. k < m) ids place part l all);
 })
+
+-- and with another behind the last one
+module _ (ids mid ids' : List ℕ) (place : ℕ) (o : OutcomeOf) (first : IsPutAt ids (suc place) o.part mid) where
+  last : (n : ℕ) → n ≡ length mid → ids' ≡ mid ++ o.child ∷ [] → IsPutAt mid (suc n) o.child ids'
+  last n is e = put_last mid ids' (suc n) o.child (ap suc is) e
+
+  with_at : (n : ℕ) → IsPutBehind mid o.child ids' n → (parts : List ProcessOf) (q : ℕ) → processes_at parts ids' q
+      ≡ with_child parts o.child (put (processes_at parts ids) (suc place) (process_in parts o.part)) n q
+  with_at zero e parts q = ap (λ l. processes_at parts l q) e ∙ first.at parts q
+  with_at (suc n) puts parts q = (last n puts.0 puts.1).at parts q
+      ∙ at_put2 (processes_at parts mid) (put (processes_at parts ids) (suc place) (process_in parts o.part)) (suc n)
+      (process_in parts o.child) (process_in parts o.child) q (λ u v. u ≡ v) (λ e. refl) (λ ne. first.at parts q)
+
+  with_within : (n : ℕ) → IsPutBehind mid o.child ids' n → (m : ℕ) → o.child < m → All (λ k. k < m) mid
+      → All (λ k. k < m) ids'
+  with_within zero e m less all = subst (All (λ k. k < m)) (sym e) all
+  with_within (suc n) puts m less all = (last n puts.0 puts.1).within m less all
+
+  pub put_with : IsPutBehind mid o.child ids' o.made → IsPutWith ids (suc place) o ids'
+  put_with puts = record {
+    at = with_at o.made puts;
+    within = λ m part child all. with_within o.made puts m child (first.within m part all);
+  }
+
+module _ (numbers others : List ℕ) (place : ℕ) (o : OutcomeOf) (less : place < length others)
+    (begins : (k : ℕ) → k < length others → slice_get numbers k ≡ slice_get (slice_set others place o.part) k) where
+  abbrev placed : List ℕ
+  placed = slice_set others place o.part
+
+  long : length placed ≡ length others
+  long = set_length others place o.part
+
+  put_behind : (n : ℕ) → EndSo numbers (length others) o.child n → IsPutBehind placed o.child numbers n
+  put_behind zero e = same_list numbers placed (e ∙ sym long) (λ j l. begins j (omega (arith, l, e)))
+  put_behind (suc m) ends =
+      let count : length numbers ≡ suc (length others) = ends.1 in
+      let more : length (placed ++ o.child ∷ []) ≡ length placed + 1 = length-append placed (o.child ∷ []) in (
+        ends.0 ∙ sym long,
+        same_list numbers (placed ++ o.child ∷ []) (omega (arith, count, more, long)) (λ j l.
+            below_more (λ k. slice_get numbers k ≡ slice_get (placed ++ o.child ∷ []) k) (length others)
+            (λ k lower. begins k lower ∙ sym (slice_get_more placed (o.child ∷ []) k (omega (arith, lower, long))))
+            (ends.2 ∙ sym (subst (λ k. slice_get (placed ++ o.child ∷ []) k ≡ Some o.child) long
+            (slice_get_last placed o.child))) j (omega (arith, l, count))),
+      )
+
+  pub put_so : EndSo numbers (length others) o.child o.made → IsPutWith others (suc place) o numbers
+  put_so ends = put_with others placed numbers place o
+      (put_within others placed (suc place) place o.part refl less refl) (put_behind o.made ends)
 
 -- another's values at some numbers
 over_push : (ns : List ℕ) (n : ℕ) (f g : ℕ → Option Process) (q : ℕ)

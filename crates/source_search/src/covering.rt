@@ -4,7 +4,7 @@ use crate::packed::Packed;
 use crate::parts::Parts;
 use crate::replay::OPENING;
 use program::Checked;
-use source_reaching::{End, Trail, Unread, follow_own, is_lost, looks_calm};
+use source_reaching::{Trail, Unread, follow_own, is_lost, looks_calm};
 use source_states::SourceState;
 use std::alloc::{AllocError, Global};
 
@@ -88,10 +88,8 @@ impl<'a> Parts<'a> {
 }
 
 impl<'a> Kept<'a> {
-    ghost use Rattle.std.specs.Prelude.{◌≡◌, IfOk, OnOk, true, ℕ};
+    ghost use Rattle.std.specs.Prelude.{◌≡◌, IfOk, OnOk, true};
     ghost use Rattle.program.specs.Views.{program_of};
-    ghost use Rattle.source_reaching.specs.Among.{AreCovered, among};
-    ghost use Rattle.source_reaching.specs.Ends.{ends_in};
     ghost use Rattle.source_states.specs.States.{state_of};
     ghost use Rattle.source_search.specs.Covered.{IsCoveredSo};
     ghost use Rattle.source_search.specs.Found.{is_any};
@@ -141,58 +139,5 @@ impl<'a> Kept<'a> {
             return Ok(false);
         };
         self.cover(alloc, checked, packed, OPENING)
-    }
-
-    // Covers a state that a process reaches from a kept one; false where no more can be kept.
-    fn cover_end(
-        &mut self,
-        alloc: Global,
-        checked: &'a Checked,
-        packed: &Packed,
-        end: &End<'a>,
-        way: Way,
-    ) -> Result<bool, AllocError>
-        requires sound { IsSound self.old }
-        requires within { IsWithin self.old.parts packed.now }
-        ensures sound { OnOk result (IsSound self.new) }
-        ensures grown { OnOk result (IsGrown self.old.parts self.new.parts) }
-        ensures longer { OnOk result (IsLonger (states_of self.old) (states_of self.new)) }
-        ensures covered { IfOk result (λ kept. kept ≡ true → IsCoveredSo (program_of checked.now.tree)
-            (states_of self.new) (among (unpacked self.old.parts packed.now).process (state_of end.now.state))) }
-    {
-        let Some(next) = self
-            .parts
-            .merge(alloc, checked.program(), packed, &end.state)?
-        else {
-            return Ok(false);
-        };
-        let way = way.with(end.choice, end.later);
-        let covered = self.cover(alloc, checked, next, way)?;
-        Ok(covered)
-    }
-
-    /// Covers each of these, which a process reaches from a kept state; false where no more can be kept.
-    pub fn cover_ends(
-        &mut self,
-        alloc: Global,
-        checked: &'a Checked,
-        packed: &Packed,
-        ends: &[End<'a>],
-        way: Way,
-    ) -> Result<bool, AllocError>
-        requires sound { IsSound self.old }
-        requires within { IsWithin self.old.parts packed.now }
-        ensures sound { OnOk result (IsSound self.new) }
-        ensures grown { OnOk result (IsGrown self.old.parts self.new.parts) }
-        ensures longer { OnOk result (IsLonger (states_of self.old) (states_of self.new)) }
-        ensures covered { IfOk result (λ kept. kept ≡ true → (n : ℕ) × AreCovered (program_of checked.now.tree)
-            (states_of self.new) n (unpacked self.old.parts packed.now).process (ends_in ends.now)) }
-    {
-        for k in 0..ends.len() {
-            if !self.cover_end(alloc, checked, packed, &ends[k], way)? {
-                return Ok(false);
-            }
-        }
-        Ok(true)
     }
 }

@@ -201,8 +201,16 @@ pub(crate) fn digest_packed(packed: &Packed) -> u64 {
     digest
 }
 
+// What the process that was made adds, where one was: its place is the one of its number.
+fn child_digest(outcome: Outcome) -> u64 {
+    match outcome.made.checked_sub(1) {
+        None => 0,
+        Some(place) => part_digest(u64::from(place), outcome.child),
+    }
+}
+
 /// The digest of a kept state of this digest, with the process at this place, the table and the variables as an outcome
-/// has them.
+/// has them, and with the process that was made.
 pub(crate) fn digest_moved(packed: &Packed, digest: u64, place: usize, outcome: Outcome) -> u64 {
     let Some(part) = packed.processes.get(place).copied() else {
         return digest;
@@ -215,4 +223,5 @@ pub(crate) fn digest_moved(packed: &Packed, digest: u64, place: usize, outcome: 
         .wrapping_add(part_digest(TABLE, outcome.table))
         .wrapping_add(part_digest(TABLE + 1, outcome.variables))
         .wrapping_add(part_digest(at, outcome.part))
+        .wrapping_add(child_digest(outcome))
 }

@@ -1,89 +1,64 @@
+use crate::making::follow_made;
 use crate::memo::{Known, Outcome};
 use crate::parts::Parts;
 use crate::spot::Spot;
-use program::Program;
-use source_reaching::{End, looks_calm};
-use source_states::SourceState;
+use program::Checked;
+use source_reaching::{End, Unread};
 use std::alloc::{AllocError, Global};
-
-// Whether no process looks as if its next action had become calm, where one went on to this state: it itself doesn't, and
-// nobody was waiting for its end.
-fn is_quiet(state: &SourceState, number: u64) -> bool {
-    let Some(process) = state.process(number) else {
-        return false;
-    };
-    state.over(number).is_none() && !looks_calm(process, state.table())
-}
-
-// The same of all of these.
-fn are_quiet(ends: &[End], process: u64) -> bool {
-    for end in ends {
-        if !is_quiet(&end.state, process) {
-            return false;
-        }
-    }
-    true
-}
 
 impl<'a> Parts<'a> {
     ghost use Rattle.std.specs.Prelude.{IfOk, IfSome, OnOk};
-    ghost use Rattle.program.specs.Trees.{Program as ProgramOf};
+    ghost use Rattle.program.specs.Views.{program_of};
     ghost use Rattle.meaning.specs.Runs.{CanMove};
     ghost use Rattle.source_reaching.specs.Among.{AreEnds};
     ghost use Rattle.source_reaching.specs.Ends.{ends_in};
     ghost use Rattle.source_states.specs.States.{state_of};
-    ghost use Rattle.source_search.specs.Known.{AreNumbered, IsKnownAt, IsNumbered, spot_at};
+    ghost use Rattle.source_search.specs.Known.{AreOutcomes, IsKnownAt, IsOutcome};
     ghost use Rattle.source_search.specs.Packed.{IsGrown};
     ghost use Rattle.source_search.specs.Spots.{IsSpotWithin, alone};
 
-    // What a process of a kept state with so many processes comes to from its spot, in numbers; None where it makes
-    // another, or there are too many parts.
+    // What a process of a kept state with so many processes comes to from its spot, in numbers, where another that it
+    // made was followed; None where there are too many parts, or nothing is known.
     fn outcome(
         &mut self,
         alloc: Global,
-        program: &Program,
+        checked: &'a Checked,
         spot: Spot,
-        made: usize,
+        before: usize,
         end: &End<'a>,
     ) -> Result<Option<Outcome>, AllocError>
         ensures grown { OnOk result (IsGrown self.old self.new) }
-        ensures numbered { IfOk result (λ o. IfSome o (λ x. IsNumbered self.new spot.process
-            (state_of end.now.state) (spot_at spot.process x))) }
+        ensures numbered { IfOk result (λ o. IfSome o
+            (IsOutcome (program_of checked.now.tree) self.new spot.process (state_of end.now.state))) }
     {
-        let Some(after) = self.number(alloc, program, spot, made, &end.state)? else {
+        let program = checked.program();
+        if end.state.made() == before as u64 {
+            return self.number(alloc, program, spot, &end.state, end.choice, end.later);
+        }
+        let mut state = end.state.copy(alloc)?;
+        let process = u64::from(spot.process);
+        if !follow_made(alloc, checked, &mut state, process, before, &mut Unread)? {
             return Ok(None);
-        };
-        let Ok(choice) = u16::try_from(end.choice) else {
-            return Ok(None);
-        };
-        let Ok(later) = u16::try_from(end.later) else {
-            return Ok(None);
-        };
-        Ok(Some(Outcome {
-            part: after.part,
-            table: after.table,
-            variables: after.variables,
-            choice,
-            later,
-        }))
+        }
+        self.number(alloc, program, spot, &state, end.choice, end.later)
     }
 
     // The same of all that it comes to.
     fn outcomes(
         &mut self,
         alloc: Global,
-        program: &Program,
+        checked: &'a Checked,
         spot: Spot,
-        made: usize,
+        before: usize,
         ends: &[End<'a>],
     ) -> Result<Option<Vec<Outcome>>, AllocError>
         ensures grown { OnOk result (IsGrown self.old self.new) }
-        ensures numbered { IfOk result (λ o. IfSome o
-            (λ v. AreNumbered self.new spot.process (ends_in ends.now) v.items)) }
+        ensures numbered { IfOk result (λ o. IfSome o (λ v. AreOutcomes (program_of checked.now.tree) self.new
+            spot.process (ends_in ends.now) v.items)) }
     {
         let mut outcomes = Vec::with_capacity(alloc, ends.len())?;
         for k in 0..ends.len() {
-            let Some(outcome) = self.outcome(alloc, program, spot, made, &ends[k])? else {
+            let Some(outcome) = self.outcome(alloc, checked, spot, before, &ends[k])? else {
                 return Ok(None);
             };
             outcomes.push(outcome)?;
@@ -92,28 +67,24 @@ impl<'a> Parts<'a> {
     }
 
     /// What is known of a process that comes to these from its spot, in a kept state with so many processes; None where
-    /// it makes another, or there are too many parts.
+    /// there are too many parts, or nothing is known.
     pub fn learn(
         &mut self,
         alloc: Global,
-        program: &Program,
+        checked: &'a Checked,
         spot: Spot,
-        made: usize,
+        before: usize,
         ends: &[End<'a>],
     ) -> Result<Option<Known>, AllocError>
         ensures grown { OnOk result (IsGrown self.old self.new) }
-        ensures known { IfOk result (λ o. IfSome o (λ k. (p : ProgramOf) → IsSpotWithin self.old spot
-            → AreEnds p spot.process (alone self.old spot) (ends_in ends.now)
-            → CanMove p (alone self.old spot) spot.process → IsKnownAt p self.new spot k)) }
+        ensures known { IfOk result (λ o. IfSome o (λ k. IsSpotWithin self.old spot
+            → AreEnds (program_of checked.now.tree) spot.process (alone self.old spot) (ends_in ends.now)
+            → CanMove (program_of checked.now.tree) (alone self.old spot) spot.process
+            → IsKnownAt (program_of checked.now.tree) self.new spot k)) }
     {
-        let Some(outcomes) = self.outcomes(alloc, program, spot, made, ends)? else {
+        let Some(outcomes) = self.outcomes(alloc, checked, spot, before, ends)? else {
             return Ok(None);
         };
-        let quiet = are_quiet(ends, u64::from(spot.process));
-        Ok(Some(Known {
-            spot,
-            outcomes,
-            quiet,
-        }))
+        Ok(Some(Known { spot, outcomes }))
     }
 }

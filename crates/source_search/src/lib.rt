@@ -9,6 +9,7 @@ mod held_up;
 mod kept;
 mod killing;
 mod learning;
+mod making;
 mod memo;
 mod merging;
 mod numbers;

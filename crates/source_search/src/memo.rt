@@ -1,11 +1,12 @@
 ghost use Rattle.std.specs.Prelude.{◌≡◌, ◌⊎◌, [], All, Contains, IfOk, IfSome, OnOk};
+ghost use Rattle.source_search.specs.Known.{outcomes_of};
 ghost use Rattle.source_search.specs.declared.memo.Known.{Known as KnownOf};
 
 use crate::spot::Spot;
 use std::alloc::{AllocError, Global};
 
-/// What a process comes to, where no other is made: where it stands then, with the table and the variables. Of all others
-/// nothing changes.
+/// What a process comes to: where it stands then, with the table and the variables, and where the process stands that it
+/// made, if it made one. Of all others nothing changes.
 #[derive(Clone, Copy, Debug)]
 pub(crate) struct Outcome {
     /// Where the process stands.
@@ -14,10 +15,16 @@ pub(crate) struct Outcome {
     pub table: u32,
     /// The values of the variables.
     pub variables: u32,
+    /// Where the process stands that was made; where none was, it says nothing.
+    pub child: u32,
+    /// The number of the process that was made; 0 where none was.
+    pub made: u16,
     /// The place of the action among the process's own.
     pub choice: u16,
     /// The place of a calm action among those that were come to behind it.
     pub later: u16,
+    /// Whether no process may become calm by it. Nothing is promised of it.
+    pub quiet: bool,
 }
 
 /// What is known of a process that stands at a spot.
@@ -27,8 +34,15 @@ pub(crate) struct Known {
     pub spot: Spot,
     /// What it comes to by its own actions. None where it can't move.
     pub outcomes: Vec<Outcome>,
-    /// Whether no other process may become calm by it. Nothing is promised of it.
-    pub quiet: bool,
+}
+
+impl Known {
+    /// What it comes to.
+    pub fn outcomes(&self) -> &[Outcome]
+        ensures { result.now ≡ outcomes_of self.now }
+    {
+        self.outcomes.as_slice()
+    }
 }
 
 /// What is known of processes, each at a place that its spot has: what was known there before is forgotten. So it needs
@@ -68,7 +82,6 @@ fn room(alloc: Global, size: usize) -> Result<Vec<Known>, AllocError>
                 variables: 0,
             },
             outcomes: Vec::new(alloc),
-            quiet: false,
         })?;
     }
     Ok(known)
@@ -131,11 +144,10 @@ impl Memo {
 /// What is known of a process that can't move from its spot.
 pub(crate) fn resting(alloc: Global, spot: Spot) -> Known
     ensures same { result.spot ≡ spot }
-    ensures none { result.outcomes.items ≡ [] }
+    ensures none { outcomes_of result ≡ [] }
 {
     Known {
         spot,
         outcomes: Vec::new(alloc),
-        quiet: true,
     }
 }

@@ -3,6 +3,8 @@ ghost use Rattle.source_states.specs.States.{state_of};
 ghost use Rattle.source_search.specs.Spots.{IsPutAt};
 
 use crate::held_up::is_held_up;
+use crate::making::{is_quiet, other_of};
+use crate::memo::Outcome;
 use crate::packed::Packed;
 use crate::parts::Parts;
 use crate::spot::Spot;
@@ -29,10 +31,45 @@ fn put_part(processes: &mut Vec<u32>, process: u64, part: u32) -> Result<bool, A
     Ok(true)
 }
 
+// What an outcome says of the way to it, in two bytes each.
+#[derive(Clone, Copy, Debug)]
+struct Short {
+    // The number of the process that was made; 0 where none was.
+    made: u16,
+    // The place of the action.
+    choice: u16,
+    // That of a later one.
+    later: u16,
+}
+
+// The same in two bytes each; None where one is greater.
+fn way_of(number: u64, choice: usize, later: usize) -> Option<Short>
+    ensures { IfSome result (λ x. x.made ≡ number) }
+{
+    let (Ok(made), Ok(choice), Ok(later)) = (
+        u16::try_from(number),
+        u16::try_from(choice),
+        u16::try_from(later),
+    ) else {
+        return None;
+    };
+    Some(Short {
+        made,
+        choice,
+        later,
+    })
+}
+
+// Whether no process looks as if its next action had become calm, where one of this number went on to a state and made
+// another, if the other's number isn't 0.
+fn are_quiet(state: &SourceState, process: u64, child: u64) -> bool {
+    is_quiet(state, process) && (child == 0 || is_quiet(state, child))
+}
+
 impl<'a> Parts<'a> {
     ghost use Rattle.program.specs.Trees.{Program as ProgramOf};
     ghost use Rattle.meaning.specs.Runs.{CanMove};
-    ghost use Rattle.source_search.specs.Known.{IsNumbered};
+    ghost use Rattle.source_search.specs.Known.{IsChild, IsNumbered};
     ghost use Rattle.source_search.specs.Packed.{IsGrown, IsWithin};
     ghost use Rattle.source_search.specs.Spots.{IsAlone, IsMergedOf, IsMergedTo, alone};
 
@@ -131,43 +168,74 @@ impl<'a> Parts<'a> {
         }))
     }
 
-    /// A state in which the process of this spot is alone, in numbers, where so many processes were made; None where
-    /// there are others, or too many parts.
+    // The number of the part of the process of this number in a state; where that is 0 it is this one.
+    fn child_number(
+        &mut self,
+        alloc: Global,
+        state: &SourceState<'a>,
+        number: u64,
+        part: u32,
+    ) -> Result<Option<u32>, AllocError>
+        ensures grown { OnOk result (IsGrown self.old self.new) }
+        ensures there { IfOk result (λ o. IfSome o
+            (λ n. IsChild self.new.processes.items (state_of state.now).process n part number)) }
+    {
+        if number == 0 {
+            return Ok(Some(part));
+        }
+        let Some(process) = state.process(number) else {
+            return Ok(None);
+        };
+        self.process_number(alloc, process)
+    }
+
+    /// A state in which there is the process of this spot, and one that it made, or no other, in numbers, by these
+    /// choices; None where there are others, or too many parts.
     pub fn number(
         &mut self,
         alloc: Global,
         program: &Program,
         spot: Spot,
-        made: usize,
         state: &SourceState<'a>,
-    ) -> Result<Option<Spot>, AllocError>
+        choice: usize,
+        later: usize,
+    ) -> Result<Option<Outcome>, AllocError>
         ensures grown { OnOk result (IsGrown self.old self.new) }
         ensures numbered { IfOk result (λ o. IfSome o
             (IsNumbered self.new spot.process (state_of state.now))) }
     {
         let all = state.numbers(alloc)?;
-        if all.len() != 1 {
+        let Some(number) = other_of(all.as_slice(), u64::from(spot.process)) else {
             return Ok(None);
-        }
+        };
         let Some(process) = state.process(u64::from(spot.process)) else {
             return Ok(None);
         };
         let Some(part) = self.process_number(alloc, process)? else {
             return Ok(None);
         };
-        let made = made as u64;
-        let Some(table) = self.table_number(alloc, program, state, made, spot.table)? else {
+        let Some(child) = self.child_number(alloc, state, number, part)? else {
+            return Ok(None);
+        };
+        let Some(table) = self.table_number(alloc, program, state, state.made(), spot.table)? else {
             return Ok(None);
         };
         let values = state.variables();
         let Some(variables) = self.variables_number(alloc, values, spot.variables)? else {
             return Ok(None);
         };
-        Ok(Some(Spot {
-            process: spot.process,
+        let Some(way) = way_of(number, choice, later) else {
+            return Ok(None);
+        };
+        Ok(Some(Outcome {
             part,
             table,
             variables,
+            child,
+            made: way.made,
+            choice: way.choice,
+            later: way.later,
+            quiet: are_quiet(state, u64::from(spot.process), number),
         }))
     }
 }

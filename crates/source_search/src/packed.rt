@@ -1,6 +1,6 @@
-ghost use Rattle.std.specs.Prelude.{◌≡◌, ◌<◌, IfOk, IfSome, Some, length, suc, true};
+ghost use Rattle.std.specs.Prelude.{◌≡◌, ◌<◌, IfOk, IfSome, Some, length, suc, true, ℕ};
 ghost use Rattle.std.specs.List.{slice_get, slice_set};
-ghost use Rattle.source_search.specs.Known.{IsMovedTo};
+ghost use Rattle.source_search.specs.Known.{EndSo, IsMovedTo, IsPutBehind, IsPutWith};
 ghost use Rattle.source_search.specs.Packed.{IsSameKey};
 ghost use Rattle.source_search.specs.Spots.{IsPutAt, IsSpotOf};
 
@@ -30,22 +30,72 @@ fn number_at(others: &[u32], place: usize, part: u32, at: usize) -> u32
     others[at]
 }
 
-// Whether these numbers are others with this part at a place.
-fn are_but_at(numbers: &[u32], others: &[u32], place: usize, part: u32) -> bool
-    ensures { result ≡ true → IsPutAt others.now (suc place) part numbers.now }
+// Whether these numbers begin with others that have this part at a place.
+fn begin_so(numbers: &[u32], others: &[u32], place: usize, part: u32) -> bool
+    ensures { result ≡ true → (k : ℕ) → k < length others.now
+        → slice_get numbers.now k ≡ slice_get (slice_set others.now place part) k }
 {
-    if numbers.len() != others.len() {
+    if numbers.len() < others.len() {
         return false;
     }
-    if place >= others.len() {
-        return false;
-    }
-    for k in 0..numbers.len() {
+    for k in 0..others.len() {
         if numbers[k] != number_at(others, place, part, k) {
             return false;
         }
     }
     true
+}
+
+// Whether so many numbers are followed by the part of the process of this number, and by nothing where it is 0.
+fn end_so(numbers: &[u32], before: usize, made: u16, child: u32) -> bool
+    ensures { result ≡ true → EndSo numbers.now before child made }
+{
+    if made == 0 {
+        return numbers.len() == before;
+    }
+    let last = usize::from(made) - 1;
+    if last != before || numbers.len() != usize::from(made) {
+        return false;
+    }
+    numbers[last] == child
+}
+
+// Whether these numbers are others with what an outcome puts at a place, and behind the last one.
+fn are_put(numbers: &[u32], others: &[u32], place: usize, outcome: Outcome) -> bool
+    ensures { result ≡ true → IsPutWith others.now (suc place) outcome numbers.now }
+{
+    if place >= others.len() {
+        return false;
+    }
+    if !end_so(numbers, others.len(), outcome.made, outcome.child) {
+        return false;
+    }
+    begin_so(numbers, others, place, outcome.part)
+}
+
+// Puts a part at a place; false where there is none.
+fn put_own(processes: &mut Vec<u32>, place: usize, part: u32) -> bool
+    ensures { result ≡ true → IsPutAt processes.old.items (suc place) part processes.new.items }
+{
+    if place >= processes.len() {
+        return false;
+    }
+    processes[place] = part;
+    true
+}
+
+// Puts the part of the process of this number behind the others, unless that is 0; false where it isn't the next one.
+fn put_child(processes: &mut Vec<u32>, made: u16, child: u32) -> Result<bool, AllocError>
+    ensures { IfOk result (λ b. b ≡ true → IsPutBehind processes.old.items child processes.new.items made) }
+{
+    if made == 0 {
+        return Ok(true);
+    }
+    if usize::from(made) - 1 != processes.len() {
+        return Ok(false);
+    }
+    processes.push(child)?;
+    Ok(true)
 }
 
 impl Packed {
@@ -62,7 +112,8 @@ impl Packed {
         self.processes == other.processes
     }
 
-    /// Whether it is another with the process at this place, the table and the variables as an outcome has them.
+    /// Whether it is another with the process at this place, the table and the variables as an outcome has them, and with
+    /// the process that was made.
     pub fn is_moved(&self, other: &Packed, place: usize, outcome: Outcome) -> bool
         ensures { result ≡ true → IsMovedTo other.now place outcome self.now }
     {
@@ -73,7 +124,7 @@ impl Packed {
             return false;
         }
         let numbers = self.processes.as_slice();
-        are_but_at(numbers, other.processes.as_slice(), place, outcome.part)
+        are_put(numbers, other.processes.as_slice(), place, outcome)
     }
 
     /// The same once more.
@@ -104,8 +155,8 @@ impl Packed {
         })
     }
 
-    /// The same with the process at this place, the table and the variables as an outcome has them; None where there is
-    /// no such process.
+    /// The same with the process at this place, the table and the variables as an outcome has them, and with the process
+    /// that was made; None where there is no such process, or the one that was made hasn't the next number.
     pub fn moved(
         &self,
         alloc: Global,
@@ -115,10 +166,12 @@ impl Packed {
         ensures { IfOk result (λ o. IfSome o (IsMovedTo self.now place outcome)) }
     {
         let mut processes = Vec::from_slice(alloc, self.processes.as_slice())?;
-        if place >= processes.len() {
+        if !put_own(&mut processes, place, outcome.part) {
             return Ok(None);
         }
-        processes[place] = outcome.part;
+        if !put_child(&mut processes, outcome.made, outcome.child)? {
+            return Ok(None);
+        }
         Ok(Some(Packed {
             table: outcome.table,
             variables: outcome.variables,

@@ -17,12 +17,12 @@ impl<'a> Kept<'a> {
     ghost use Rattle.source_reaching.specs.Ends.{ends_in};
     ghost use Rattle.source_search.specs.Covered.{IsCoveredSo, IsFollowedOwn};
     ghost use Rattle.source_search.specs.Kept.{IsLonger, IsSound, states_of};
-    ghost use Rattle.source_search.specs.Known.{AreKnown, AreWithin, IsKnownAt, alone_at, spot_at};
+    ghost use Rattle.source_search.specs.Known.{AreKnown, AreWithin, IsKnownAt, IsThere, behind, behind_all};
     ghost use Rattle.source_search.specs.Packed.{IsGrown, IsWithin, unpacked};
-    ghost use Rattle.source_search.specs.Spots.{IsSpotOf, IsSpotWithin, alone};
+    ghost use Rattle.source_search.specs.Spots.{IsSpotOf, alone};
 
-    // Keeps the state in which the process at this place of a kept one stands behind an outcome, unless it is kept; false
-    // where no more can be kept.
+    // Keeps the state in which the process at this place of a kept one stands behind an outcome, and the one that it made,
+    // unless it is kept; false where no more can be kept.
     fn keep_moved(
         &mut self,
         alloc: Global,
@@ -34,12 +34,12 @@ impl<'a> Kept<'a> {
     ) -> Result<bool, AllocError>
         requires sound { IsSound self.old }
         requires within { IsWithin self.old.parts packed.now }
-        requires there { IsSpotWithin self.old.parts (spot_at (suc place) outcome) }
+        requires there { IsThere self.old.parts (suc place) outcome }
         ensures sound { OnOk result (IsSound self.new) }
         ensures parts { OnOk result (self.new.parts ≡ self.old.parts) }
         ensures longer { OnOk result (IsLonger (states_of self.old) (states_of self.new)) }
         ensures kept { IfOk result (λ kept. kept ≡ true → IsKept (states_of self.new)
-            (among (unpacked self.old.parts packed.now).process (alone self.old.parts (spot_at (suc place) outcome)))) }
+            (among (unpacked self.old.parts packed.now).process (behind self.old.parts (suc place) outcome))) }
     {
         let digest = digest_moved(packed, origin.digest, place, outcome);
         if self.has_moved(digest, packed, place, outcome) {
@@ -52,37 +52,36 @@ impl<'a> Kept<'a> {
         Ok(kept)
     }
 
-    // Covers the state in which the process at this place of a kept one stands behind an outcome; false where no more can
-    // be kept.
+    // Covers the state in which the process at this place of a kept one stands behind an outcome, and the one that it made;
+    // false where no more can be kept.
     fn cover_outcome(
         &mut self,
         alloc: Global,
         checked: &'a Checked,
         packed: &Packed,
         place: usize,
-        outcome: Outcome,
-        quiet: bool,
+        outcome: &Outcome,
         origin: Origin,
     ) -> Result<bool, AllocError>
         requires sound { IsSound self.old }
         requires within { IsWithin self.old.parts packed.now }
-        requires there { IsSpotWithin self.old.parts (spot_at (suc place) outcome) }
+        requires there { IsThere self.old.parts (suc place) outcome.now }
         ensures sound { OnOk result (IsSound self.new) }
         ensures grown { OnOk result (IsGrown self.old.parts self.new.parts) }
         ensures longer { OnOk result (IsLonger (states_of self.old) (states_of self.new)) }
         ensures covered { IfOk result (λ kept. kept ≡ true
             → IsCoveredSo (program_of checked.now.tree) (states_of self.new)
-            (among (unpacked self.old.parts packed.now).process (alone self.old.parts (spot_at (suc place) outcome)))) }
+            (among (unpacked self.old.parts packed.now).process (behind self.old.parts (suc place) outcome.now))) }
     {
         let process = (place as u64).saturating_add(1);
         let way = origin
             .way(process)
             .with(usize::from(outcome.choice), usize::from(outcome.later));
-        if quiet {
-            let kept = self.keep_moved(alloc, packed, place, outcome, origin, way)?;
+        if outcome.quiet {
+            let kept = self.keep_moved(alloc, packed, place, *outcome, origin, way)?;
             return Ok(kept);
         }
-        let Some(next) = packed.moved(alloc, place, outcome)? else {
+        let Some(next) = packed.moved(alloc, place, *outcome)? else {
             return Ok(false);
         };
         let covered = self.cover(alloc, checked, next, way)?;
@@ -96,22 +95,21 @@ impl<'a> Kept<'a> {
         checked: &'a Checked,
         packed: &Packed,
         place: usize,
-        known: &Known,
+        outcomes: &[Outcome],
         origin: Origin,
     ) -> Result<bool, AllocError>
         requires sound { IsSound self.old }
         requires within { IsWithin self.old.parts packed.now }
-        requires there { AreWithin self.old.parts (suc place) known.now.outcomes.items }
+        requires there { AreWithin self.old.parts (suc place) outcomes.now }
         ensures sound { OnOk result (IsSound self.new) }
         ensures grown { OnOk result (IsGrown self.old.parts self.new.parts) }
         ensures longer { OnOk result (IsLonger (states_of self.old) (states_of self.new)) }
         ensures covered { IfOk result (λ kept. kept ≡ true → (n : ℕ) × AreCovered (program_of checked.now.tree)
             (states_of self.new) n (unpacked self.old.parts packed.now).process
-            (alone_at self.old.parts (suc place) known.now.outcomes.items)) }
+            (behind_all self.old.parts (suc place) outcomes.now)) }
     {
-        for k in 0..known.outcomes.len() {
-            let outcome = known.outcomes[k];
-            if !self.cover_outcome(alloc, checked, packed, place, outcome, known.quiet, origin)? {
+        for k in 0..outcomes.len() {
+            if !self.cover_outcome(alloc, checked, packed, place, &outcomes[k], origin)? {
                 return Ok(false);
             }
         }
@@ -142,13 +140,14 @@ impl<'a> Kept<'a> {
         ensures moves { IfOk result (λ o. IfSome o (λ moves. moves ≡ true
             → CanMove (program_of checked.now.tree) (unpacked self.old.parts packed.now) (suc place))) }
     {
-        if !self.cover_known(alloc, checked, packed, place, known, origin)? {
+        let outcomes = known.outcomes();
+        if !self.cover_known(alloc, checked, packed, place, outcomes, origin)? {
             return Ok(None);
         }
-        Ok(Some(known.outcomes.len() > 0))
+        Ok(Some(outcomes.len() > 0))
     }
 
-    // The same of one that can move, and reaches these; it is remembered, unless it makes another process.
+    // The same of one that can move, and reaches these, which is remembered.
     fn follow_ends(
         &mut self,
         alloc: Global,
@@ -174,16 +173,12 @@ impl<'a> Kept<'a> {
         ensures followed { IfOk result (λ kept. kept ≡ true → IsFollowedOwn (program_of checked.now.tree)
             (states_of self.new) (unpacked self.old.parts packed.now) (suc place)) }
     {
-        let made = packed.processes.len();
-        let way = origin.way(u64::from(spot.process));
-        let Some(known) = self
-            .parts
-            .learn(alloc, checked.program(), spot, made, ends)?
-        else {
-            let covered = self.cover_ends(alloc, checked, packed, ends, way)?;
-            return Ok(covered);
+        let before = packed.processes.len();
+        let Some(known) = self.parts.learn(alloc, checked, spot, before, ends)? else {
+            return Ok(false);
         };
-        let kept = self.cover_known(alloc, checked, packed, place, &known, origin)?;
+        let outcomes = known.outcomes();
+        let kept = self.cover_known(alloc, checked, packed, place, outcomes, origin)?;
         memo.keep(known);
         Ok(kept)
     }

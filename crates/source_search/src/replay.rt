@@ -1,5 +1,6 @@
 use crate::choices::choices;
 use crate::kept::{Kept, Way};
+use crate::making::follow_made;
 use crate::outside::Outside;
 use crate::packed::Packed;
 use crate::parts::Parts;
@@ -99,6 +100,9 @@ fn go_between<'a>(
     if !go_way(alloc, checked, &mut small, way, actions)? {
         return Ok(());
     }
+    let process = u64::from(way.process);
+    let made = before.processes.len();
+    let _known = follow_made(alloc, checked, &mut small, process, made, actions)?;
     let Some(next) = parts.merge(alloc, checked.program(), before, &small)? else {
         return Ok(());
     };
