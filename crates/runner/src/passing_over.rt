@@ -25,6 +25,8 @@ pub struct Waiting {
     wants: [Option<u32>; PLACES],
     // For each bucket the threads that are known to want it.
     wanting: [ThreadBits; BUCKETS as usize],
+    // How many threads these are, so that where there are none nothing is looked at. Nothing else rests on it.
+    counts: [u32; BUCKETS as usize],
     // A bit for each bucket that is held and whose threads are passed over.
     shut: u64,
     // The threads that aren't passed over.
@@ -39,6 +41,7 @@ impl Waiting {
         Waiting {
             wants: [None; PLACES],
             wanting: [ThreadBits::none(); BUCKETS as usize],
+            counts: [0; BUCKETS as usize],
             shut: 0,
             ready: ThreadBits::all(),
         }
@@ -142,13 +145,13 @@ impl Waiting {
         ensures wants { self.new.wants ≡ self.old.wants }
         ensures held { AllHeld (parts machine.now) self.new }
     {
-        let set = self.wanting[bucket as usize];
-        if set.is_empty() {
+        if self.counts[bucket as usize] == 0 {
             return;
         }
         if machine.machine().holder(bucket).is_none() {
             return;
         }
+        let set = self.wanting[bucket as usize];
         self.shut |= 1 << bucket;
         self.ready.take_all(&set);
     }
@@ -185,6 +188,8 @@ impl Waiting {
         set.put(t, false);
         self.wants[t as usize] = None;
         self.wanting[bucket as usize] = set;
+        let count = self.counts[bucket as usize];
+        self.counts[bucket as usize] = count.saturating_sub(1);
         self.ready.put(t, true);
     }
 
@@ -202,6 +207,8 @@ impl Waiting {
         set.put(t, true);
         self.wants[t as usize] = Some(bucket);
         self.wanting[bucket as usize] = set;
+        let count = self.counts[bucket as usize];
+        self.counts[bucket as usize] = count.saturating_add(1);
     }
 
     // Notes which bucket thread `t` wants, where that is known.

@@ -29,11 +29,6 @@ impl ThreadBits {
         }
     }
 
-    /// Whether there is none.
-    pub fn is_empty(&self) -> bool {
-        self.words == [0; WORDS]
-    }
-
     /// Whether thread `t` is one of them.
     #[tactic(auto, using(std::proofs::lemmas::Nat::Bits::shr_and_one))]
     pub fn contains(&self, t: u32) -> bool
