@@ -330,6 +330,17 @@ one_outcome p a b g t ends k e outcomes outcomes' o less is so_far one push =
           so_far.ahead) one.ahead));
     })
 
+-- one outcome, of one state
+pub single_outcome : (p : Program) (parts : PartsOf) (t : ℕ) (ends : List End) (e : End) (o : OutcomeOf)
+    → length ends ≡ 1 → e ≡ get_or ends 0 e → IsOutcome p parts t (state_of e.state) o
+    → AreOutcomes p parts t (ends_in ends) (o ∷ [])
+single_outcome p parts t [] e o one is at = absurd (omega (arith, one))
+single_outcome p parts t (x ∷ []) e o one is at = record {
+  within = All-push (IsThere parts t) [] o (λ k d l. absurd (omega (arith, l))) at.there;
+  ahead = (subst (λ (y : End). IsAheadBeside p (state_of y.state) (behind parts t o)) is at.ahead, tt);
+}
+single_outcome p parts t (x ∷ y ∷ ends) e o one is at = absurd (omega (arith, one))
+
 -- one outcome more is covered
 pub outcome_covered : (p : Program) (a b : PartsOf) → IsGrown a b → (x : PackedOf) (t : ℕ) (outcomes : List OutcomeOf)
     (kept kept' : List SourceState) → IsLonger kept kept' → (k : ℕ) (d : OutcomeOf) → k < length outcomes

@@ -14,6 +14,8 @@ use Rattle.source_search.specs.Packed.{process_in, processes_at}
 use Rattle.source_search.specs.Spots.{IsSpotWithin, alone}
 use Rattle.source_search.specs.declared.memo.Known.{Known as KnownOf}
 use Rattle.source_search.specs.declared.memo.Memo.{Memo as MemoOf}
+use Rattle.source_search.specs.declared.memo.Outcomes.{Outcomes as OutcomesOf}
+use Rattle.source_search.specs.declared.memo.Outcomes.TheVariants.{Nothing, One, Several}
 use Rattle.source_search.specs.declared.memo.Outcome.{Outcome as OutcomeOf}
 use Rattle.source_search.specs.declared.packed.Packed.{Packed as PackedOf}
 use Rattle.source_search.specs.declared.parts.Parts.{Parts as PartsOf}
@@ -46,9 +48,14 @@ pub record IsThere (parts : PartsOf) (t : ℕ) (o : OutcomeOf) : Type 0 where
 abbrev pub AreWithin : PartsOf → ℕ → List OutcomeOf → Type 0
 AreWithin parts t outcomes = All (IsThere parts t) outcomes
 
--- what is known that the process comes to
+-- what a process comes to
+abbrev pub listed_in : OutcomesOf → List OutcomeOf
+listed_in Nothing = []
+listed_in (One o) = o ∷ []
+listed_in (Several outcomes) = outcomes.items
+
 abbrev pub outcomes_of : KnownOf → List OutcomeOf
-outcomes_of k = k.outcomes.items
+outcomes_of k = listed_in k.outcomes
 
 -- the process comes to these from its spot, and can move where there are any
 pub record IsKnown (p : Program) (parts : PartsOf) (k : KnownOf) : Type 0 where

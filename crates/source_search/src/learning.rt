@@ -1,5 +1,5 @@
 use crate::making::follow_made;
-use crate::memo::{Known, Outcome};
+use crate::memo::{Known, Outcome, Outcomes};
 use crate::parts::Parts;
 use crate::spot::Spot;
 use program::Checked;
@@ -13,7 +13,7 @@ impl<'a> Parts<'a> {
     ghost use Rattle.source_reaching.specs.Among.{AreEnds};
     ghost use Rattle.source_reaching.specs.Ends.{ends_in};
     ghost use Rattle.source_states.specs.States.{state_of};
-    ghost use Rattle.source_search.specs.Known.{AreOutcomes, IsKnownAt, IsOutcome};
+    ghost use Rattle.source_search.specs.Known.{AreOutcomes, IsKnownAt, IsOutcome, listed_in};
     ghost use Rattle.source_search.specs.Packed.{IsGrown};
     ghost use Rattle.source_search.specs.Spots.{IsSpotWithin, alone};
 
@@ -66,6 +66,31 @@ impl<'a> Parts<'a> {
         Ok(Some(outcomes))
     }
 
+    // The same, and of one nothing is allocated.
+    fn listed(
+        &mut self,
+        alloc: Global,
+        checked: &'a Checked,
+        spot: Spot,
+        before: usize,
+        ends: &[End<'a>],
+    ) -> Result<Option<Outcomes>, AllocError>
+        ensures grown { OnOk result (IsGrown self.old self.new) }
+        ensures numbered { IfOk result (λ o. IfSome o (λ x. AreOutcomes (program_of checked.now.tree) self.new
+            spot.process (ends_in ends.now) (listed_in x))) }
+    {
+        if ends.len() != 1 {
+            let Some(several) = self.outcomes(alloc, checked, spot, before, ends)? else {
+                return Ok(None);
+            };
+            return Ok(Some(Outcomes::Several(several)));
+        }
+        let Some(one) = self.outcome(alloc, checked, spot, before, &ends[0])? else {
+            return Ok(None);
+        };
+        Ok(Some(Outcomes::One(one)))
+    }
+
     /// What is known of a process that comes to these from its spot, in a kept state with so many processes; None where
     /// there are too many parts, or nothing is known.
     pub fn learn(
@@ -82,7 +107,7 @@ impl<'a> Parts<'a> {
             → CanMove (program_of checked.now.tree) (alone self.old spot) spot.process
             → IsKnownAt (program_of checked.now.tree) self.new spot k)) }
     {
-        let Some(outcomes) = self.outcomes(alloc, checked, spot, before, ends)? else {
+        let Some(outcomes) = self.listed(alloc, checked, spot, before, ends)? else {
             return Ok(None);
         };
         Ok(Some(Known { spot, outcomes }))

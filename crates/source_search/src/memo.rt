@@ -27,13 +27,24 @@ pub(crate) struct Outcome {
     pub quiet: bool,
 }
 
+/// What a process comes to by its own actions. Mostly it is one outcome, and then nothing is allocated for it.
+#[derive(Drop)]
+pub(crate) enum Outcomes {
+    /// It can't move.
+    Nothing,
+    /// This one.
+    One(Outcome),
+    /// These.
+    Several(Vec<Outcome>),
+}
+
 /// What is known of a process that stands at a spot.
 #[derive(Drop)]
 pub(crate) struct Known {
     /// Where it stands.
     pub spot: Spot,
-    /// What it comes to by its own actions. None where it can't move.
-    pub outcomes: Vec<Outcome>,
+    /// What it comes to by its own actions.
+    pub outcomes: Outcomes,
 }
 
 impl Known {
@@ -41,7 +52,11 @@ impl Known {
     pub fn outcomes(&self) -> &[Outcome]
         ensures { result.now ≡ outcomes_of self.now }
     {
-        self.outcomes.as_slice()
+        match &self.outcomes {
+            Outcomes::Nothing => &[],
+            Outcomes::One(outcome) => std::slice::from_ref(outcome),
+            Outcomes::Several(outcomes) => outcomes.as_slice(),
+        }
     }
 }
 
@@ -81,7 +96,7 @@ fn room(alloc: Global, size: usize) -> Result<Vec<Known>, AllocError>
                 table: 0,
                 variables: 0,
             },
-            outcomes: Vec::new(alloc),
+            outcomes: Outcomes::Nothing,
         })?;
     }
     Ok(known)
@@ -127,27 +142,30 @@ impl Memo {
         }
     }
 
-    /// Has room for as many as are kept, or half at least; where it gets more, all is forgotten.
+    /// Has two places at least for three states that are kept, and four at most but at first; where it gets more, all is
+    /// forgotten, and given up before.
     pub fn fit(&mut self, alloc: Global, states: usize) -> Result<(), AllocError>
         ensures { OnOk result ((k : KnownOf) → Contains self.new.known.items k
             → Contains self.old.known.items k ⊎ (k.spot.process ≡ 0)) }
     {
         let size = self.known.len();
-        if size >= states / 2 && size >= LEAST {
+        let third = states / 3;
+        if size >= third.saturating_mul(2) && size >= LEAST {
             return Ok(());
         }
-        self.known = room(alloc, LEAST.max(states))?;
+        self.known = Vec::new(alloc);
+        self.known = room(alloc, LEAST.max(third.saturating_mul(4)))?;
         Ok(())
     }
 }
 
 /// What is known of a process that can't move from its spot.
-pub(crate) fn resting(alloc: Global, spot: Spot) -> Known
+pub(crate) fn resting(spot: Spot) -> Known
     ensures same { result.spot ≡ spot }
     ensures none { outcomes_of result ≡ [] }
 {
     Known {
         spot,
-        outcomes: Vec::new(alloc),
+        outcomes: Outcomes::Nothing,
     }
 }

@@ -212,7 +212,7 @@ impl<'a> Kept<'a> {
         };
         let process = u64::from(spot.process);
         if !can_move(&small, checked, process) {
-            memo.keep(resting(alloc, spot));
+            memo.keep(resting(spot));
             return Ok(Some(false));
         }
         let Some(ends) = ends(alloc, checked, small, process)? else {
