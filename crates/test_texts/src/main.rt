@@ -2,7 +2,7 @@
 //! word says what is tested:
 //!
 //! ```text
-//! alike TEXT                compiled by `compile`, and by 1, 2, 3, 7 and 64 workers
+//! alike TEXT                compiled by `compile`, and by 1, 2, 3, 7 and 64 workers, for an image of either version
 //! meet TEXT                 compiled by three workers, ten times; the first piece of each waits for the other two
 //! alone TEXT                compiled by one worker through the same gate, where nobody else can come
 //! pieces COUNT NUMBER ..    empty pieces of these numbers are handed to a collector of so many
