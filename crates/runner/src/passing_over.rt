@@ -57,7 +57,7 @@ impl Waiting {
     {
         let mut at = from;
         while let Some(t) = machine.machine().next_able(at) {
-            if self.ready.contains(t) {
+            if self.shut == 0 || self.ready.contains(t) {
                 return Some(t);
             }
             let Some(next) = self.ready.next_from(t) else {
@@ -107,6 +107,8 @@ impl Waiting {
     }
 
     // Opens a bucket that is held no more.
+    #[cold]
+    #[inline(never)]
     fn check_bucket(&mut self, machine: &PieceMachine, bucket: u32)
         requires bucket { bucket < run_buckets }
         requires buckets { (parts machine.now).buckets ≡ run_buckets }
@@ -136,6 +138,8 @@ impl Waiting {
     }
 
     // Passes the threads over that want a bucket, where it's held.
+    #[cold]
+    #[inline(never)]
     fn shut_bucket(&mut self, machine: &PieceMachine, bucket: u32)
         requires bucket { bucket < run_buckets }
         requires buckets { (parts machine.now).buckets ≡ run_buckets }
@@ -145,9 +149,6 @@ impl Waiting {
         ensures wants { self.new.wants ≡ self.old.wants }
         ensures held { AllHeld (parts machine.now) self.new }
     {
-        if self.counts[bucket as usize] == 0 {
-            return;
-        }
         if machine.machine().holder(bucket).is_none() {
             return;
         }
@@ -168,7 +169,7 @@ impl Waiting {
         let Some(bucket) = took else {
             return;
         };
-        if bucket < BUCKETS {
+        if bucket < BUCKETS && self.counts[bucket as usize] != 0 {
             self.shut_bucket(machine, bucket);
         }
     }
@@ -181,9 +182,22 @@ impl Waiting {
         ensures wants { self.new.wants ≡ slice_set self.old.wants t None }
         ensures shut { self.new.shut ≡ self.old.shut }
     {
-        let Some(bucket) = self.wants[t as usize] else {
-            return;
-        };
+        if let Some(bucket) = self.wants[t as usize] {
+            self.leave_set(t, bucket);
+        }
+    }
+
+    // The same of a thread of which it is known that it wants this one.
+    #[cold]
+    #[inline(never)]
+    fn leave_set(&mut self, t: u32, bucket: u32)
+        requires thread { (0 < t) × (t ≤ most_threads) }
+        requires noted { slice_get self.old.wants t ≡ Some (Some bucket) }
+        requires sound { IsSound self.old }
+        ensures sound { IsSound self.new }
+        ensures wants { self.new.wants ≡ slice_set self.old.wants t None }
+        ensures shut { self.new.shut ≡ self.old.shut }
+    {
         let mut set = self.wanting[bucket as usize];
         set.put(t, false);
         self.wants[t as usize] = None;
@@ -212,6 +226,8 @@ impl Waiting {
     }
 
     // Notes which bucket thread `t` wants, where that is known.
+    #[cold]
+    #[inline(never)]
     fn note(&mut self, machine: &PieceMachine, t: u32, obstacle: Obstacle)
         requires thread { (0 < t) × (t ≤ most_threads) }
         requires buckets { (parts machine.now).buckets ≡ run_buckets }
