@@ -1,4 +1,5 @@
 pub mod Limits
+pub mod Accesses
 pub mod Threads
 pub mod Effects
 pub mod InstructionEffects

@@ -1,6 +1,7 @@
 //! The state of one thread of the machine, and its local steps.
 #![tactic(auto)]
 
+mod access;
 mod activation;
 mod answering;
 mod arithmetic;
@@ -13,6 +14,7 @@ mod request;
 mod stack;
 mod stepping;
 
+pub use access::{Access, AccessKind};
 pub use local::{Local, opening_local};
 pub use local_run::run_local;
 pub use request::{NextStep, Request};

@@ -1,19 +1,22 @@
 ghost use Rattle.std.specs.Prelude.{◌≡◌, ◌≢◌, ◌≤◌, ◌<◌, MatchBool, Some, None, is_some, length, reverse};
+ghost use Rattle.std.specs.Prelude.{IfSome, MatchOption};
 ghost use Rattle.words.specs.declared.outcome.Cause.TheVariants.{Faulted, Killed};
 ghost use Rattle.robustexit.specs.declared.phase.ExitPhase.TheVariants.{Ended};
+ghost use Rattle.locals.specs.Accesses.{accessing};
 ghost use Rattle.locals.specs.Limits.{most_operands};
 ghost use Rattle.locals.specs.Threads.{Dies, Exits, is_dying, opening_thread, place_in_code};
 ghost use Rattle.locals.specs.Looks.{look};
 ghost use Rattle.locals.specs.Steps.{local_after, local_step};
 ghost use Rattle.locals.specs.Requests.{next_step_of, after_answer, fork_child, CanBeAnswered};
 
+use crate::access::Access;
 use crate::activation::Activation;
 use crate::progress::Answered;
 use crate::request::{NextStep, Request};
 use isa::Image;
 use robustexit::{ExitPhase, phase_at};
 use std::marker::Model;
-use words::{Cause, Fault};
+use words::{Cause, Fault, Mem};
 
 /// What a thread does, or is about to do.
 #[derive(Drop)]
@@ -186,11 +189,27 @@ impl Local {
         }
     }
 
+    /// Makes the access to a word that is the next step of thread `t`, where one is and its address lies in the memory,
+    /// and goes on with its answer. Else nothing has changed.
+    pub fn access(&mut self, image: &Image, t: u32, words: &mut Mem) -> Option<Access>
+        ensures access { MatchOption result
+            ((accessing (look image.now t self.old) words.old ≡ None) × (self.new ≡ self.old) × (words.new ≡ words.old))
+            (λ told. accessing (look image.now t self.old) words.old
+            ≡ Some (record { told = told; words = words.new; thread = self.new })) }
+        ensures lives { IfSome result (λ told. self.new ≢ Exits Ended) }
+    {
+        match &mut self.stage {
+            Stage::Running(activation) => activation.access(image, t, words),
+            Stage::Dying(_) | Stage::Exiting(_) => None,
+        }
+    }
+
     /// Takes local steps of thread `t` in place until the next one isn't local or the budget is used. Answers how many.
     pub fn run(&mut self, image: &Image, t: u32, budget: u32) -> u32
         ensures reached { local_after image.now t result self.old ≡ Some self.new }
         ensures within { result ≤ budget }
         ensures whole { result < budget → local_step image.now t self.new ≡ None }
+        ensures lives { self.old ≢ Exits Ended → self.new ≢ Exits Ended }
     {
         match &mut self.stage {
             Stage::Running(activation) => {

@@ -24,3 +24,4 @@ pub mod CallPieces
 pub mod Orders
 pub mod Bits
 pub mod Ables
+pub mod Accessing

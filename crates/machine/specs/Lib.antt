@@ -14,3 +14,4 @@ pub mod Views
 pub mod ConcretePieces
 pub mod Determined
 pub mod LocalRuns
+pub mod Accessing

@@ -1,13 +1,30 @@
 //! The accesses of threads to the words.
 ghost use Rattle.std.specs.Prelude.{◌≡◌, ◌≤◌, ◌<◌, ℕ, length, IfErr, OnOk, OnErr};
 ghost use Rattle.locals.specs.Looks.{AskLoad, AskStore, AskSwap, AskCompareSwap, AskOr, AskAdd};
+ghost use Rattle.machine.specs.Accessing.{access_name};
 ghost use Rattle.machine.specs.ConcreteServing.{serve};
 ghost use Rattle.machine.specs.RequestMeanings.{with_common};
 ghost use Rattle.machine.specs.Views.{common};
 
 use crate::common::Common;
 use crate::event::{Event, EventName, StepFault};
+use locals::AccessKind;
 use words::{Addr, Mem};
+
+/// How an access is told that a thread makes in its place.
+#[inline(always)]
+pub fn access_name(kind: AccessKind) -> EventName
+    ensures { result ≡ access_name kind }
+{
+    match kind {
+        AccessKind::Load => EventName::Load,
+        AccessKind::Store => EventName::Store,
+        AccessKind::Swap => EventName::Swap,
+        AccessKind::CompareSwap => EventName::CompareSwap,
+        AccessKind::FetchOr => EventName::FetchOr,
+        AccessKind::FetchAdd => EventName::FetchAdd,
+    }
+}
 
 /// A step may not be where its address lies outside the memory.
 pub fn check_address(words: &Mem, a: Addr) -> Result<(), StepFault>

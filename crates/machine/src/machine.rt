@@ -18,6 +18,7 @@ ghost use Rattle.machine.specs.States.{thread_of, state_of, opening_concrete};
 ghost use Rattle.machine.specs.Runs.{has_ended};
 ghost use Rattle.machine.specs.ConcreteSteps.{step_of, can_move, fault_at};
 ghost use Rattle.machine.specs.ConcreteOutside.{kill_of, stray_of};
+ghost use Rattle.machine.specs.Accessing.{HasNoAccess, MakesAccess};
 ghost use Rattle.machine.specs.LocalRuns.{RunsOn};
 ghost use Rattle.machine.specs.ThreadSets.{IsLeastFrom};
 ghost use Rattle.machine.specs.Views.{concrete, AllEnded, IsQuiet, variable_address, address_of, printed_by};
@@ -29,6 +30,7 @@ use crate::common::Common;
 use crate::event::{Event, EventName, StepFault};
 use crate::parts::{opening_threads, step_parts, variable};
 use crate::thread_bits::ThreadBits;
+use crate::thread_step::take_access;
 use futexcalls::{FutexCall, FutexPhase};
 use isa::Image;
 use locals::{Local, NextStep};
@@ -270,11 +272,22 @@ impl Machine {
     /// Answers how many.
     pub fn run_local(&mut self, t: u32, budget: u32) -> u32
         requires { can_move (concrete self.old) t ≡ true }
-        ensures { RunsOn self.old t budget result self.new }
+        ensures runs { RunsOn self.old t budget result self.new }
+        ensures moves { can_move (concrete self.new) t ≡ true }
     {
-        let count = self.threads[t as usize - 1].run(&self.image, t, budget);
-        self.able.refresh(&self.common, &self.threads, t);
-        count
+        self.threads[t as usize - 1].run(&self.image, t, budget)
+    }
+
+    /// Makes the access to a word that is the next step of thread `t`, which can move, where one is and the word lies in
+    /// the memory, and says whether it did. Else nothing has changed. It is the thread's `step`, which asks for nothing and
+    /// is told no answer.
+    pub fn access(&mut self, t: u32, event: &mut Event) -> bool
+        requires { can_move (concrete self.old) t ≡ true }
+        ensures { MatchBool result (MakesAccess self.old t event.new self.new)
+            ((self.new ≡ self.old) × HasNoAccess self.old t) }
+    {
+        let local = &mut self.threads[t as usize - 1];
+        take_access(&self.image, &mut self.common, t, local, event)
     }
 
     /// One step of thread `t`, local or shared. A printed number lowers the room by one.

@@ -1,13 +1,17 @@
-ghost use Rattle.std.specs.Prelude.{◌≡◌, ◌≤◌, ◌<◌, ℕ, None, Ok, Err, IfOk, IfErr, OnOk, OnErr, IsSome, length};
+ghost use Rattle.std.specs.Prelude.{true, false, ◌≢◌, ◌≡◌, ◌≤◌, ◌<◌, ℕ, None, Ok, Err, IfOk, IfErr, OnOk, OnErr, IsSome, length};
 ghost use Rattle.buckets.specs.Sleepers.{place_of, thread_count};
+ghost use Rattle.robustexit.specs.declared.phase.ExitPhase.TheVariants.{Ended};
 ghost use Rattle.locals.specs.Looks.{look};
 ghost use Rattle.locals.specs.Requests.{next_step_of};
 ghost use Rattle.locals.specs.declared.request.NextStep.TheVariants as next;
+ghost use Rattle.locals.specs.Threads.{Exits};
+ghost use Rattle.machine.specs.Accessing.{AccessedSo};
 ghost use Rattle.machine.specs.ConcreteSteps.{thread_step};
 ghost use Rattle.machine.specs.RequestMeanings.{AsksFork};
 ghost use Rattle.machine.specs.States.{Common as CommonOf};
 ghost use Rattle.machine.specs.Views.{common};
 
+use crate::accesses::access_name;
 use crate::common::Common;
 use crate::event::{Event, EventName, StepFault};
 use isa::Image;
@@ -42,6 +46,28 @@ pub fn take_exit(
 {
     let next = shared.leave(t, phase, event);
     local.enter_phase(next);
+}
+
+/// An access of thread `t` to a word, which it makes in its place, if that is its next step and the word lies in the
+/// memory. Says whether it was made; else nothing has changed.
+#[inline(always)]
+pub fn take_access(
+    image: &Image,
+    shared: &mut Common,
+    t: u32,
+    local: &mut Local,
+    event: &mut Event,
+) -> bool
+    ensures access { AccessedSo result (look image.now t local.old) shared.old shared.new local.new event.new }
+    ensures none { result ≡ false → (local.new ≡ local.old) × (shared.new ≡ shared.old) }
+    ensures lives { result ≡ true → local.new ≢ Exits Ended }
+{
+    let Common { words, .. } = shared;
+    let Some(access) = local.access(image, t, words) else {
+        return false;
+    };
+    event.put(access_name(access.kind), access.value);
+    true
 }
 
 /// A request of thread `t`, which is awake.

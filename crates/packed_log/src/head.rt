@@ -37,6 +37,7 @@ pub fn has_head(thread: u32, local: u32) -> bool
 }
 
 /// The head of the entry of a thread, its local steps, which have room in one, and its shared step, if it has one.
+#[inline(always)]
 pub fn head_of(thread: u32, local: u32, event: Option<&Event>) -> u64
     requires { HasHead thread local }
     ensures { IsHeadOf (record { thread = thread; local = local; event = option_copied event.entry }) (widened result) }
@@ -78,6 +79,7 @@ pub fn widen(head: u64) -> WideHead
 }
 
 // The form of a set. What it holds is looked at, so that callers learn what its type says of it.
+#[inline(always)]
 fn form_of(set: &ThreadSet) -> u64
     ensures form { result ≡ form_in set.now }
     ensures whole { IsWhole set.now }

@@ -99,6 +99,7 @@ impl PackedLog {
     }
 
     /// Makes room for one entry more at least.
+    #[inline(always)]
     pub fn make_room(&mut self) -> Result<(), AllocError>
         ensures room { OnOk result (1 ≤ self.new.room) }
         ensures few { OnOk result (length self.new.items < 2 ^ 64) }
@@ -111,6 +112,7 @@ impl PackedLog {
 
     /// Puts the entry of a thread, its local steps and its shared step, if it has one, for which there is room, at the end.
     /// The event isn't copied.
+    #[inline(always)]
     pub fn push_parts(&mut self, thread: u32, local: u32, event: Option<&Event>)
         requires { 1 ≤ self.old.room }
         ensures entries { self.new.items
@@ -200,6 +202,7 @@ fn last_head(heads: &[u64], wide: &[WideHead]) -> Option<WideHead>
 }
 
 // Puts the words of the sets of a step, if there is one, at the end.
+#[inline(always)]
 fn push_sets(sets: &mut Vec<u64>, event: Option<&Event>)
     requires { vec_len sets.old + 32 ≤ vec_capacity sets.old }
     ensures items { sets.new.items ≡ sets.old.items ++ sets_of (option_copied event.entry) }
@@ -212,6 +215,7 @@ fn push_sets(sets: &mut Vec<u64>, event: Option<&Event>)
 }
 
 // Puts the words of a set at the end, where it isn't empty.
+#[inline(always)]
 fn push_set(sets: &mut Vec<u64>, set: &ThreadSet)
     requires { vec_len sets.old + 16 ≤ vec_capacity sets.old }
     ensures items { sets.new.items ≡ sets.old.items ++ kept set.now }
@@ -225,6 +229,8 @@ fn push_set(sets: &mut Vec<u64>, set: &ThreadSet)
 }
 
 // Puts the words of a set of several threads at the end.
+#[cold]
+#[inline(never)]
 fn push_words(sets: &mut Vec<u64>, words: &[u64; 16])
     requires { vec_len sets.old + 16 ≤ vec_capacity sets.old }
     ensures items { sets.new.items ≡ sets.old.items ++ words.now }

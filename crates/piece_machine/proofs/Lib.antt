@@ -15,3 +15,4 @@ pub mod Locally
 pub mod Fronts
 pub mod Committed
 pub mod Counts
+pub mod Accessed

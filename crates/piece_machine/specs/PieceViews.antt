@@ -1,5 +1,5 @@
 -- A machine whose threads take futex calls in pieces, as contracts see it, and its steps.
-use Rattle.std.specs.Prelude.{ℕ, ◌≡◌, ◌<◌, ◌==◌, Bool, List, [], ◌∷◌, Option, Some, None, false, length, slice_index_or}
+use Rattle.std.specs.Prelude.{ℕ, ◌≡◌, ◌<◌, ◌==◌, Bool, List, [], ◌∷◌, Option, Some, None, false, is_some, length, slice_index_or}
 use Rattle.std.specs.List.{sum_by}
 use Rattle.words.specs.Limits.{most_threads}
 use Rattle.buckets.specs.Sleepers.{bucket_count, holder_of}
@@ -11,7 +11,7 @@ use Rattle.futexcalls.specs.declared.pieces.FutexPhase.TheVariants.{First, Secon
 use Rattle.futexcalls.specs.Pieces.{takes_at, LiesIn}
 use Rattle.locals.specs.Threads.{Thread}
 use Rattle.locals.specs.Looks.{look}
-use Rattle.locals.specs.Steps.{local_after}
+use Rattle.locals.specs.Steps.{local_step, local_after}
 use Rattle.machine.specs.States.{thread_of}
 use Rattle.machine.specs.Views.{View, concrete, IsWellFormed}
 use Rattle.machine.specs.ConcretePieces.{pieces_of}
@@ -122,6 +122,10 @@ pub record IsBlocked (p : Program) (s : PieceState) (t : ℕ) : Type 0 where
   pub thread : Thread
   pub stands : s.base.thread t ≡ Some thread
   pub blocks : BlocksAt s t (look p t thread)
+
+-- the next step of thread t is none of its own alone
+abbrev pub HasNoLocal : View → ℕ → Type 0
+HasNoLocal v t = (x : Thread) → thread_of (concrete v) t ≡ Some x → is_some (local_step v.program t x) ≡ false
 
 -- why the next piece of a call of thread t is refused, if it is: a held bucket is in its way, or one of its words lies
 -- outside the memory

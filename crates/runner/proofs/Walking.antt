@@ -148,6 +148,19 @@ walked_on old mid t n moves r phases = record {
   there = led_to old mid t r.here r.after phases;
 }
 
+-- and a try of an access changed nothing
+abbrev pub walked_still : (old mid new : MachineView) (t n : ℕ) → can_move (concrete old.view) t ≡ true
+    → RunsOn old.view t 256 n mid.view → mid.phases ≡ old.phases → new ≡ mid
+    → Walked old.view.program (parts old) t n (parts new)
+walked_still old mid new t n moves r phases same = record {
+  origin = r.origin;
+  here = r.here;
+  stands = r.stands;
+  moves = moves;
+  turns = record { goes = r.goes; turn = r.within; whole = r.whole };
+  there = ap (λ (m : MachineView). parts m) same ∙ led_to old mid t r.here r.after phases;
+}
+
 -- where the step that it stands before waits for a bucket, it was held up
 pub walk_waits : (p : Program) (k mid : PieceConcrete) (t n : ℕ) (w : Walked p k t n mid)
     → entry_end p k t w.here ≡ Err CannotMove → IsHeldUp p k t

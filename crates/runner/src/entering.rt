@@ -101,6 +101,7 @@ pub fn event_if(shared: bool, event: &Event) -> Option<&Event>
 }
 
 /// Makes room for one more entry, and for the number that it may print.
+#[inline(always)]
 pub fn make_room(machine: &mut PieceMachine, log: &mut PackedLog) -> Result<(), AllocError>
     ensures room { OnOk result ((1 ≤ machine.new.view.room) × (1 ≤ log.new.room)) }
     ensures few { OnOk result (length log.old.items < 2 ^ 64) }

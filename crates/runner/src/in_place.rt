@@ -41,6 +41,7 @@ pub struct Taken {
 }
 
 /// The bucket that an entry took which was made in its place, if it took one.
+#[inline(always)]
 pub fn bucket_taken(taken: Taken, event: &Event) -> Option<u32>
     ensures { IfSome result (λ bucket. bucket ≡ event.now.value) }
 {
@@ -53,6 +54,7 @@ pub fn bucket_taken(taken: Taken, event: &Event) -> Option<u32>
 
 /// Puts the entry of thread `t` that was made in its place at the end of a log that has room for it, with the event of its
 /// shared step, if it has one.
+#[inline(always)]
 pub fn push_taken(log: &mut PackedLog, t: u32, taken: Taken, event: &Event)
     requires { 1 ≤ log.old.room }
     ensures { log.new.items ≡ log.old.items ++ taken_entry t taken event.now ∷ [] }
@@ -61,8 +63,10 @@ pub fn push_taken(log: &mut PackedLog, t: u32, taken: Taken, event: &Event)
 }
 
 /// Takes the next entry of thread `t` in its place: its local steps until another step comes or its turn is over, and
-/// then the shared step that it stands before, if any, whose event is put in its place. No held bucket is in its way.
+/// then the shared step that it stands before, if any, whose event is put in its place. No held bucket is in its way. An
+/// access to a word, as most are, is made at once: nothing is asked for and answered.
 /// Where that step may not be, the entry has the local steps alone.
+#[inline(always)]
 pub fn take_entry(
     machine: &mut PieceMachine,
     t: u32,
@@ -81,6 +85,15 @@ pub fn take_entry(
     ensures program { machine.new.view.program ≡ machine.old.view.program }
 {
     let local = machine.run_local(t, MOST_LOCAL_STEPS);
+    if machine.access(t, event) {
+        return (
+            Taken {
+                local,
+                shared: true,
+            },
+            Ok(()),
+        );
+    }
     let next = machine.machine().next_step(t);
     end_entry(machine, t, local, &next, event)
 }
@@ -114,6 +127,42 @@ pub fn take_if_free(
     if machine.holds_none() {
         return Ok(take_entry(machine, t, event));
     }
+    // No held bucket is in the way of an access to a word.
+    if machine.access(t, event) {
+        let taken = Taken {
+            local: 0,
+            shared: true,
+        };
+        return Ok((taken, Ok(())));
+    }
+    take_ahead(machine, image, t, ahead, event)
+}
+
+// The same of a thread that takes its local steps ahead of the machine first, where it takes any.
+fn take_ahead(
+    machine: &mut PieceMachine,
+    image: &Image,
+    t: u32,
+    ahead: &mut Local,
+    event: &mut Event,
+) -> Result<(Taken, Result<(), RunFault>), Obstacle>
+    requires image { image.now ≡ machine.old.view.program }
+    requires thread { can_move (concrete machine.old.view) t ≡ true }
+    requires fit { IsFit machine.old.view.program (parts machine.old) }
+    requires room { 1 ≤ machine.old.view.room }
+    ensures enters { IfOk result (λ taken. EntersOwn machine.old.view.program (parts machine.old)
+        (taken_entry t taken.0 event.new) (parts machine.new)) }
+    ensures turn { IfOk result (λ taken. taken.0.local ≤ most_local_steps) }
+    ensures goes { IfOk result (λ taken. OnOk taken.1
+        (1 ≤ taken.0.local + event_cost (event_if taken.0.shared event.new))) }
+    ensures breaks { IfOk result (λ taken. IfErr taken.1
+        (λ fault. (fault ≡ RunFault.Broken)
+        × BreaksAfter machine.old.view.program (parts machine.old) t taken.0.local)) }
+    ensures held { OnErr result ((parts machine.new ≡ parts machine.old)
+        × IsHeldUp machine.old.view.program (parts machine.old) t) }
+    ensures wants { IfErr result (λ obstacle. WantsIf machine.old.view.program (parts machine.old) t obstacle) }
+    ensures program { machine.new.view.program ≡ machine.old.view.program }
+{
     let (local, next) = look_ahead(machine.machine(), image, t, ahead);
     if waits_for_bucket(machine, t, next) {
         return Err(obstacle_of(machine, t, next));

@@ -101,7 +101,8 @@ fn run_round<J: RunName, G: Gate>(
     Ok(made)
 }
 
-// Makes the next entry of thread `t`, as `make_entry` does, and keeps who waits for which bucket.
+// Makes the next entry of thread `t`, which can move, and keeps who waits for which bucket.
+#[inline(always)]
 fn take_turn<J: RunName, G: Gate>(
     shared: &mut Shared<J>,
     refused: &mut [bool],
@@ -115,6 +116,7 @@ fn take_turn<J: RunName, G: Gate>(
     requires image { image.now ≡ J.program }
     requires room { length refused.old ≡ suc most_threads }
     requires thread { (0 < t) × (t ≤ most_threads) }
+    requires moves { can_move (log_state shared.old).concrete.concrete t ≡ true }
     requires kept { IsFit J.program (log_state shared.old).concrete }
     requires past { AllPast J.program J.limit (log_state shared.old) refused.old }
     requires waits { AllWait J.program (log_state shared.old).concrete waiting.old }
@@ -157,11 +159,15 @@ pub(crate) fn make_entry<J: RunName, G: Gate>(
         → IsStopped J.program J.limit shared.new.log (log_state shared.new).concrete t)) }
     ensures err { IfErr result (λ fault. CanFail J.program J.outside J.limit fault) }
 {
+    if !shared.machine().can_move(t) {
+        return Ok(false);
+    }
     let attempt = attempt_entry(shared, refused, image, share, gate, t, piece)?;
     Ok(attempt.is_made())
 }
 
-// The same, and what came of it.
+// The same of a thread that can move, and what came of it.
+#[inline(always)]
 fn attempt_entry<J: RunName, G: Gate>(
     shared: &mut Shared<J>,
     refused: &mut [bool],
@@ -174,6 +180,7 @@ fn attempt_entry<J: RunName, G: Gate>(
     requires image { image.now ≡ J.program }
     requires room { length refused.old ≡ suc most_threads }
     requires thread { (0 < t) × (t ≤ most_threads) }
+    requires moves { can_move (log_state shared.old).concrete.concrete t ≡ true }
     requires kept { IsFit J.program (log_state shared.old).concrete }
     requires past { AllPast J.program J.limit (log_state shared.old) refused.old }
     ensures past { OnOk result (AllPast J.program J.limit (log_state shared.new) refused.new) }
@@ -189,14 +196,13 @@ fn attempt_entry<J: RunName, G: Gate>(
     if !shared.has_room() {
         return try_entry(shared, refused, image, share, gate, t, piece);
     }
-    if !shared.machine().can_move(t) {
-        return Ok(Attempt::Refused);
-    }
     gate.pass(t);
     shared.try_on(image, t, share)
 }
 
 // The same near the limit: the thread goes on away from the machine, in this piece, since its entry may be refused.
+#[cold]
+#[inline(never)]
 fn try_entry<J: RunName, G: Gate>(
     shared: &mut Shared<J>,
     refused: &mut [bool],

@@ -475,6 +475,7 @@ impl<J: RunName> Shared<J> {
 
     /// The same of a thread that may be held up, and what came of it: a thread that is held up makes no entry, and then
     /// nothing has changed.
+    #[inline(always)]
     pub(crate) fn try_on(
         &mut self,
         image: &Image,

@@ -1,14 +1,19 @@
--- Where no thread is within a call it goes on in its place, and else ahead of the machine first.
-use Rattle.std.proofs.Common.{◌∙◌, ap, arith, refl, subst, sym}
-use Rattle.isa.specs.Programs.{Program}
-use Rattle.piece_machine.specs.PieceViews.{parts}
-use Rattle.runner.specs.Entries.{BreaksAfter, entry_end, taken_entry}
+-- Where no thread is within a call it goes on in its place; no held bucket is in the way of an access; and else it goes on
+-- ahead of the machine first.
+use Rattle.std.proofs.Common.{◌≡◌, ◌≤◌, ◌∙◌, true, ap, refl, subst, sym}
+use Rattle.std.specs.Prelude.{IfErr, IfOk, OnErr}
+use Rattle.machine.specs.ConcreteSteps.{can_move}
+use Rattle.machine.specs.Views.{concrete}
+use Rattle.piece_machine.specs.PieceDetermined.{IsFit}
+use Rattle.piece_machine.specs.PieceViews.{PieceView as MachineView, parts}
+use Rattle.runner.specs.declared.fault.RunFault.TheVariants.{Broken}
+use Rattle.runner.specs.Attempts.{WantsIf}
+use Rattle.runner.specs.Entries.{BreaksAfter, taken_entry}
 use Rattle.runner.specs.Logs.{EntersOwn}
-use Rattle.runner.proofs.Noting.{wants_if}
+use Rattle.runner.specs.Reports.{IsHeldUp}
+use Rattle.runner.proofs.Handing.{up}
 use Rattle.runner.proofs.Waiting.{none_free}
-use Rattle.runner.proofs.Walking.{free_ahead, goes_ahead, goes_there, held_ahead, if_err, looked, next_there, walked_after}
-use Rattle.runner.proofs.Walking.{walked_as, walked_awake, walked_made}
-use Rattle.runner.proofs.Wanting.{wants_so}
+use Rattle.runner.proofs.Walking.{step_enters, walked_none}
 use Rattle.runner.proofs.in_place.take_if_free.Goals as goal
 
 pub take_entry-requires-clause-free : goal.take_entry-requires-clause-free
@@ -17,133 +22,55 @@ take_entry-requires-clause-free c =
     none_free m.view.program m.view.program (parts m) c.args.t refl c.requires.fit
     (c.holds_none.ensures c.if-holds_none.true)
 
-pub catch_up-requires-clause-goes : goal.catch_up-requires-clause-goes
-catch_up-requires-clause-goes c =
+pub returns-then-access-clause-enters : goal.returns-then-access-clause-enters
+returns-then-access-clause-enters c =
     let m = c.args.machine.now in
-    let s = c.look_ahead-local in
-    let n = s.result.0 in
-    let l = looked m.view c.machine.result.now c.args.t n s.result.1 s.new.ahead c.machine.ensures.shows c.requires.thread
-    s.ensures in
-    goes_there m.view c.args.t n s.result.1 s.new.ahead l
+    let u = up (parts m).concrete c.args.t c.requires.thread in
+    let made = c.if-access.ensures.made in
+    let shared = made.1 u.thread u.stands in
+    step_enters m.view.program (parts m) (parts m) (parts c.access.new.self) c.args.t 0 c.access.new.event
+    (walked_none m.view.program (parts m) c.args.t u.thread u.stands c.requires.thread shared) shared made.0
 
-pub end_entry-requires-clause-thread : goal.end_entry-requires-clause-thread
-end_entry-requires-clause-thread c =
-    let m = c.args.machine.now in
-    let s = c.look_ahead-local in
-    let n = s.result.0 in
-    let l = looked m.view c.machine.result.now c.args.t n s.result.1 s.new.ahead c.machine.ensures.shows c.requires.thread
-    s.ensures in
-    let new = c.catch_up.new.machine in
-    let w = walked_after m new c.args.t n s.result.1 s.new.ahead c.requires.thread l c.catch_up.ensures.some
-    c.catch_up.ensures.none in
-    walked_made m.view.program (parts m) (parts new) c.args.t n w
+-- a try of an access that isn't one changed nothing
+pub take_ahead-requires-clause-image : goal.take_ahead-requires-clause-image
+take_ahead-requires-clause-image c =
+    c.requires.image ∙ sym (ap (λ (m : MachineView). m.view.program) c.if-access.ensures.made.0)
 
-pub end_entry-requires-clause-awake : goal.end_entry-requires-clause-awake
-end_entry-requires-clause-awake c =
-    let m = c.args.machine.now in
-    let s = c.look_ahead-local in
-    let n = s.result.0 in
-    let l = looked m.view c.machine.result.now c.args.t n s.result.1 s.new.ahead c.machine.ensures.shows c.requires.thread
-    s.ensures in
-    let new = c.catch_up.new.machine in
-    let w = walked_after m new c.args.t n s.result.1 s.new.ahead c.requires.thread l c.catch_up.ensures.some
-    c.catch_up.ensures.none in
-    walked_awake m.view.program (parts m) (parts new) c.args.t n w
+pub take_ahead-requires-clause-thread : goal.take_ahead-requires-clause-thread
+take_ahead-requires-clause-thread c =
+    subst (λ (m : MachineView). can_move (concrete m.view) c.args.t ≡ true) (sym c.if-access.ensures.made.0)
+    c.requires.thread
 
-pub end_entry-requires-clause-next : goal.end_entry-requires-clause-next
-end_entry-requires-clause-next c =
-    let m = c.args.machine.now in
-    let s = c.look_ahead-local in
-    let n = s.result.0 in
-    let l = looked m.view c.machine.result.now c.args.t n s.result.1 s.new.ahead c.machine.ensures.shows c.requires.thread
-    s.ensures in
-    let new = c.catch_up.new.machine in
-    let w = walked_after m new c.args.t n s.result.1 s.new.ahead c.requires.thread l c.catch_up.ensures.some
-    c.catch_up.ensures.none in
-    λ x at. next_there m.view.program new.view.program (parts m) (parts new) c.args.t n x s.result.1
-    c.catch_up.ensures.program w l.looks.next_is at
+pub take_ahead-requires-clause-fit : goal.take_ahead-requires-clause-fit
+take_ahead-requires-clause-fit c =
+    subst (λ (m : MachineView). IsFit m.view.program (parts m)) (sym c.if-access.ensures.made.0) c.requires.fit
 
-pub returns-then-waits_for_bucket-clause-held : goal.returns-then-waits_for_bucket-clause-held
-returns-then-waits_for_bucket-clause-held c =
-    let m = c.args.machine.now in
-    let s = c.look_ahead-local in
-    let n = s.result.0 in
-    let l = looked m.view c.machine.result.now c.args.t n s.result.1 s.new.ahead c.machine.ensures.shows c.requires.thread
-    s.ensures in (
-      refl,
-      held_ahead m.view.program (parts m) c.args.t n l.origin s.new.ahead s.result.1 l.stands c.requires.thread l.looks
-          (c.if-waits_for_bucket.ensures l.looks.here (goes_ahead m.view c.args.t n s.result.1 s.new.ahead l)
-          l.looks.next_is),
-    )
-
-pub returns-then-waits_for_bucket-clause-wants : goal.returns-then-waits_for_bucket-clause-wants
-returns-then-waits_for_bucket-clause-wants c =
-    let m = c.args.machine.now in
-    let s = c.look_ahead-local in
-    let n = s.result.0 in
-    let l = looked m.view c.machine.result.now c.args.t n s.result.1 s.new.ahead c.machine.ensures.shows c.requires.thread
-    s.ensures in
-    let goes = goes_ahead m.view c.args.t n s.result.1 s.new.ahead l in
-    wants_if m.view.program (parts m) c.args.t c.obstacle_of.result
-    (λ bucket is. wants_so m.view.program (parts m) c.args.t bucket n l.origin s.new.ahead s.result.1 l.stands
-    c.requires.thread l.looks (c.if-waits_for_bucket.ensures l.looks.here goes l.looks.next_is)
-    (c.obstacle_of.ensures bucket l.looks.here is goes l.looks.next_is))
+pub take_ahead-requires-clause-room : goal.take_ahead-requires-clause-room
+take_ahead-requires-clause-room c =
+    subst (λ (m : MachineView). 1 ≤ m.view.room) (sym c.if-access.ensures.made.0) c.requires.room
 
 pub returns-clause-enters : goal.returns-clause-enters
 returns-clause-enters c =
-    let m = c.args.machine.now in
-    let s = c.look_ahead-local in
-    let n = s.result.0 in
-    let l = looked m.view c.machine.result.now c.args.t n s.result.1 s.new.ahead c.machine.ensures.shows c.requires.thread
-    s.ensures in
-    let new = c.catch_up.new.machine in
-    let w = walked_after m new c.args.t n s.result.1 s.new.ahead c.requires.thread l c.catch_up.ensures.some
-    c.catch_up.ensures.none in
-    subst (λ (q : Program). EntersOwn q (parts m) (taken_entry c.args.t c.end_entry.result.0 c.end_entry.new.event)
-    (parts c.end_entry.new.machine))
-    c.catch_up.ensures.program
-    (c.end_entry.ensures.enters (parts m)
-    (walked_as m.view.program new.view.program (parts m) (parts new) c.args.t n c.catch_up.ensures.program w))
-
-pub returns-clause-goes : goal.returns-clause-goes
-returns-clause-goes c =
-    let m = c.args.machine.now in
-    let s = c.look_ahead-local in
-    let n = s.result.0 in
-    let l = looked m.view c.machine.result.now c.args.t n s.result.1 s.new.ahead c.machine.ensures.shows c.requires.thread
-    s.ensures in
-    let new = c.catch_up.new.machine in
-    let w = walked_after m new c.args.t n s.result.1 s.new.ahead c.requires.thread l c.catch_up.ensures.some
-    c.catch_up.ensures.none in
-    c.end_entry.ensures.goes (parts m)
-    (walked_as m.view.program new.view.program (parts m) (parts new) c.args.t n c.catch_up.ensures.program w)
+    subst (λ (m : MachineView). IfOk c.take_ahead.result (λ taken. EntersOwn m.view.program (parts m)
+    (taken_entry c.args.t taken.0 c.take_ahead.new.event) (parts c.take_ahead.new.machine))) c.if-access.ensures.made.0
+    c.take_ahead.ensures.enters
 
 pub returns-clause-breaks : goal.returns-clause-breaks
 returns-clause-breaks c =
-    let m = c.args.machine.now in
-    let s = c.look_ahead-local in
-    let n = s.result.0 in
-    let l = looked m.view c.machine.result.now c.args.t n s.result.1 s.new.ahead c.machine.ensures.shows c.requires.thread
-    s.ensures in
-    let new = c.catch_up.new.machine in
-    let w = walked_after m new c.args.t n s.result.1 s.new.ahead c.requires.thread l c.catch_up.ensures.some
-    c.catch_up.ensures.none in
-    let same = c.catch_up.ensures.program in
-    let w' = walked_as m.view.program new.view.program (parts m) (parts new) c.args.t n same w in
-    let free = c.if-waits_for_bucket.ensures l.looks.here (goes_ahead m.view c.args.t n s.result.1 s.new.ahead l)
-    l.looks.next_is in
-    if_err _ _ c.end_entry.result.1
-    (λ fault h.
-    let b = h (parts m) w' (λ waits. free_ahead m.view.program (parts m) c.args.t l.looks.here free
-    (ap (λ (q : Program). entry_end q (parts m) c.args.t l.looks.here) (sym same) ∙ waits)) in
-    (b.0, subst (λ (q : Program). BreaksAfter q (parts m) c.args.t c.end_entry.result.0.local) same b.1))
-    c.end_entry.ensures.breaks
+    subst (λ (m : MachineView). IfOk c.take_ahead.result (λ taken. IfErr taken.1 (λ fault. (fault ≡ Broken)
+    × BreaksAfter m.view.program (parts m) c.args.t taken.0.local))) c.if-access.ensures.made.0
+    c.take_ahead.ensures.breaks
 
-pub returns-clause-turn : goal.returns-clause-turn
-returns-clause-turn c =
-    let m = c.args.machine.now in
-    let s = c.look_ahead-local in
-    let n = s.result.0 in
-    let l = looked m.view c.machine.result.now c.args.t n s.result.1 s.new.ahead c.machine.ensures.shows c.requires.thread
-    s.ensures in
-    omega (arith, c.end_entry.ensures.count, l.looks.turns.turn)
+pub returns-clause-held : goal.returns-clause-held
+returns-clause-held c =
+    subst (λ (m : MachineView). OnErr c.take_ahead.result ((parts c.take_ahead.new.machine ≡ parts m)
+    × IsHeldUp m.view.program (parts m) c.args.t)) c.if-access.ensures.made.0 c.take_ahead.ensures.held
+
+pub returns-clause-wants : goal.returns-clause-wants
+returns-clause-wants c =
+    subst (λ (m : MachineView). IfErr c.take_ahead.result (λ obstacle. WantsIf m.view.program (parts m) c.args.t obstacle))
+    c.if-access.ensures.made.0 c.take_ahead.ensures.wants
+
+pub returns-clause-program : goal.returns-clause-program
+returns-clause-program c =
+    c.take_ahead.ensures.program ∙ ap (λ (m : MachineView). m.view.program) c.if-access.ensures.made.0

@@ -1,0 +1,67 @@
+-- What the thread did is done on the machine; what always holds is kept, and the bits are right.
+use Rattle.std.proofs.Common.{◌≡◌, ◌≢◌, ◌-◌, length, slice_set, Bool, true, false, Some, List, ap, sym, ◌∙◌, refl, subst}
+use Rattle.std.specs.Prelude.{MatchBool}
+use Rattle.robustexit.specs.declared.phase.ExitPhase.TheVariants.{Ended}
+use Rattle.isa.specs.Programs.{Program}
+use Rattle.locals.specs.Threads.{Thread, Exits}
+use Rattle.locals.specs.Looks.{look}
+use Rattle.machine.specs.declared.event.Event.{Event}
+use Rattle.machine.specs.Accessing.{AccessedSo, HasNoAccess, MakesAccess}
+use Rattle.machine.specs.States.{ConcreteState, thread_of}
+use Rattle.machine.specs.ConcreteSteps.{can_move}
+use Rattle.machine.specs.Views.{CommonView, View, IsWellFormed, ShowsAble, concrete, parts_of}
+use Rattle.machine.proofs.Ables.{mover_made}
+use Rattle.machine.proofs.Accessing.{access_keeps, access_returns}
+use Rattle.machine.proofs.Whole.{stands_at}
+use Rattle.machine.proofs.machine.Machine.access.Goals as goal
+
+pub invariant_of-self : goal.invariant_of-self
+invariant_of-self c =
+    let k : ConcreteState = parts_of c.self.inside.common c.self.inside.threads.items in
+    let moves : can_move k c.args.t ≡ true =
+    ap (λ (q : View). can_move (concrete q) c.args.t) c.self.view_is ∙ c.requires in
+    let made = mover_made c.self.inside.image k c.args.t c.self.invariant.0 moves in
+    let x = c.index_mut-local.result.now in
+    let stands : thread_of k c.args.t ≡ Some x =
+    stands_at k.threads c.args.t x x made.0 made.1 c.index_mut-local.ensures.value in
+    let r = access_keeps c.self.inside.image c.self.inside.common c.take_access.new.shared k.threads c.args.t x
+    c.take_access.new.local c.take_access.new.event c.take_access.result c.self.inside.able.words made.0 stands moves
+    c.self.invariant.0 c.self.invariant.2 c.take_access.ensures.access c.take_access.ensures.none
+    c.take_access.ensures.lives in
+    (r.0, c.self.invariant.1, r.1)
+
+pub returns : goal.returns
+returns c =
+    let v : View = record {
+      program = c.self.inside.image;
+      words = c.self.inside.common.words;
+      sleepers = c.self.inside.common.sleepers;
+      threads = c.self.inside.threads.items;
+      output = c.self.inside.common.output;
+      room = c.self.inside.common.capacity - length c.self.inside.common.output;
+    } in
+    let moves : can_move (concrete v) c.args.t ≡ true =
+    ap (λ (q : View). can_move (concrete q) c.args.t) c.self.view_is ∙ c.requires in
+    let made = mover_made v.program (concrete v) c.args.t c.self.invariant.0 moves in
+    let x = c.index_mut-local.result.now in
+    let stands : thread_of (concrete v) c.args.t ≡ Some x =
+    stands_at v.threads c.args.t x x made.0 made.1 c.index_mut-local.ensures.value in
+    let after = c.take_access.new.shared in
+    subst (λ (q : View). MatchBool c.take_access.result (MakesAccess q c.args.t c.take_access.new.event (record {
+      program = c.self.inside.image;
+      words = after.words;
+      sleepers = after.sleepers;
+      threads = slice_set v.threads (c.args.t - 1) c.take_access.new.local;
+      output = after.output;
+      room = after.capacity - length after.output;
+    })) ((record {
+      program = c.self.inside.image;
+      words = after.words;
+      sleepers = after.sleepers;
+      threads = slice_set v.threads (c.args.t - 1) c.take_access.new.local;
+      output = after.output;
+      room = after.capacity - length after.output;
+    } ≡ q) × HasNoAccess q c.args.t)) c.self.view_is
+    (access_returns c.self.inside.image c.self.inside.common after v.threads c.args.t x c.take_access.new.local
+    c.take_access.new.event c.take_access.result made.0 stands c.take_access.ensures.access
+    c.take_access.ensures.none)

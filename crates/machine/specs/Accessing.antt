@@ -1,0 +1,50 @@
+-- A thread that makes an access to a word in its place.
+use Rattle.std.specs.Prelude.{ℕ, ◌≡◌, ◌-◌, Bool, true, false, Some, None, slice_set}
+use Rattle.locals.specs.declared.access.AccessKind.{AccessKind}
+use Rattle.locals.specs.declared.access.AccessKind.TheVariants as kind
+use Rattle.locals.specs.Accesses.{Accessing, accessing}
+use Rattle.locals.specs.Looks.{Look, look}
+use Rattle.locals.specs.Threads.{Thread}
+use Rattle.machine.specs.declared.event.Event.{Event}
+use Rattle.machine.specs.declared.event.EventName.{EventName}
+use Rattle.machine.specs.declared.event.EventName.TheVariants as name
+use Rattle.machine.specs.ConcreteServing.{plain}
+use Rattle.machine.specs.States.{thread_of}
+use Rattle.machine.specs.Views.{CommonView, View, concrete}
+
+-- how an access is told
+abbrev pub access_name : AccessKind → EventName
+access_name kind.Load = name.Load
+access_name kind.Store = name.Store
+access_name kind.Swap = name.Swap
+access_name kind.CompareSwap = name.CompareSwap
+access_name kind.FetchOr = name.FetchOr
+access_name kind.FetchAdd = name.FetchAdd
+
+abbrev pub access_event : Accessing → Event
+access_event a = plain (access_name a.told.kind) a.told.value
+
+-- a thread that looks so made an access on what is shared, or none since its next step is none
+pub record DidAccess (l : Look) (old new : CommonView) (x : Thread) (event : Event) : Type 0 where
+  pub access : Accessing
+  pub makes : accessing l old.words ≡ Some access
+  pub told : event ≡ access_event access
+  pub after : new ≡ record old { words = access.words }
+  pub goes : x ≡ access.thread
+
+abbrev pub AccessedSo : Bool → Look → CommonView → CommonView → Thread → Event → Type 0
+AccessedSo true l old new x event = DidAccess l old new x event
+AccessedSo false l old new x event = accessing l old.words ≡ None
+
+-- thread t made the access to a word that was its next step, which is told so, and nothing else changed
+pub record MakesAccess (old : View) (t : ℕ) (event : Event) (new : View) : Type 0 where
+  pub origin : Thread
+  pub stands : thread_of (concrete old) t ≡ Some origin
+  pub access : Accessing
+  pub makes : accessing (look old.program t origin) old.words ≡ Some access
+  pub told : event ≡ access_event access
+  pub after : new ≡ record old { words = access.words; threads = slice_set old.threads (t - 1) access.thread }
+
+-- the next step of thread t is no access to a word of the memory
+abbrev pub HasNoAccess : View → ℕ → Type 0
+HasNoAccess v t = (x : Thread) → thread_of (concrete v) t ≡ Some x → accessing (look v.program t x) v.words ≡ None
