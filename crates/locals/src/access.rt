@@ -46,6 +46,7 @@ fn has(words: &Mem, a: Addr) -> bool
 impl Activation {
     /// Makes the access to a word that comes next, where one does and its address lies in the memory, and goes on with its
     /// answer. Else nothing has changed.
+    #[inline(always)]
     pub fn access(&mut self, image: &Image, t: u32, words: &mut Mem) -> Option<Access>
         ensures { Accessed result
             (looks (most_of image.now.version) t (slice_get image.now.code self.old.place) self.old)

@@ -191,6 +191,7 @@ impl Local {
 
     /// Makes the access to a word that is the next step of thread `t`, where one is and its address lies in the memory,
     /// and goes on with its answer. Else nothing has changed.
+    #[inline(always)]
     pub fn access(&mut self, image: &Image, t: u32, words: &mut Mem) -> Option<Access>
         ensures access { MatchOption result
             ((accessing (look image.now t self.old) words.old ≡ None) × (self.new ≡ self.old) × (words.new ≡ words.old))

@@ -67,6 +67,7 @@ impl Common {
     }
 
     /// Makes room for `n` printed numbers at least. It is refused only where there is less room.
+    #[inline(always)]
     pub fn make_room(&mut self, n: usize) -> Result<(), AllocError>
         ensures room { OnOk result (n ≤ self.new.capacity - length self.new.output) }
         ensures err { OnErr result ((self.old.capacity - length self.old.output < n)

@@ -94,6 +94,7 @@ impl Machine {
     }
 
     /// Makes room for `n` printed numbers at least. It is refused only where there is less room.
+    #[inline(always)]
     pub fn make_room(&mut self, n: usize) -> Result<(), AllocError>
         ensures room { OnOk result (n ≤ self.new.room) }
         ensures err { OnErr result ((self.old.room < n) × (self.new.room ≡ self.old.room)) }
@@ -270,6 +271,7 @@ impl Machine {
 
     /// Takes local steps of thread `t`, which can move, in its place, until another step comes or the budget is used.
     /// Answers how many.
+    #[inline(always)]
     pub fn run_local(&mut self, t: u32, budget: u32) -> u32
         requires { can_move (concrete self.old) t ≡ true }
         ensures runs { RunsOn self.old t budget result self.new }
@@ -281,6 +283,7 @@ impl Machine {
     /// Makes the access to a word that is the next step of thread `t`, which can move, where one is and the word lies in
     /// the memory, and says whether it did. Else nothing has changed. It is the thread's `step`, which asks for nothing and
     /// is told no answer.
+    #[inline(always)]
     pub fn access(&mut self, t: u32, event: &mut Event) -> bool
         requires { can_move (concrete self.old) t ≡ true }
         ensures { MatchBool result (MakesAccess self.old t event.new self.new)

@@ -28,6 +28,7 @@ impl PieceMachine {
 
     /// Takes local steps of thread `t`, which can move, in its place, until another step comes or the budget is used.
     /// Answers how many.
+    #[inline(always)]
     pub fn run_local(&mut self, t: u32, budget: u32) -> u32
         requires { can_move (concrete self.old.view) t ≡ true }
         ensures runs { RunsOn self.old.view t budget result self.new.view }
@@ -39,6 +40,7 @@ impl PieceMachine {
 
     /// Makes the access to a word that is the next step of thread `t`, which can move, where one is and the word lies in
     /// the memory, and says whether it did. Else nothing has changed. No held bucket is in the way of an access.
+    #[inline(always)]
     pub fn access(&mut self, t: u32, event: &mut Event) -> bool
         requires { can_move (concrete self.old.view) t ≡ true }
         ensures made { MatchBool result ((piece_of self.old.view.program (parts self.old) t ≡ Ok (parts self.new, event.new))

@@ -109,6 +109,7 @@ impl PieceMachine {
     }
 
     /// Makes room for `n` printed numbers at least.
+    #[inline(always)]
     pub fn make_room(&mut self, n: usize) -> Result<(), AllocError>
         ensures room { OnOk result (n ≤ self.new.view.room) }
         ensures same { (self.new.view.program ≡ self.old.view.program)

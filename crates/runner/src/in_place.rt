@@ -100,6 +100,7 @@ pub fn take_entry(
 
 /// The same of a thread that may be held up: refused with the held bucket that is in its way, and then nothing has
 /// changed. Where one may be, the thread takes its local steps ahead of the machine first, in `ahead`.
+#[inline(always)]
 pub fn take_if_free(
     machine: &mut PieceMachine,
     image: &Image,
@@ -139,6 +140,7 @@ pub fn take_if_free(
 }
 
 // The same of a thread that takes its local steps ahead of the machine first, where it takes any.
+#[inline(never)]
 fn take_ahead(
     machine: &mut PieceMachine,
     image: &Image,

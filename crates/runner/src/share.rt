@@ -59,6 +59,7 @@ impl<J: RunName> Share<J> {
     }
 
     /// Counts one entry more, here and in the book.
+    #[inline(always)]
     pub(crate) fn count_one(&mut self, book: &mut Book<J>)
         requires { book.old.total < 2 ^ 64 }
         ensures count { self.new ≡ record self.old { count = self.old.count + 1 } }
