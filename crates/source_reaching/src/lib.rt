@@ -1,7 +1,9 @@
-//! What one process of a source program reaches by its own actions, whatever the other processes are.
+//! What one process of a source program reaches by its own actions, whatever the other processes are; and how far a search
+//! has come.
 #![tactic(auto)]
 
 mod each_set;
+mod extent;
 mod follow;
 mod next;
 mod own;
@@ -9,6 +11,7 @@ mod reaching;
 mod trail;
 
 pub use each_set::sets;
+pub use extent::are_all_looked_at;
 pub use follow::{Followed, follow_own, is_lost, looks_calm};
 pub use next::next_state;
 pub use own::own_actions;

@@ -19,7 +19,7 @@ use crate::packed::Packed;
 use crate::parts::Parts;
 use crate::progress::Progress;
 use program::Checked;
-use source_reaching::next_state;
+use source_reaching::{are_all_looked_at, next_state};
 use source_states::{Action, SourceState};
 use std::alloc::{AllocError, Global};
 
@@ -408,6 +408,6 @@ pub(crate) fn search<'a, P: Progress>(
         progress.looked_at(kept.states.len(), place + 1);
     }
     let all = kept.states.as_slice();
-    findings.complete = all.len() <= most;
+    findings.complete = are_all_looked_at(all.len(), most);
     Ok(findings)
 }

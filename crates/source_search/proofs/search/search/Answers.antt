@@ -1,5 +1,4 @@
 use Rattle.std.proofs.Common.{◌∙◌, ◌≤◌, ap, arith, length, refl}
-use Rattle.std.proofs.lemmas.Bool.Decides.{nat_tests}
 use Rattle.std.proofs.lemmas.List.{length-map}
 use Rattle.program.specs.Views.{program_of}
 use Rattle.source_search.specs.Kept.{states_of}
@@ -66,7 +65,7 @@ returns-then-place-known-clause-aborted g c = λ e.
 
 pub returns-clause-expanded : goal.returns-clause-expanded
 returns-clause-expanded g c = λ e.
-    let few : length c.as_slice-all.result.now ≤ c.args.most = grind (arith, nat_tests, e) in
+    let few : length c.as_slice-all.result.now ≤ c.args.most = grind (arith, c.are_all_looked_at.ensures.all e) in
     let end : length (states_of c.loop-place.kept) ≤ c.loop-place.place =
     omega (
       arith,
@@ -81,7 +80,7 @@ returns-clause-expanded g c = λ e.
 
 pub returns-clause-stuck : goal.returns-clause-stuck
 returns-clause-stuck g c = λ e.
-    let few : length c.as_slice-all.result.now ≤ c.args.most = grind (arith, nat_tests, e) in
+    let few : length c.as_slice-all.result.now ≤ c.args.most = grind (arith, c.are_all_looked_at.ensures.all e) in
     let end : length (states_of c.loop-place.kept) ≤ c.loop-place.place =
     omega (
       arith,
@@ -96,7 +95,7 @@ returns-clause-stuck g c = λ e.
 
 pub returns-clause-aborted : goal.returns-clause-aborted
 returns-clause-aborted g c = λ e.
-    let few : length c.as_slice-all.result.now ≤ c.args.most = grind (arith, nat_tests, e) in
+    let few : length c.as_slice-all.result.now ≤ c.args.most = grind (arith, c.are_all_looked_at.ensures.all e) in
     let end : length (states_of c.loop-place.kept) ≤ c.loop-place.place =
     omega (
       arith,
