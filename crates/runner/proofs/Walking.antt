@@ -24,6 +24,7 @@ use Rattle.runner.specs.Reports.{IsHeldUp}
 use Rattle.runner.specs.Walks.{LooksFrom, Turns, Walked}
 use Rattle.runner.proofs.Growing.{entry}
 use Rattle.runner.proofs.Handing.{refused_at, refused_by, refused_end, up}
+use Rattle.runner.proofs.Lives.{moves_there}
 use Rattle.runner.proofs.Once.{still_made}
 use Rattle.runner.proofs.Unrolling.{put_back}
 
@@ -51,6 +52,13 @@ pub walked_made : (p : Program) (k mid : PieceConcrete) (t n : ℕ) → Walked p
 walked_made p k mid t n w =
     still_made k.concrete.threads mid.concrete.threads t w.origin w.here w.stands
     (ap (λ (m : PieceConcrete). m.concrete.threads) w.there)
+
+-- and can move there
+pub walked_moves : (p : Program) (k mid : PieceConcrete) (t n : ℕ) → Walked p k t n mid
+    → can_move mid.concrete t ≡ true
+walked_moves p k mid t n w =
+    subst (λ (m : PieceConcrete). can_move m.concrete t ≡ true) (sym w.there)
+    (moves_there p k.concrete t n w.origin w.here w.moves w.stands w.turns.goes)
 
 -- before a local step its turn is over
 over : (n : ℕ) (o : Option Thread) → is_some o ≡ true → (n < 256 → o ≡ None) → 1 ≤ n

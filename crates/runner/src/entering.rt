@@ -134,6 +134,9 @@ fn hand_in(
     if turn {
         return false;
     }
+    if machine.access(t, event) {
+        return true;
+    }
     match machine.step_as(t, *next, event) {
         Ok(()) => true,
         Err(_) => unreachable!(),

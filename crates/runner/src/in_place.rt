@@ -170,6 +170,13 @@ fn take_ahead(
         return Err(obstacle_of(machine, t, next));
     }
     catch_up(machine, t, local, ahead);
+    if machine.access(t, event) {
+        let taken = Taken {
+            local,
+            shared: true,
+        };
+        return Ok((taken, Ok(())));
+    }
     Ok(end_entry(machine, t, local, &next, event))
 }
 

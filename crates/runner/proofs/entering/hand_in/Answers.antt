@@ -1,24 +1,45 @@
-use Rattle.std.proofs.Common.{◌≡◌, None, Ok, Err, ap, ◌∙◌, sym, subst}
+use Rattle.std.proofs.Common.{◌≡◌, true, None, Ok, Err, ap, ◌∙◌, sym, subst}
 use Rattle.locals.specs.Looks.{look}
+use Rattle.machine.specs.ConcreteSteps.{can_move}
+use Rattle.machine.specs.Views.{concrete}
 use Rattle.piece_machine.specs.PieceConcrete.{piece_of}
 use Rattle.piece_machine.specs.PieceViews.{PieceView as MachineView, parts}
 use Rattle.runner.proofs.Handing.{not_refused, step_end, turn_end}
+use Rattle.runner.proofs.Lives.{moves_there}
 use Rattle.runner.proofs.Walking.{put_awake, put_made, put_next}
 use Rattle.runner.proofs.entering.hand_in.Goals as goal
 
+-- a thread that went on by local steps can move where they led it
+pub access-requires : goal.access-requires
+access-requires c =
+    let m = c.args.machine.now in
+    subst (λ (q : MachineView). can_move (concrete q.view) c.args.t ≡ true) (sym c.copy_local.ensures)
+    (moves_there m.view.program (concrete m.view) c.args.t c.requires.goes.count c.requires.goes.origin c.args.here.now
+    c.requires.thread c.requires.goes.stands c.requires.goes.goes)
+
+pub returns-then-access-clause-gives : goal.returns-then-access-clause-gives
+returns-then-access-clause-gives c =
+    step_end c.args.machine.now.view.program (parts c.args.machine.now) c.args.t c.args.here.now
+    (parts c.access.new.self) c.access.new.event
+    (c.if-turn.ensures (look c.args.machine.now.view.program c.args.t c.args.here.now) c.requires.next)
+    (subst (λ (m : MachineView). piece_of m.view.program (parts m) c.args.t ≡ Ok (parts c.access.new.self, c.access.new.event))
+    c.copy_local.ensures c.if-access.ensures.made.0)
+
+-- where it makes no access, nothing has changed
 pub step_as-requires-clause-thread : goal.step_as-requires-clause-thread
 step_as-requires-clause-thread c =
-    put_made c.args.machine.now c.copy_local.new.self c.args.t c.requires.goes.origin c.args.here.now
-    c.requires.goes.stands c.copy_local.ensures
+    put_made c.args.machine.now c.access.new.self c.args.t c.requires.goes.origin c.args.here.now
+    c.requires.goes.stands (c.if-access.ensures.made.0 ∙ c.copy_local.ensures)
 
 pub step_as-requires-clause-awake : goal.step_as-requires-clause-awake
 step_as-requires-clause-awake c =
-    put_awake c.args.machine.now c.copy_local.new.self c.args.t c.args.here.now c.requires.thread c.copy_local.ensures
+    put_awake c.args.machine.now c.access.new.self c.args.t c.args.here.now c.requires.thread
+    (c.if-access.ensures.made.0 ∙ c.copy_local.ensures)
 
 pub step_as-requires-clause-next : goal.step_as-requires-clause-next
 step_as-requires-clause-next c =
-    λ x at. put_next c.args.machine.now c.copy_local.new.self c.args.t c.requires.goes.origin c.args.here.now x c.args.next.now
-    c.requires.goes.stands c.copy_local.ensures c.requires.next at
+    λ x at. put_next c.args.machine.now c.access.new.self c.args.t c.requires.goes.origin c.args.here.now x c.args.next.now
+    c.requires.goes.stands (c.if-access.ensures.made.0 ∙ c.copy_local.ensures) c.requires.next at
 
 pub returns-clause-gives : goal.returns-clause-gives
 returns-clause-gives c =
@@ -26,7 +47,7 @@ returns-clause-gives c =
     (parts c.step_as.new.self) c.step_as.new.event
     (c.if-turn.ensures (look c.args.machine.now.view.program c.args.t c.args.here.now) c.requires.next)
     (subst (λ (m : MachineView). piece_of m.view.program (parts m) c.args.t ≡ Ok (parts c.step_as.new.self, c.step_as.new.event))
-    c.copy_local.ensures c.in-Ok.ensures.done)
+    (c.if-access.ensures.made.0 ∙ c.copy_local.ensures) c.in-Ok.ensures.done)
 
 pub returns-then-turn-clause-gives : goal.returns-then-turn-clause-gives
 returns-then-turn-clause-gives c =
@@ -39,5 +60,5 @@ unreachable-requires c =
     not_refused c.args.machine.now.view.program (parts c.args.machine.now) c.args.t c.args.here.now c.in-Err.field-0
     c.requires.fine
     (c.if-turn.ensures (look c.args.machine.now.view.program c.args.t c.args.here.now) c.requires.next)
-    (subst (λ (m : MachineView). piece_of m.view.program (parts m) c.args.t ≡ Err c.in-Err.field-0) c.copy_local.ensures
-    c.in-Err.ensures.err.0)
+    (subst (λ (m : MachineView). piece_of m.view.program (parts m) c.args.t ≡ Err c.in-Err.field-0)
+    (c.if-access.ensures.made.0 ∙ c.copy_local.ensures) c.in-Err.ensures.err.0)

@@ -1,12 +1,13 @@
 -- It goes on ahead of the machine first.
-use Rattle.std.proofs.Common.{◌∙◌, ap, arith, refl, subst, sym}
+use Rattle.std.proofs.Common.{◌∙◌, Some, ap, arith, refl, subst, sym}
 use Rattle.isa.specs.Programs.{Program}
-use Rattle.piece_machine.specs.PieceViews.{parts}
+use Rattle.piece_machine.specs.PieceViews.{PieceView as MachineView, parts}
 use Rattle.runner.specs.Entries.{BreaksAfter, entry_end, taken_entry}
 use Rattle.runner.specs.Logs.{EntersOwn}
+use Rattle.runner.proofs.Growing.{entry}
 use Rattle.runner.proofs.Noting.{wants_if}
 use Rattle.runner.proofs.Walking.{free_ahead, goes_ahead, goes_there, held_ahead, if_err, looked, next_there, walked_after}
-use Rattle.runner.proofs.Walking.{walked_as, walked_awake, walked_made}
+use Rattle.runner.proofs.Walking.{step_enters, walked_as, walked_awake, walked_made, walked_moves, walked_there}
 use Rattle.runner.proofs.Wanting.{wants_so}
 use Rattle.runner.proofs.in_place.take_ahead.Goals as goal
 
@@ -19,6 +20,45 @@ catch_up-requires-clause-goes c =
     s.ensures in
     goes_there m.view c.args.t n s.result.1 s.new.ahead l
 
+pub access-requires : goal.access-requires
+access-requires c =
+    let m = c.args.machine.now in
+    let s = c.look_ahead-local in
+    let n = s.result.0 in
+    let l = looked m.view c.machine.result.now c.args.t n s.result.1 s.new.ahead c.machine.ensures.shows c.requires.thread
+    s.ensures in
+    let new = c.catch_up.new.machine in
+    walked_moves m.view.program (parts m) (parts new) c.args.t n
+    (walked_after m new c.args.t n s.result.1 s.new.ahead c.requires.thread l c.catch_up.ensures.some
+    c.catch_up.ensures.none)
+
+pub returns-then-access-clause-enters : goal.returns-then-access-clause-enters
+returns-then-access-clause-enters c =
+    let m = c.args.machine.now in
+    let s = c.look_ahead-local in
+    let n = s.result.0 in
+    let l = looked m.view c.machine.result.now c.args.t n s.result.1 s.new.ahead c.machine.ensures.shows c.requires.thread
+    s.ensures in
+    let new = c.catch_up.new.machine in
+    let same = c.catch_up.ensures.program in
+    let w = walked_as m.view.program new.view.program (parts m) (parts new) c.args.t n same
+    (walked_after m new c.args.t n s.result.1 s.new.ahead c.requires.thread l c.catch_up.ensures.some
+    c.catch_up.ensures.none) in
+    let made = c.if-access.ensures.made in
+    subst (λ (q : Program). EntersOwn q (parts m) (entry c.args.t n (Some c.access.new.event)) (parts c.access.new.self))
+    same
+    (step_enters new.view.program (parts m) (parts new) (parts c.access.new.self) c.args.t n c.access.new.event w
+    (made.1 w.here (walked_there new.view.program (parts m) (parts new) c.args.t n w)) made.0)
+
+pub returns-then-access-clause-turn : goal.returns-then-access-clause-turn
+returns-then-access-clause-turn c =
+    let m = c.args.machine.now in
+    let s = c.look_ahead-local in
+    let n = s.result.0 in
+    let l = looked m.view c.machine.result.now c.args.t n s.result.1 s.new.ahead c.machine.ensures.shows c.requires.thread
+    s.ensures in
+    l.looks.turns.turn
+
 pub end_entry-requires-clause-thread : goal.end_entry-requires-clause-thread
 end_entry-requires-clause-thread c =
     let m = c.args.machine.now in
@@ -26,9 +66,10 @@ end_entry-requires-clause-thread c =
     let n = s.result.0 in
     let l = looked m.view c.machine.result.now c.args.t n s.result.1 s.new.ahead c.machine.ensures.shows c.requires.thread
     s.ensures in
-    let new = c.catch_up.new.machine in
-    let w = walked_after m new c.args.t n s.result.1 s.new.ahead c.requires.thread l c.catch_up.ensures.some
-    c.catch_up.ensures.none in
+    let new = c.access.new.self in
+    let still = c.if-access.ensures.made.0 in
+    let w = walked_after m new c.args.t n s.result.1 s.new.ahead c.requires.thread l (λ l. ap (λ (q : MachineView). parts q) still ∙ c.catch_up.ensures.some l)
+    (λ e. still ∙ c.catch_up.ensures.none e) in
     walked_made m.view.program (parts m) (parts new) c.args.t n w
 
 pub end_entry-requires-clause-awake : goal.end_entry-requires-clause-awake
@@ -38,9 +79,10 @@ end_entry-requires-clause-awake c =
     let n = s.result.0 in
     let l = looked m.view c.machine.result.now c.args.t n s.result.1 s.new.ahead c.machine.ensures.shows c.requires.thread
     s.ensures in
-    let new = c.catch_up.new.machine in
-    let w = walked_after m new c.args.t n s.result.1 s.new.ahead c.requires.thread l c.catch_up.ensures.some
-    c.catch_up.ensures.none in
+    let new = c.access.new.self in
+    let still = c.if-access.ensures.made.0 in
+    let w = walked_after m new c.args.t n s.result.1 s.new.ahead c.requires.thread l (λ l. ap (λ (q : MachineView). parts q) still ∙ c.catch_up.ensures.some l)
+    (λ e. still ∙ c.catch_up.ensures.none e) in
     walked_awake m.view.program (parts m) (parts new) c.args.t n w
 
 pub end_entry-requires-clause-next : goal.end_entry-requires-clause-next
@@ -50,11 +92,12 @@ end_entry-requires-clause-next c =
     let n = s.result.0 in
     let l = looked m.view c.machine.result.now c.args.t n s.result.1 s.new.ahead c.machine.ensures.shows c.requires.thread
     s.ensures in
-    let new = c.catch_up.new.machine in
-    let w = walked_after m new c.args.t n s.result.1 s.new.ahead c.requires.thread l c.catch_up.ensures.some
-    c.catch_up.ensures.none in
+    let new = c.access.new.self in
+    let still = c.if-access.ensures.made.0 in
+    let w = walked_after m new c.args.t n s.result.1 s.new.ahead c.requires.thread l (λ l. ap (λ (q : MachineView). parts q) still ∙ c.catch_up.ensures.some l)
+    (λ e. still ∙ c.catch_up.ensures.none e) in
     λ x at. next_there m.view.program new.view.program (parts m) (parts new) c.args.t n x s.result.1
-    c.catch_up.ensures.program w l.looks.next_is at
+    (ap (λ (q : MachineView). q.view.program) still ∙ c.catch_up.ensures.program) w l.looks.next_is at
 
 pub returns-then-waits_for_bucket-clause-held : goal.returns-then-waits_for_bucket-clause-held
 returns-then-waits_for_bucket-clause-held c =
@@ -89,14 +132,15 @@ returns-clause-enters c =
     let n = s.result.0 in
     let l = looked m.view c.machine.result.now c.args.t n s.result.1 s.new.ahead c.machine.ensures.shows c.requires.thread
     s.ensures in
-    let new = c.catch_up.new.machine in
-    let w = walked_after m new c.args.t n s.result.1 s.new.ahead c.requires.thread l c.catch_up.ensures.some
-    c.catch_up.ensures.none in
+    let new = c.access.new.self in
+    let still = c.if-access.ensures.made.0 in
+    let w = walked_after m new c.args.t n s.result.1 s.new.ahead c.requires.thread l (λ l. ap (λ (q : MachineView). parts q) still ∙ c.catch_up.ensures.some l)
+    (λ e. still ∙ c.catch_up.ensures.none e) in
     subst (λ (q : Program). EntersOwn q (parts m) (taken_entry c.args.t c.end_entry.result.0 c.end_entry.new.event)
     (parts c.end_entry.new.machine))
-    c.catch_up.ensures.program
+    (ap (λ (q : MachineView). q.view.program) still ∙ c.catch_up.ensures.program)
     (c.end_entry.ensures.enters (parts m)
-    (walked_as m.view.program new.view.program (parts m) (parts new) c.args.t n c.catch_up.ensures.program w))
+    (walked_as m.view.program new.view.program (parts m) (parts new) c.args.t n (ap (λ (q : MachineView). q.view.program) still ∙ c.catch_up.ensures.program) w))
 
 pub returns-clause-goes : goal.returns-clause-goes
 returns-clause-goes c =
@@ -105,11 +149,12 @@ returns-clause-goes c =
     let n = s.result.0 in
     let l = looked m.view c.machine.result.now c.args.t n s.result.1 s.new.ahead c.machine.ensures.shows c.requires.thread
     s.ensures in
-    let new = c.catch_up.new.machine in
-    let w = walked_after m new c.args.t n s.result.1 s.new.ahead c.requires.thread l c.catch_up.ensures.some
-    c.catch_up.ensures.none in
+    let new = c.access.new.self in
+    let still = c.if-access.ensures.made.0 in
+    let w = walked_after m new c.args.t n s.result.1 s.new.ahead c.requires.thread l (λ l. ap (λ (q : MachineView). parts q) still ∙ c.catch_up.ensures.some l)
+    (λ e. still ∙ c.catch_up.ensures.none e) in
     c.end_entry.ensures.goes (parts m)
-    (walked_as m.view.program new.view.program (parts m) (parts new) c.args.t n c.catch_up.ensures.program w)
+    (walked_as m.view.program new.view.program (parts m) (parts new) c.args.t n (ap (λ (q : MachineView). q.view.program) still ∙ c.catch_up.ensures.program) w)
 
 pub returns-clause-breaks : goal.returns-clause-breaks
 returns-clause-breaks c =
@@ -118,10 +163,11 @@ returns-clause-breaks c =
     let n = s.result.0 in
     let l = looked m.view c.machine.result.now c.args.t n s.result.1 s.new.ahead c.machine.ensures.shows c.requires.thread
     s.ensures in
-    let new = c.catch_up.new.machine in
-    let w = walked_after m new c.args.t n s.result.1 s.new.ahead c.requires.thread l c.catch_up.ensures.some
-    c.catch_up.ensures.none in
-    let same = c.catch_up.ensures.program in
+    let new = c.access.new.self in
+    let still = c.if-access.ensures.made.0 in
+    let w = walked_after m new c.args.t n s.result.1 s.new.ahead c.requires.thread l (λ l. ap (λ (q : MachineView). parts q) still ∙ c.catch_up.ensures.some l)
+    (λ e. still ∙ c.catch_up.ensures.none e) in
+    let same = (ap (λ (q : MachineView). q.view.program) still ∙ c.catch_up.ensures.program) in
     let w' = walked_as m.view.program new.view.program (parts m) (parts new) c.args.t n same w in
     let free = c.if-waits_for_bucket.ensures l.looks.here (goes_ahead m.view c.args.t n s.result.1 s.new.ahead l)
     l.looks.next_is in
