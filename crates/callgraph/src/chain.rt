@@ -23,6 +23,13 @@ pub fn callers(alloc: Global, calls: &[Call], marks: &[bool]) -> Result<Vec<bool
     Ok(next)
 }
 
+// Whether the same procedures are marked.
+fn are_same(marks: &[bool], others: &[bool]) -> bool
+    ensures { result ≡ true → marks.now ≡ others.now }
+{
+    marks == others
+}
+
 /// Which of `count` procedures begin a chain of so many calls.
 pub fn chains(
     alloc: Global,
@@ -37,7 +44,12 @@ pub fn chains(
 {
     let mut marks = vec![in alloc; true; count]?;
     for _round in 0..most {
-        marks = callers(alloc, calls, &marks)?;
+        let next = callers(alloc, calls, &marks)?;
+        // A round that changes nothing is the last one that could.
+        if are_same(&next, &marks) {
+            return Ok(marks);
+        }
+        marks = next;
     }
     Ok(marks)
 }

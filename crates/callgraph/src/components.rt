@@ -80,7 +80,7 @@ fn leave(graph: &Graph, procedure: usize, walk: &mut Walk) {
 
 // The number of each procedure's component: those that it calls are complete first.
 fn numbers(alloc: Global, standings: &[Standing]) -> Result<Vec<usize>, AllocError> {
-    let mut numbers = Vec::new(alloc);
+    let mut numbers = Vec::with_capacity(alloc, standings.len())?;
     for standing in standings {
         numbers.push(match *standing {
             Standing::Complete(number) => number,

@@ -26,7 +26,7 @@ fn empty_rows(alloc: Global, count: usize) -> Result<Vec<Row>, AllocError>
     ensures len { IfOk result (λ v. vec_len v ≡ count) }
     ensures empty { IfOk result (λ v. (a : ℕ) → slice_index_or (rows_of v.items) a [] ≡ []) }
 {
-    let mut rows = Vec::new(alloc);
+    let mut rows = Vec::with_capacity(alloc, count)?;
     for _row in 0..count {
         rows.push(Row {
             callees: Vec::new(alloc),

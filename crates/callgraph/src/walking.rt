@@ -14,7 +14,7 @@ pub(crate) enum Step {
 
 // The steps that enter each of `count` procedures.
 pub(crate) fn all_entered(alloc: Global, count: usize) -> Result<Vec<Step>, AllocError> {
-    let mut steps = Vec::new(alloc);
+    let mut steps = Vec::with_capacity(alloc, count)?;
     for number in 0..count {
         steps.push(Step::Enter(number))?;
     }

@@ -14,3 +14,4 @@ mod statement;
 pub use code_piece::CodePiece;
 pub use piece::procedure_code;
 pub use pieces::generate;
+pub use room::with_piece;

@@ -6,6 +6,7 @@ ghost use Rattle.codegen.specs.Generated.{piece_of, unlinked_pieces, RefusesPiec
 
 use crate::code_piece::CodePiece;
 use crate::piece::procedure_code;
+use crate::room::with_piece;
 use layout::Layout;
 use program::Checked;
 use scanner::Refusal;
@@ -29,8 +30,10 @@ pub fn generate(
     let program = checked.program();
     let mut pieces = Vec::new(alloc);
     let mut number = 0;
+    let mut total = 0;
     for procedure in &program.procedures {
         let code = procedure_code(alloc, procedure, program, layout)?;
+        total = with_piece(total, &code)?;
         pieces.push(CodePiece { number, code })?;
         number += 1;
     }

@@ -1,4 +1,4 @@
-ghost use Rattle.std.specs.Prelude.{◌≡◌, ◌≤◌, length, MatchResult};
+ghost use Rattle.std.specs.Prelude.{◌≡◌, ◌≤◌, ◌+◌, length, MatchResult};
 ghost use Rattle.isa.specs.Limits.{most_instructions};
 ghost use Rattle.codegen.specs.Failures.{too_long, Fails};
 
@@ -32,4 +32,12 @@ pub(crate) fn room(code: &[Marked]) -> Result<u32, Refusal>
         (λ e. Fails e (length code.now)) }
 {
     count(code.len())
+}
+
+/// How many instructions so many and those of one more piece are, which aren't too many for an image.
+pub fn with_piece(total: u32, code: &[Marked]) -> Result<u32, Refusal>
+    ensures { MatchResult result (λ n. n ≡ total + length code.now)
+        (λ e. Fails e (total + length code.now)) }
+{
+    count(total as usize + code.len())
 }

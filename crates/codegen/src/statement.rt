@@ -231,6 +231,8 @@ pub(crate) fn block(
         (λ e. Fails e (length code.old.items + length made)) }
 {
     for s in statements {
+        // Code that is too long for an image is made no longer.
+        room(code)?;
         statement(s, site, code)?;
     }
     Ok(())

@@ -107,10 +107,18 @@ statement-returns-in-None-aborted t c =
 
 pub block-returns-in_err-statement : goal.block-returns-in_err-statement
 block-returns-in_err-statement t c =
-    failed c.from_residual.result c.in_err-statement.field-0.0 _ _ _ c.from_residual.ensures
-    c.in_err-statement.ensures
+    failed c.from_residual-in_err-statement.result c.in_err-statement.field-0.0 _ _ _
+    c.from_residual-in_err-statement.ensures c.in_err-statement.ensures
     (first_fits (setting_at c.args.site.now) c.loop-s.code.items c.args.code.now.items _ c.args.statements.now
     c.loop-s.s-index c.s-item.result c.loop-s-test.true c.s-item.is c.loop-s.invariant)
+
+pub block-returns-in_err-room : goal.block-returns-in_err-room
+block-returns-in_err-room t c =
+    let fits =
+    first_fits (setting_at c.args.site.now) c.loop-s.code.items c.args.code.now.items _ c.args.statements.now
+    c.loop-s.s-index c.s-item.result c.loop-s-test.true c.s-item.is c.loop-s.invariant in
+    failed c.from_residual.result c.in_err-room.field-0.0 _ _ _ c.from_residual.ensures c.in_err-room.ensures
+    (omega (arith, fits, ap length c.deref.ensures.value))
 
 pub statement-returns-in_err-passed-in-Some : goal.statement-returns-in_err-passed-in-Some
 statement-returns-in_err-passed-in-Some t c =
