@@ -4,7 +4,7 @@ ghost use Rattle.program.specs.Views.{program_of};
 ghost use Rattle.lowering.specs.Layout.{layout_of};
 ghost use Rattle.codegen_workers.specs.Shares.{IsShare};
 
-use codegen::{CodePiece, procedure_code};
+use codegen::{CodePiece, procedure_code, with_piece};
 use layout::Layout;
 use program::Program;
 use scanner::Refusal;
@@ -48,10 +48,12 @@ pub(crate) fn generate_share<G: Gate>(
     } = share;
     let mut pieces = Vec::new(alloc);
     let mut number = 0;
+    let mut total = 0;
     for procedure in &program.procedures {
         if number % workers as usize == worker as usize {
             gate.pass(worker + 1);
             let code = procedure_code(alloc, procedure, program, layout)?;
+            total = with_piece(total, &code)?;
             pieces.push(CodePiece { number, code })?;
         }
         number += 1;

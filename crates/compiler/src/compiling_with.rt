@@ -48,12 +48,13 @@ fn most_between(text: &[u8]) -> usize {
     most
 }
 
-// As many workers as are wanted for a text, or one where their stacks may be too small for it.
+// As many workers as are wanted for a text, or one where their stacks may be too small for it. A text that one worker is
+// wanted for isn't looked at.
 fn workers_for(text: &[u8], wanted: u32) -> u32
     requires { (1 ≤ wanted) × (wanted ≤ most_workers) }
     ensures { (1 ≤ result) × (result ≤ most_workers) }
 {
-    if most_between(text) <= MOST_BETWEEN {
+    if wanted == 1 || most_between(text) <= MOST_BETWEEN {
         wanted
     } else {
         1
