@@ -1,4 +1,4 @@
-use Rattle.std.proofs.Common.{◌≡◌, Some, arith, refl, subst}
+use Rattle.std.proofs.Common.{◌≡◌, ◌+◌, ◌*◌, Some, arith, refl, subst}
 use Rattle.machine.specs.ConcreteServing.{plain}
 use Rattle.machine.specs.declared.event.Entry.{Entry}
 use Rattle.machine.specs.declared.event.Event.{Event}
@@ -11,9 +11,13 @@ pub returns : goal.returns
 returns c =
     let event : Event = plain c.args.name c.args.value in
     let entry : Entry = record { thread = c.args.thread; local = c.args.local; event = Some event } in
-    let whole : of_parts c.from.result c.from-2.result c.number_of.result 0 0 c.from-3.result ≡ c.result = omega arith in
+    let t = c.from.result in
+    let l = c.from-2.result in
+    let k = c.number_of.result in
+    let v = c.from-3.result in
+    let whole : of_parts t l k 0 0 v ≡ t + l * 1024 + k * 524288 + v * 268435456 = omega arith in
     subst (λ h. IsHeadOf entry (widened h)) whole
-    (step_head entry event c.from.result c.from-2.result c.number_of.result 0 0 c.from-3.result
+    (step_head entry event t l k 0 0 v
     (record {
       step = refl;
       fits = c.requires;
