@@ -1,4 +1,4 @@
-use Rattle.std.proofs.Common.{◌∙◌, ap, subst}
+use Rattle.std.proofs.Common.{◌∙◌, ap, inl, inr, subst}
 use Rattle.std.specs.Prelude.{List, Option, ℕ, None, slice_set}
 use Rattle.piece_machine.specs.PieceViews.{parts}
 use Rattle.runner.specs.declared.attempt.Attempt.{Attempt}
@@ -59,17 +59,7 @@ returns-in-HeldUp c = λ p k fit want same tried.
     let new = parts c.args.machine.now in
     record {
       want = want_as p new c.args.self.now.wants c.check.new.self.wants c.check.ensures.wants
-          (still_want p k new c.args.self.now.wants (same (ap is_made c.in-HeldUp.is)) want);
-      sound = c.check.ensures.sound;
-      held = c.check.ensures.held;
-    }
-
-pub returns-in-Refused : goal.returns-in-Refused
-returns-in-Refused c = λ p k fit want same tried.
-    let new = parts c.args.machine.now in
-    record {
-      want = want_as p new c.args.self.now.wants c.check.new.self.wants c.check.ensures.wants
-          (still_want p k new c.args.self.now.wants (same (ap is_made c.in-Refused.is)) want);
+          (still_want p k new c.args.self.now.wants (same (elim c.in-HeldUp.is [| inl e ↦ ap is_made e | inr e ↦ ap is_made e])) want);
       sound = c.check.ensures.sound;
       held = c.check.ensures.held;
     }
