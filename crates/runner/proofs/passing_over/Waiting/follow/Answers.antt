@@ -59,7 +59,7 @@ returns-in-HeldUp c = λ p k fit want same tried.
     let new = parts c.args.machine.now in
     record {
       want = want_as p new c.args.self.now.wants c.check.new.self.wants c.check.ensures.wants
-          (still_want p k new c.args.self.now.wants (same (elim c.in-HeldUp.is [| inl e ↦ ap is_made e | inr e ↦ ap is_made e])) want);
+          (still_want p k new c.args.self.now.wants (same (elim c.in-HeldUp.is [ inl e ↦ ap is_made e | inr e ↦ ap is_made e ])) want);
       sound = c.check.ensures.sound;
       held = c.check.ensures.held;
     }
