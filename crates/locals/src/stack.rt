@@ -57,7 +57,7 @@ impl<T: Copy + Default + Drop, const N: usize> Stack<T, N> {
         let kept = self.items.len().min(from.len());
         self.items.truncate(kept);
         self.items.as_mut_slice().copy_from_slice(&from[..kept]);
-        if self.items.try_extend_from_slice(&from[kept..]).is_err() {
+        if kept < from.len() && self.items.try_extend_from_slice(&from[kept..]).is_err() {
             unreachable!()
         }
     }

@@ -1,10 +1,11 @@
 -- An access that a thread makes in its place is its step.
 use Rattle.std.proofs.Common.{◌≡◌, ◌≢◌, ◌≤◌, ◌-◌, ◌+◌, ◌%◌, ◌==◌, ◌∙◌, ℕ, Bool, true, false, List, Option, Some, None, Result, Ok, Err}
 use Rattle.std.proofs.Common.{zero, suc, [], ◌∷◌, slice_get, length, length-set, slice_set, refl, ap, sym, subst, arith, not, ◌||◌}
-use Rattle.std.specs.Prelude.{MatchBool, if◌then◌else◌, nat_lt, slice_index}
+use Rattle.std.specs.Prelude.{IfNone, IfSome, MatchOption, if◌then◌else◌, nat_lt, slice_index}
 use Rattle.std.specs.Int.Bits.{bit_or}
 use Rattle.isa.specs.Programs.{Program}
 use Rattle.robustexit.specs.declared.phase.ExitPhase.TheVariants.{Entry, Pending, ClearId, LastWake, Ended}
+use Rattle.locals.specs.declared.access.Access.{Access}
 use Rattle.locals.specs.Accesses.{Found, Accessing, found, goes_on, accessing}
 use Rattle.locals.specs.Threads.{Thread, Runs, Dies, Exits}
 use Rattle.locals.specs.Looks.{Request, AskLoad, AskStore, AskSwap, AskCompareSwap, AskOr, AskAdd, AskFork, AskPrint}
@@ -14,7 +15,7 @@ use Rattle.machine.specs.declared.event.Event.{Event}
 use Rattle.machine.specs.declared.event.EventName.TheVariants as name
 use Rattle.machine.specs.declared.event.StepFault.{StepFault}
 use Rattle.machine.specs.declared.event.StepFault.TheVariants.{Broken}
-use Rattle.machine.specs.Accessing.{AccessedSo, HasNoAccess, MakesAccess, access_event, access_name}
+use Rattle.machine.specs.Accessing.{AccessedSo, HasNoAccess, MakesAccess, access_event, access_name, told_access}
 use Rattle.machine.specs.ConcreteServing.{Served, gives, load, plain, serve, set_word}
 use Rattle.machine.specs.ConcreteSteps.{Stepped, can_move, go_on_with, on_machine, step_awake, step_of, step_thread}
 use Rattle.machine.specs.ConcreteSteps.{thread_can_move, thread_step}
@@ -248,14 +249,36 @@ after_view p c threads = record {
   room = c.capacity - length c.output;
 }
 
-pub access_keeps : (p : Program) (c c' : CommonView) (threads : List Thread) (t : ℕ) (x x' : Thread) (e : Event)
-    (made : Bool) (bits : List ℕ) → 1 ≤ t → thread_at threads t ≡ Some x → can_move (parts_of c threads) t ≡ true
+-- an access that a thread made on the words is made on what is shared
+pub accessed_on : (r : Option Access) (l : Look) (v : CommonView) (words : List ℕ) (x x' : Thread)
+    → MatchOption r ((accessing l v.words ≡ None) × (x' ≡ x) × (words ≡ v.words))
+    (λ told. accessing l v.words ≡ Some (record { told = told; words = words; thread = x' }))
+    → AccessedSo r l v (record v { words = words }) x'
+accessed_on None l v words x x' h = h.0
+accessed_on (Some told) l v words x x' h = record {
+  access = record { told = told; words = words; thread = x' };
+  makes = h;
+  told = refl;
+  after = refl;
+  goes = refl;
+}
+
+pub kept_on : (r : Option Access) (l : Look) (v c : CommonView) (words : List ℕ) (x x' : Thread) → v ≡ c
+    → MatchOption r ((accessing l v.words ≡ None) × (x' ≡ x) × (words ≡ v.words))
+    (λ told. accessing l v.words ≡ Some (record { told = told; words = words; thread = x' }))
+    → IfNone r ((x' ≡ x) × ((let w : CommonView = record v { words = words } in w) ≡ c))
+kept_on None l v c words x x' is h = (h.1, (λ i. record v { words = h.2 i }) ∙ is)
+kept_on (Some told) l v c words x x' is h = tt
+
+pub access_keeps : (p : Program) (c c' : CommonView) (threads : List Thread) (t : ℕ) (x x' : Thread)
+    (made : Option Access) (bits : List ℕ) → 1 ≤ t → thread_at threads t ≡ Some x
+    → can_move (parts_of c threads) t ≡ true
     → IsWellFormed p (parts_of c threads) → ShowsAble bits (parts_of c threads)
-    → AccessedSo made (look p t x) c c' x' e → (made ≡ false → (x' ≡ x) × (c' ≡ c))
-    → (made ≡ true → x' ≢ Exits Ended)
+    → AccessedSo made (look p t x) c c' x' → IfNone made ((x' ≡ x) × (c' ≡ c))
+    → IfSome made (λ told. x' ≢ Exits Ended)
     → IsWellFormed p (parts_of c' (slice_set threads (t - 1) x'))
     × ShowsAble bits (parts_of c' (slice_set threads (t - 1) x'))
-access_keeps p c c' threads t x x' e true bits some stands can well shows did none lives =
+access_keeps p c c' threads t x x' (Some told) bits some stands can well shows did none lives =
     let k : ConcreteState = parts_of c threads in
     let k' : ConcreteState = record {
       common = record k.common { words = did.access.words };
@@ -265,25 +288,25 @@ access_keeps p c c' threads t x x' e true bits some stands can well shows did no
     (λ i. parts_of (sym did.after i) (slice_set threads (t - 1) (sym did.goes i))) in (
       subst (IsWellFormed p) is (keeps_access p k (look p t x) did.access t well did.makes),
       subst (ShowsAble bits) is (shows_still k did.access.words t did.access.thread x bits some stands can
-          (subst (λ (y : Thread). y ≢ Exits Ended) did.goes (lives refl)) shows),
+          (subst (λ (y : Thread). y ≢ Exits Ended) did.goes lives) shows),
     )
-access_keeps p c c' threads t x x' e false bits some stands can well shows did none lives =
-    let same = none refl in
+access_keeps p c c' threads t x x' None bits some stands can well shows did kept lives =
     let is : parts_of c threads ≡ parts_of c' (slice_set threads (t - 1) x') =
-    (λ i. parts_of (sym same.1 i) (sym (stays threads t x stands) i))
-    ∙ (λ i. parts_of c' (slice_set threads (t - 1) (sym same.0 i))) in
+    (λ i. parts_of (sym kept.1 i) (sym (stays threads t x stands) i))
+    ∙ (λ i. parts_of c' (slice_set threads (t - 1) (sym kept.0 i))) in
     (subst (IsWellFormed p) is well, subst (ShowsAble bits) is shows)
 
 one_thread : (x y : Thread) → Some x ≡ Some y → x ≡ y
 one_thread x y h = cc
 
-pub access_returns : (p : Program) (c c' : CommonView) (threads : List Thread) (t : ℕ) (x x' : Thread) (e : Event)
-    (made : Bool) → 1 ≤ t → thread_at threads t ≡ Some x → AccessedSo made (look p t x) c c' x' e
-    → (made ≡ false → (x' ≡ x) × (c' ≡ c))
-    → MatchBool made (MakesAccess (after_view p c threads) t e (after_view p c' (slice_set threads (t - 1) x')))
-    ((after_view p c' (slice_set threads (t - 1) x') ≡ after_view p c threads)
+pub access_returns : (p : Program) (c c' : CommonView) (threads : List Thread) (t : ℕ) (x x' : Thread)
+    (made : Option Access) → 1 ≤ t → thread_at threads t ≡ Some x → AccessedSo made (look p t x) c c' x'
+    → IfNone made ((x' ≡ x) × (c' ≡ c))
+    → MatchOption made ((after_view p c' (slice_set threads (t - 1) x') ≡ after_view p c threads)
     × HasNoAccess (after_view p c threads) t)
-access_returns p c c' threads t x x' e true some stands did none = record {
+    (λ told. MakesAccess (after_view p c threads) t (told_access told)
+    (after_view p c' (slice_set threads (t - 1) x')))
+access_returns p c c' threads t x x' (Some told) some stands did none = record {
   origin = x;
   stands = stands;
   access = did.access;
@@ -291,9 +314,8 @@ access_returns p c c' threads t x x' e true some stands did none = record {
   told = did.told;
   after = λ i. after_view p (did.after i) (slice_set threads (t - 1) (did.goes i));
 }
-access_returns p c c' threads t x x' e false some stands did none =
-    let same = none refl in (
-      (λ i. after_view p (same.1 i) (slice_set threads (t - 1) (same.0 i)))
-          ∙ (λ i. after_view p c (stays threads t x stands i)),
-      λ y at. ap (λ (z : Thread). accessing (look p t z) c.words) (one_thread y x (sym at ∙ stands)) ∙ did,
-    )
+access_returns p c c' threads t x x' None some stands did kept = (
+  (λ i. after_view p (kept.1 i) (slice_set threads (t - 1) (kept.0 i)))
+      ∙ (λ i. after_view p c (stays threads t x stands i)),
+  λ y at. ap (λ (z : Thread). accessing (look p t z) c.words) (one_thread y x (sym at ∙ stands)) ∙ did,
+)

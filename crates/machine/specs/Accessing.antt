@@ -1,5 +1,6 @@
 -- A thread that makes an access to a word in its place.
-use Rattle.std.specs.Prelude.{ℕ, ◌≡◌, ◌-◌, Bool, true, false, Some, None, slice_set}
+use Rattle.std.specs.Prelude.{ℕ, ◌≡◌, ◌-◌, Option, Some, None, slice_set}
+use Rattle.locals.specs.declared.access.Access.{Access}
 use Rattle.locals.specs.declared.access.AccessKind.{AccessKind}
 use Rattle.locals.specs.declared.access.AccessKind.TheVariants as kind
 use Rattle.locals.specs.Accesses.{Accessing, accessing}
@@ -21,8 +22,11 @@ access_name kind.CompareSwap = name.CompareSwap
 access_name kind.FetchOr = name.FetchOr
 access_name kind.FetchAdd = name.FetchAdd
 
+abbrev pub told_access : Access → Event
+told_access a = plain (access_name a.kind) a.value
+
 abbrev pub access_event : Accessing → Event
-access_event a = plain (access_name a.told.kind) a.told.value
+access_event a = told_access a.told
 
 -- a thread that looks so made an access on what is shared, or none since its next step is none
 pub record DidAccess (l : Look) (old new : CommonView) (x : Thread) (event : Event) : Type 0 where
@@ -32,9 +36,9 @@ pub record DidAccess (l : Look) (old new : CommonView) (x : Thread) (event : Eve
   pub after : new ≡ record old { words = access.words }
   pub goes : x ≡ access.thread
 
-abbrev pub AccessedSo : Bool → Look → CommonView → CommonView → Thread → Event → Type 0
-AccessedSo true l old new x event = DidAccess l old new x event
-AccessedSo false l old new x event = accessing l old.words ≡ None
+abbrev pub AccessedSo : Option Access → Look → CommonView → CommonView → Thread → Type 0
+AccessedSo (Some told) l old new x = DidAccess l old new x (told_access told)
+AccessedSo None l old new x = accessing l old.words ≡ None
 
 -- thread t made the access to a word that was its next step, which is told so, and nothing else changed
 pub record MakesAccess (old : View) (t : ℕ) (event : Event) (new : View) : Type 0 where

@@ -19,6 +19,7 @@ mod thread_bits;
 mod thread_set;
 mod thread_step;
 
+pub use accesses::access_name;
 pub use call_step::CallStep;
 pub use event::{Entry, Event, EventName, StepFault};
 pub use laws::steps_are_machine_steps;

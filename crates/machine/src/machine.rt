@@ -1,5 +1,5 @@
 ghost use Rattle.std.specs.Prelude.{◌≡◌, ◌≢◌, ◌≤◌, ◌<◌, ◌+◌, ℕ, length, slice_index, slice_set, ◌-◌};
-ghost use Rattle.std.specs.Prelude.{◌⊎◌, true, false, Some, None, Ok, Err, IfOk, IfErr, OnOk, OnErr, MatchBool, is_some};
+ghost use Rattle.std.specs.Prelude.{◌⊎◌, true, false, Some, None, Ok, Err, IfOk, IfErr, OnOk, OnErr, MatchBool, MatchOption, is_some};
 ghost use Rattle.words.specs.Limits.{most_threads};
 ghost use Rattle.words.specs.Process.{process_word};
 ghost use Rattle.words.specs.Updates.{put};
@@ -18,7 +18,7 @@ ghost use Rattle.machine.specs.States.{thread_of, state_of, opening_concrete};
 ghost use Rattle.machine.specs.Runs.{has_ended};
 ghost use Rattle.machine.specs.ConcreteSteps.{step_of, can_move, fault_at};
 ghost use Rattle.machine.specs.ConcreteOutside.{kill_of, stray_of};
-ghost use Rattle.machine.specs.Accessing.{HasNoAccess, MakesAccess};
+ghost use Rattle.machine.specs.Accessing.{HasNoAccess, MakesAccess, told_access};
 ghost use Rattle.machine.specs.LocalRuns.{RunsOn};
 ghost use Rattle.machine.specs.ThreadSets.{IsLeastFrom};
 ghost use Rattle.machine.specs.Views.{concrete, AllEnded, IsQuiet, variable_address, address_of, printed_by};
@@ -33,7 +33,7 @@ use crate::thread_bits::ThreadBits;
 use crate::thread_step::take_access;
 use futexcalls::{FutexCall, FutexPhase};
 use isa::Image;
-use locals::{Local, NextStep};
+use locals::{Access, Local, NextStep};
 use robustexit::ExitPhase;
 use std::alloc::{AllocError, Global};
 use std::marker::Model;
@@ -282,16 +282,16 @@ impl Machine {
     }
 
     /// Makes the access to a word that is the next step of thread `t`, which can move, where one is and the word lies in
-    /// the memory, and says whether it did. Else nothing has changed. It is the thread's `step`, which asks for nothing and
-    /// is told no answer.
+    /// the memory, and answers it. Else nothing has changed. It is the thread's `step`, which asks for nothing and is told
+    /// no answer; its event is that of `access_name`, and wakes and moves nobody.
     #[inline(always)]
-    pub fn access(&mut self, t: u32, event: &mut Event) -> bool
+    pub fn access(&mut self, t: u32) -> Option<Access>
         requires { can_move (concrete self.old) t ≡ true }
-        ensures { MatchBool result (MakesAccess self.old t event.new self.new)
-            ((self.new ≡ self.old) × HasNoAccess self.old t) }
+        ensures { MatchOption result ((self.new ≡ self.old) × HasNoAccess self.old t)
+            (λ told. MakesAccess self.old t (told_access told) self.new) }
     {
         let local = &mut self.threads[t as usize - 1];
-        take_access(&self.image, &mut self.common, t, local, event)
+        take_access(&self.image, &mut self.common, t, local)
     }
 
     /// One step of thread `t`, local or shared. A printed number lowers the room by one.

@@ -1,4 +1,4 @@
-ghost use Rattle.std.specs.Prelude.{true, false, ◌≢◌, ◌≡◌, ◌≤◌, ◌<◌, ℕ, None, Ok, Err, IfOk, IfErr, OnOk, OnErr, IsSome, length};
+ghost use Rattle.std.specs.Prelude.{◌≢◌, ◌≡◌, ◌≤◌, ◌<◌, ℕ, None, Ok, Err, IfOk, IfErr, IfSome, IfNone, OnOk, OnErr, IsSome, length};
 ghost use Rattle.buckets.specs.Sleepers.{place_of, thread_count};
 ghost use Rattle.robustexit.specs.declared.phase.ExitPhase.TheVariants.{Ended};
 ghost use Rattle.locals.specs.Looks.{look};
@@ -11,11 +11,10 @@ ghost use Rattle.machine.specs.RequestMeanings.{AsksFork};
 ghost use Rattle.machine.specs.States.{Common as CommonOf};
 ghost use Rattle.machine.specs.Views.{common};
 
-use crate::accesses::access_name;
 use crate::common::Common;
 use crate::event::{Event, EventName, StepFault};
 use isa::Image;
-use locals::{Local, Request};
+use locals::{Access, Local, Request};
 use robustexit::ExitPhase;
 
 /// A local step of thread `t`.
@@ -49,25 +48,15 @@ pub fn take_exit(
 }
 
 /// An access of thread `t` to a word, which it makes in its place, if that is its next step and the word lies in the
-/// memory. Says whether it was made; else nothing has changed.
+/// memory. Else nothing has changed.
 #[inline(always)]
-pub fn take_access(
-    image: &Image,
-    shared: &mut Common,
-    t: u32,
-    local: &mut Local,
-    event: &mut Event,
-) -> bool
-    ensures access { AccessedSo result (look image.now t local.old) shared.old shared.new local.new event.new }
-    ensures none { result ≡ false → (local.new ≡ local.old) × (shared.new ≡ shared.old) }
-    ensures lives { result ≡ true → local.new ≢ Exits Ended }
+pub fn take_access(image: &Image, shared: &mut Common, t: u32, local: &mut Local) -> Option<Access>
+    ensures access { AccessedSo result (look image.now t local.old) shared.old shared.new local.new }
+    ensures none { IfNone result ((local.new ≡ local.old) × (shared.new ≡ shared.old)) }
+    ensures lives { IfSome result (λ told. local.new ≢ Exits Ended) }
 {
     let Common { words, .. } = shared;
-    let Some(access) = local.access(image, t, words) else {
-        return false;
-    };
-    event.put(access_name(access.kind), access.value);
-    true
+    local.access(image, t, words)
 }
 
 /// A request of thread `t`, which is awake.

@@ -1,7 +1,8 @@
 -- An access that a thread makes in its place is the step in pieces that it has.
-use Rattle.std.proofs.Common.{◌≡◌, ℕ, List, Bool, true, false, Option, Some, None, Ok, is_some, ap, sym, refl, subst, ◌∙◌}
-use Rattle.std.specs.Prelude.{MatchBool}
+use Rattle.std.proofs.Common.{◌≡◌, ℕ, List, true, false, Option, Some, None, Ok, is_some, ap, sym, refl, subst, ◌∙◌}
+use Rattle.std.specs.Prelude.{MatchOption}
 use Rattle.futexcalls.specs.declared.pieces.FutexPhase.{FutexPhase}
+use Rattle.locals.specs.declared.access.Access.{Access}
 use Rattle.locals.specs.Accesses.{Accessing, Found, accessing, found, goes_on}
 use Rattle.locals.specs.Steps.{local_next}
 use Rattle.locals.specs.Threads.{Thread}
@@ -9,7 +10,7 @@ use Rattle.locals.specs.Looks.{Request, AskLoad, AskStore, AskSwap, AskCompareSw
 use Rattle.locals.specs.Looks.{AskWait, AskWake, AskRequeue, AskReturn, AskReturnValue, AskFault, Look, Goes, Asks}
 use Rattle.locals.specs.Looks.{Leaves, Breaks, Rests, look}
 use Rattle.machine.specs.declared.event.Event.{Event}
-use Rattle.machine.specs.Accessing.{HasNoAccess, MakesAccess}
+use Rattle.machine.specs.Accessing.{HasNoAccess, MakesAccess, told_access}
 use Rattle.machine.specs.ConcreteSteps.{can_move}
 use Rattle.machine.specs.PieceStates.{PieceState, call_at, call_of}
 use Rattle.machine.specs.PieceSteps.{BlocksAt, BlocksCall}
@@ -92,25 +93,30 @@ gives : (v v' : View) (phases : List FutexPhase) (t : ℕ) (e : Event) → can_m
 gives v v' phases t e can m =
     whole_gives v v' phases t e (apart v v' phases t e can m) (holders_as v v' t e m) (access_steps v v' t e can m)
 
-pub access_kept : (v v' : View) (phases : List FutexPhase) (t : ℕ) (e : Event) (made : Bool) → IsKept v phases
-    → can_move (concrete v) t ≡ true → MatchBool made (MakesAccess v t e v') ((v' ≡ v) × HasNoAccess v t)
+pub access_kept : (v v' : View) (phases : List FutexPhase) (t : ℕ) (made : Option Access) → IsKept v phases
+    → can_move (concrete v) t ≡ true
+    → MatchOption made ((v' ≡ v) × HasNoAccess v t) (λ told. MakesAccess v t (told_access told) v')
     → IsKept v' phases
-access_kept v v' phases t e true kept can m =
-    kept_step v v' phases phases t e kept (ap (λ (q : View). q.program) m.after) refl (gives v v' phases t e can m)
-access_kept v v' phases t e false kept can m = subst (λ (q : View). IsKept q phases) (sym m.0) kept
+access_kept v v' phases t (Some told) kept can m =
+    kept_step v v' phases phases t (told_access told) kept (ap (λ (q : View). q.program) m.after) refl
+    (gives v v' phases t (told_access told) can m)
+access_kept v v' phases t None kept can m = subst (λ (q : View). IsKept q phases) (sym m.0) kept
 
-pub access_done : (v v' : View) (phases : List FutexPhase) (t : ℕ) (e : Event) (made : Bool)
-    → can_move (concrete v) t ≡ true → MatchBool made (MakesAccess v t e v') ((v' ≡ v) × HasNoAccess v t)
-    → MatchBool made
-    ((piece_of v.program (parts (record { view = v; phases = phases })) t
-    ≡ Ok (parts (record { view = v'; phases = phases }), e))
-    × HasNoLocal v t)
+pub access_done : (v v' : View) (phases : List FutexPhase) (t : ℕ) (made : Option Access)
+    → can_move (concrete v) t ≡ true
+    → MatchOption made ((v' ≡ v) × HasNoAccess v t) (λ told. MakesAccess v t (told_access told) v')
+    → MatchOption made
     ((let w : PieceView = record { view = v'; phases = phases } in w) ≡ record { view = v; phases = phases }
     × HasNoAccess v t)
-access_done v v' phases t e true can m = (gives v v' phases t e can m, no_local v v' t e m)
-access_done v v' phases t e false can m = ((λ i. record { view = m.0 i; phases = phases }), m.1)
+    (λ told. (piece_of v.program (parts (record { view = v; phases = phases })) t
+    ≡ Ok (parts (record { view = v'; phases = phases }), told_access told))
+    × HasNoLocal v t)
+access_done v v' phases t (Some told) can m =
+    (gives v v' phases t (told_access told) can m, no_local v v' t (told_access told) m)
+access_done v v' phases t None can m = ((λ i. record { view = m.0 i; phases = phases }), m.1)
 
-pub access_program : (v v' : View) (t : ℕ) (e : Event) (made : Bool)
-    → MatchBool made (MakesAccess v t e v') ((v' ≡ v) × HasNoAccess v t) → v'.program ≡ v.program
-access_program v v' t e true m = ap (λ (q : View). q.program) m.after
-access_program v v' t e false m = ap (λ (q : View). q.program) m.0
+pub access_program : (v v' : View) (t : ℕ) (made : Option Access)
+    → MatchOption made ((v' ≡ v) × HasNoAccess v t) (λ told. MakesAccess v t (told_access told) v')
+    → v'.program ≡ v.program
+access_program v v' t (Some told) m = ap (λ (q : View). q.program) m.after
+access_program v v' t None m = ap (λ (q : View). q.program) m.0

@@ -5,7 +5,7 @@ use Rattle.isa.specs.Programs.{Program}
 use Rattle.locals.specs.Threads.{Thread}
 use Rattle.locals.specs.Steps.{local_step, local_after}
 use Rattle.machine.specs.declared.event.Entry.{Entry}
-use Rattle.machine.specs.ConcreteServing.{plain}
+use Rattle.machine.specs.Accessing.{told_access}
 use Rattle.machine.specs.declared.event.Event.{Event}
 use Rattle.machine.specs.declared.event.StepFault.{StepFault}
 use Rattle.machine.specs.declared.event.StepFault.TheVariants as step
@@ -13,6 +13,8 @@ use Rattle.machine.specs.States.{state_of, thread_of}
 use Rattle.machine.specs.ConcreteSteps.{can_move}
 use Rattle.piece_machine.specs.PieceConcrete.{PieceConcrete, piece_of, with_local, stray_piece, kill_piece}
 use Rattle.runner.specs.declared.fault.RunFault.{RunFault}
+use Rattle.runner.specs.declared.in_place.Behind.{Behind}
+use Rattle.runner.specs.declared.in_place.Behind.TheVariants.{Nothing, Accessed, Stepped}
 use Rattle.runner.specs.declared.in_place.Taken.{Taken}
 use Rattle.runner.specs.declared.fault.RunFault.TheVariants.{Stray, Limit, CannotMove, Broken, Memory}
 use Rattle.runner.specs.Views.{PieceView, LogState}
@@ -23,13 +25,16 @@ abbrev pub event_if : Bool → Event → Option Event
 event_if true event = Some event
 event_if false event = None
 
--- the entry of thread t that was made in its place, where the event of its shared step is this one, if it has one
-abbrev pub taken_entry : ℕ → Taken → Event → Entry
-taken_entry t taken event = record { thread = t; local = taken.local; event = event_if taken.shared event }
+-- what comes behind the local steps of an entry that was made in its place, where the event of another step than an
+-- access is this one
+abbrev pub taken_event : Behind → Event → Option Event
+taken_event Nothing event = None
+taken_event (Accessed access) event = Some (told_access access)
+taken_event Stepped event = Some event
 
--- a step that is known to be an access wakes and moves nobody
-abbrev pub IsPlainIf : Taken → Event → Type 0
-IsPlainIf taken event = taken.access ≡ true → (taken.shared ≡ true) × (event ≡ plain event.name event.value)
+-- the entry of thread t that was made so
+abbrev pub taken_entry : ℕ → Taken → Event → Entry
+taken_entry t taken event = record { thread = t; local = taken.local; event = taken_event taken.behind event }
 
 -- a thread comes in at a place: a turn where it stands before a local step, and else its step with the event
 abbrev pub entry_end_by : PieceConcrete → Result (PieceConcrete × Event) StepFault → Option Thread

@@ -11,7 +11,7 @@ ghost use Rattle.runner.specs.Entries.{entry_end, event_if};
 
 use crate::stepping::is_local;
 use locals::{Local, NextStep};
-use machine::Event;
+use machine::{Event, access_name};
 use packed_log::PackedLog;
 use piece_machine::PieceMachine;
 use std::alloc::AllocError;
@@ -134,7 +134,8 @@ fn hand_in(
     if turn {
         return false;
     }
-    if machine.access(t, event) {
+    if let Some(access) = machine.access(t) {
+        event.put(access_name(access.kind), access.value);
         return true;
     }
     match machine.step_as(t, *next, event) {

@@ -1,10 +1,11 @@
 ghost use Rattle.words.specs.Limits.{most_local_steps};
-ghost use Rattle.std.specs.Prelude.{◌≡◌, ◌≢◌, ◌≤◌, ◌<◌, ◌+◌, ◌++◌, ◌∷◌, ℕ, [], length, true, false, None, Some, Err, IfErr, IfOk};
+ghost use Rattle.std.specs.Prelude.{◌≡◌, ◌≢◌, ◌≤◌, ◌<◌, ◌+◌, ◌++◌, ◌∷◌, ℕ, [], length, true, None, Some, Err, IfErr, IfOk, is_some};
 ghost use Rattle.std.specs.Prelude.{MatchBool, OnErr, OnOk};
 ghost use Rattle.locals.specs.Looks.{look};
 ghost use Rattle.locals.specs.Requests.{next_step_of};
 ghost use Rattle.locals.specs.Threads.{Thread};
 ghost use Rattle.machine.specs.ConcreteSteps.{can_move};
+ghost use Rattle.machine.specs.declared.event.Event.{Event as EventOf};
 ghost use Rattle.machine.specs.declared.event.StepFault.TheVariants.{CannotMove};
 ghost use Rattle.machine.specs.States.{state_of, thread_of};
 ghost use Rattle.machine.specs.Views.{concrete};
@@ -12,7 +13,7 @@ ghost use Rattle.piece_machine.specs.PieceConcrete.{PieceConcrete, piece_fault_a
 ghost use Rattle.piece_machine.specs.PieceDetermined.{IsFit};
 ghost use Rattle.piece_machine.specs.PieceViews.{GoesTo, parts};
 ghost use Rattle.runner.specs.Attempts.{AsksFirst, WantsIf, is_made};
-ghost use Rattle.runner.specs.Entries.{BreaksAfter, IsPlainIf, entry_end, taken_entry, event_if};
+ghost use Rattle.runner.specs.Entries.{BreaksAfter, entry_end, taken_entry, taken_event};
 ghost use Rattle.runner.specs.Logs.{EntersOwn, event_cost};
 ghost use Rattle.runner.specs.Reports.{IsHeldUp};
 ghost use Rattle.runner.specs.Walks.{Walked, LooksFrom};
@@ -20,26 +21,42 @@ ghost use Rattle.runner.specs.declared.attempt.Obstacle;
 
 use crate::attempt::{Attempt, Obstacle};
 use crate::calling::call_in;
-use crate::entering::event_if;
 use crate::fault::RunFault;
 use crate::stepping::is_local;
 use futexcalls::FutexPhase;
 use isa::Image;
-use locals::{Local, NextStep};
-use machine::{Event, EventName, Machine, StepFault};
+use locals::{Access, Local, NextStep};
+use machine::{Event, EventName, Machine, StepFault, access_name};
 use packed_log::PackedLog;
 use piece_machine::PieceMachine;
 use words::MOST_LOCAL_STEPS;
 
-/// An entry that a thread made in its place, whose event stands elsewhere.
+/// What comes behind the local steps of an entry that a thread made in its place.
+#[derive(Clone, Copy, PartialEq, Eq, Debug)]
+pub enum Behind {
+    /// No shared step.
+    Nothing,
+    /// This access to a word, as of most entries.
+    Accessed(Access),
+    /// Another shared step, whose event stands elsewhere.
+    Stepped,
+}
+
+/// An entry that a thread made in its place.
 #[derive(Clone, Copy, PartialEq, Eq, Debug)]
 pub struct Taken {
     /// How many local steps it has.
     pub local: u32,
-    /// Whether a shared step comes behind them.
-    pub shared: bool,
-    /// Whether that is known to be an access to a word, which wakes and moves nobody.
-    pub access: bool,
+    /// What comes behind them.
+    pub behind: Behind,
+}
+
+/// Whether a shared step comes behind the local steps.
+#[inline(always)]
+pub fn is_shared(behind: Behind) -> bool
+    ensures { (event : EventOf) → result ≡ is_some (taken_event behind event) }
+{
+    !matches!(behind, Behind::Nothing)
 }
 
 /// What came of the try of an entry that was made in its place.
@@ -47,7 +64,7 @@ pub struct Taken {
 pub fn attempt_of(taken: Taken, event: &Event) -> Attempt
     ensures { is_made result ≡ true }
 {
-    if taken.shared && !taken.access && event.name == EventName::FutexLock {
+    if matches!(taken.behind, Behind::Stepped) && event.name == EventName::FutexLock {
         Attempt::Took(event.value)
     } else {
         Attempt::Made
@@ -58,14 +75,15 @@ pub fn attempt_of(taken: Taken, event: &Event) -> Attempt
 /// shared step, if it has one.
 #[inline(always)]
 pub fn push_taken(log: &mut PackedLog, t: u32, taken: Taken, event: &Event)
-    requires room { 1 ≤ log.old.room }
-    requires access { IsPlainIf taken event.now }
+    requires { 1 ≤ log.old.room }
     ensures { log.new.items ≡ log.old.items ++ taken_entry t taken event.now ∷ [] }
 {
-    if taken.access {
-        log.push_plain(t, taken.local, event.name, event.value);
-    } else {
-        log.push_parts(t, taken.local, event_if(taken.shared, event));
+    match taken.behind {
+        Behind::Nothing => log.push_parts(t, taken.local, None),
+        Behind::Accessed(access) => {
+            log.push_plain(t, taken.local, access_name(access.kind), access.value);
+        }
+        Behind::Stepped => log.push_parts(t, taken.local, Some(event)),
     }
 }
 
@@ -84,24 +102,17 @@ pub fn take_entry(
     requires room { 1 ≤ machine.old.view.room }
     ensures enters { EntersOwn machine.old.view.program (parts machine.old) (taken_entry t result.0 event.new)
         (parts machine.new) }
-    ensures access { IsPlainIf result.0 event.new }
     ensures turn { result.0.local ≤ most_local_steps }
-    ensures goes { OnOk result.1 (1 ≤ result.0.local + event_cost (event_if result.0.shared event.new)) }
+    ensures goes { OnOk result.1 (1 ≤ result.0.local + event_cost (taken_event result.0.behind event.new)) }
     ensures breaks { IfErr result.1
         (λ fault. (fault ≡ RunFault.Broken)
         × BreaksAfter machine.old.view.program (parts machine.old) t result.0.local) }
     ensures program { machine.new.view.program ≡ machine.old.view.program }
 {
     let local = machine.run_local(t, MOST_LOCAL_STEPS);
-    if machine.access(t, event) {
-        return (
-            Taken {
-                local,
-                shared: true,
-                access: true,
-            },
-            Ok(()),
-        );
+    if let Some(access) = machine.access(t) {
+        let behind = Behind::Accessed(access);
+        return (Taken { local, behind }, Ok(()));
     }
     let next = machine.machine().next_step(t);
     end_entry(machine, t, local, &next, event)
@@ -123,10 +134,9 @@ pub fn take_if_free(
     requires room { 1 ≤ machine.old.view.room }
     ensures enters { IfOk result (λ taken. EntersOwn machine.old.view.program (parts machine.old)
         (taken_entry t taken.0 event.new) (parts machine.new)) }
-    ensures access { IfOk result (λ taken. IsPlainIf taken.0 event.new) }
     ensures turn { IfOk result (λ taken. taken.0.local ≤ most_local_steps) }
     ensures goes { IfOk result (λ taken. OnOk taken.1
-        (1 ≤ taken.0.local + event_cost (event_if taken.0.shared event.new))) }
+        (1 ≤ taken.0.local + event_cost (taken_event taken.0.behind event.new))) }
     ensures breaks { IfOk result (λ taken. IfErr taken.1
         (λ fault. (fault ≡ RunFault.Broken)
         × BreaksAfter machine.old.view.program (parts machine.old) t taken.0.local)) }
@@ -139,11 +149,10 @@ pub fn take_if_free(
         return Ok(take_entry(machine, t, event));
     }
     // No held bucket is in the way of an access to a word.
-    if machine.access(t, event) {
+    if let Some(access) = machine.access(t) {
         let taken = Taken {
             local: 0,
-            shared: true,
-            access: true,
+            behind: Behind::Accessed(access),
         };
         return Ok((taken, Ok(())));
     }
@@ -165,10 +174,9 @@ fn take_ahead(
     requires room { 1 ≤ machine.old.view.room }
     ensures enters { IfOk result (λ taken. EntersOwn machine.old.view.program (parts machine.old)
         (taken_entry t taken.0 event.new) (parts machine.new)) }
-    ensures access { IfOk result (λ taken. IsPlainIf taken.0 event.new) }
     ensures turn { IfOk result (λ taken. taken.0.local ≤ most_local_steps) }
     ensures goes { IfOk result (λ taken. OnOk taken.1
-        (1 ≤ taken.0.local + event_cost (event_if taken.0.shared event.new))) }
+        (1 ≤ taken.0.local + event_cost (taken_event taken.0.behind event.new))) }
     ensures breaks { IfOk result (λ taken. IfErr taken.1
         (λ fault. (fault ≡ RunFault.Broken)
         × BreaksAfter machine.old.view.program (parts machine.old) t taken.0.local)) }
@@ -182,13 +190,9 @@ fn take_ahead(
         return Err(obstacle_of(machine, t, next));
     }
     catch_up(machine, t, local, ahead);
-    if machine.access(t, event) {
-        let taken = Taken {
-            local,
-            shared: true,
-            access: true,
-        };
-        return Ok((taken, Ok(())));
+    if let Some(access) = machine.access(t) {
+        let behind = Behind::Accessed(access);
+        return Ok((Taken { local, behind }, Ok(())));
     }
     Ok(end_entry(machine, t, local, &next, event))
 }
@@ -277,11 +281,10 @@ fn end_entry(
         → next.now ≡ next_step_of (look machine.old.view.program t x) }
     requires room { 1 ≤ machine.old.view.room }
     ensures count { result.0.local ≡ local }
-    ensures other { result.0.access ≡ false }
     ensures enters { (k : PieceConcrete) → Walked machine.old.view.program k t local (parts machine.old)
         → EntersOwn machine.old.view.program k (taken_entry t result.0 event.new) (parts machine.new) }
     ensures goes { (k : PieceConcrete) → Walked machine.old.view.program k t local (parts machine.old)
-        → OnOk result.1 (1 ≤ result.0.local + event_cost (event_if result.0.shared event.new)) }
+        → OnOk result.1 (1 ≤ result.0.local + event_cost (taken_event result.0.behind event.new)) }
     ensures breaks { IfErr result.1 (λ fault. (k : PieceConcrete)
         (w : Walked machine.old.view.program k t local (parts machine.old))
         → (entry_end machine.old.view.program k t w.here ≢ Err CannotMove)
@@ -290,15 +293,14 @@ fn end_entry(
 {
     let mut taken = Taken {
         local,
-        shared: false,
-        access: false,
+        behind: Behind::Nothing,
     };
     if is_local(next) {
         return (taken, Ok(()));
     }
     match machine.step_as(t, *next, event) {
         Ok(()) => {
-            taken.shared = true;
+            taken.behind = Behind::Stepped;
             (taken, Ok(()))
         }
         Err(_) => (taken, Err(RunFault::Broken)),

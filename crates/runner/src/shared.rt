@@ -21,7 +21,7 @@ ghost use Rattle.runner.specs.Views.{log_state};
 use crate::attempt::Attempt;
 use crate::entering::{enter, enter_kill, enter_outside, make_room};
 use crate::fault::RunFault;
-use crate::in_place::{attempt_of, push_taken, take_entry, take_if_free};
+use crate::in_place::{attempt_of, is_shared, push_taken, take_entry, take_if_free};
 use crate::naming::RunName;
 use crate::next::{After, Next};
 use crate::piece::Piece;
@@ -468,7 +468,7 @@ impl<J: RunName> Shared<J> {
         }
         let (taken, outcome) = take_entry(&mut self.machine, t, &mut self.event);
         push_taken(&mut self.log, t, taken, &self.event);
-        self.steps += taken.local + u32::from(taken.shared);
+        self.steps += taken.local + u32::from(is_shared(taken.behind));
         share.count_one(&mut self.book);
         outcome
     }
@@ -502,7 +502,7 @@ impl<J: RunName> Shared<J> {
             Err(obstacle) => Ok(obstacle.attempt()),
             Ok((taken, outcome)) => {
                 push_taken(&mut self.log, t, taken, &self.event);
-                self.steps += taken.local + u32::from(taken.shared);
+                self.steps += taken.local + u32::from(is_shared(taken.behind));
                 share.count_one(&mut self.book);
                 let attempt = attempt_of(taken, &self.event);
                 outcome.and(Ok(attempt))

@@ -1,6 +1,9 @@
 use Rattle.std.proofs.Common.{◌≡◌, true, None, Ok, Err, ap, ◌∙◌, sym, subst}
 use Rattle.locals.specs.Looks.{look}
+use Rattle.machine.specs.Accessing.{told_access}
+use Rattle.machine.specs.ConcreteServing.{plain}
 use Rattle.machine.specs.ConcreteSteps.{can_move}
+use Rattle.machine.specs.declared.event.EventName.{EventName}
 use Rattle.machine.specs.Views.{concrete}
 use Rattle.piece_machine.specs.PieceConcrete.{piece_of}
 use Rattle.piece_machine.specs.PieceViews.{PieceView as MachineView, parts}
@@ -17,29 +20,32 @@ access-requires c =
     (moves_there m.view.program (concrete m.view) c.args.t c.requires.goes.count c.requires.goes.origin c.args.here.now
     c.requires.thread c.requires.goes.stands c.requires.goes.goes)
 
-pub returns-then-access-clause-gives : goal.returns-then-access-clause-gives
-returns-then-access-clause-gives c =
+pub returns-in-Some-clause-gives : goal.returns-in-Some-clause-gives
+returns-in-Some-clause-gives c =
+    let told : c.put.new.event ≡ told_access c.in-Some.access =
+    c.put.ensures ∙ ap (λ (n : EventName). plain n c.in-Some.access.value) c.access_name.ensures in
     step_end c.args.machine.now.view.program (parts c.args.machine.now) c.args.t c.args.here.now
-    (parts c.access.new.self) c.access.new.event
+    (parts c.access.new.self) c.put.new.event
     (c.if-turn.ensures (look c.args.machine.now.view.program c.args.t c.args.here.now) c.requires.next)
-    (subst (λ (m : MachineView). piece_of m.view.program (parts m) c.args.t ≡ Ok (parts c.access.new.self, c.access.new.event))
-    c.copy_local.ensures c.if-access.ensures.made.0)
+    (subst (λ (m : MachineView). piece_of m.view.program (parts m) c.args.t ≡ Ok (parts c.access.new.self, c.put.new.event))
+    c.copy_local.ensures
+    (c.in-Some.ensures.made.0 ∙ (λ i. Ok (parts c.access.new.self, sym told i))))
 
 -- where it makes no access, nothing has changed
 pub step_as-requires-clause-thread : goal.step_as-requires-clause-thread
 step_as-requires-clause-thread c =
     put_made c.args.machine.now c.access.new.self c.args.t c.requires.goes.origin c.args.here.now
-    c.requires.goes.stands (c.if-access.ensures.made.0 ∙ c.copy_local.ensures)
+    c.requires.goes.stands (c.in_default.ensures.made.0 ∙ c.copy_local.ensures)
 
 pub step_as-requires-clause-awake : goal.step_as-requires-clause-awake
 step_as-requires-clause-awake c =
     put_awake c.args.machine.now c.access.new.self c.args.t c.args.here.now c.requires.thread
-    (c.if-access.ensures.made.0 ∙ c.copy_local.ensures)
+    (c.in_default.ensures.made.0 ∙ c.copy_local.ensures)
 
 pub step_as-requires-clause-next : goal.step_as-requires-clause-next
 step_as-requires-clause-next c =
     λ x at. put_next c.args.machine.now c.access.new.self c.args.t c.requires.goes.origin c.args.here.now x c.args.next.now
-    c.requires.goes.stands (c.if-access.ensures.made.0 ∙ c.copy_local.ensures) c.requires.next at
+    c.requires.goes.stands (c.in_default.ensures.made.0 ∙ c.copy_local.ensures) c.requires.next at
 
 pub returns-clause-gives : goal.returns-clause-gives
 returns-clause-gives c =
@@ -47,7 +53,7 @@ returns-clause-gives c =
     (parts c.step_as.new.self) c.step_as.new.event
     (c.if-turn.ensures (look c.args.machine.now.view.program c.args.t c.args.here.now) c.requires.next)
     (subst (λ (m : MachineView). piece_of m.view.program (parts m) c.args.t ≡ Ok (parts c.step_as.new.self, c.step_as.new.event))
-    (c.if-access.ensures.made.0 ∙ c.copy_local.ensures) c.in-Ok.ensures.done)
+    (c.in_default.ensures.made.0 ∙ c.copy_local.ensures) c.in-Ok.ensures.done)
 
 pub returns-then-turn-clause-gives : goal.returns-then-turn-clause-gives
 returns-then-turn-clause-gives c =
@@ -61,4 +67,4 @@ unreachable-requires c =
     c.requires.fine
     (c.if-turn.ensures (look c.args.machine.now.view.program c.args.t c.args.here.now) c.requires.next)
     (subst (λ (m : MachineView). piece_of m.view.program (parts m) c.args.t ≡ Err c.in-Err.field-0)
-    (c.if-access.ensures.made.0 ∙ c.copy_local.ensures) c.in-Err.ensures.err.0)
+    (c.in_default.ensures.made.0 ∙ c.copy_local.ensures) c.in-Err.ensures.err.0)

@@ -1,6 +1,7 @@
 -- It goes on ahead of the machine first.
 use Rattle.std.proofs.Common.{◌∙◌, Some, ap, arith, refl, subst, sym}
 use Rattle.isa.specs.Programs.{Program}
+use Rattle.machine.specs.Accessing.{told_access}
 use Rattle.piece_machine.specs.PieceViews.{PieceView as MachineView, parts}
 use Rattle.runner.specs.Entries.{BreaksAfter, entry_end, taken_entry}
 use Rattle.runner.specs.Logs.{EntersOwn}
@@ -32,8 +33,8 @@ access-requires c =
     (walked_after m new c.args.t n s.result.1 s.new.ahead c.requires.thread l c.catch_up.ensures.some
     c.catch_up.ensures.none)
 
-pub returns-then-access-clause-enters : goal.returns-then-access-clause-enters
-returns-then-access-clause-enters c =
+pub returns-in-Some-clause-enters : goal.returns-in-Some-clause-enters
+returns-in-Some-clause-enters c =
     let m = c.args.machine.now in
     let s = c.look_ahead-local in
     let n = s.result.0 in
@@ -44,14 +45,14 @@ returns-then-access-clause-enters c =
     let w = walked_as m.view.program new.view.program (parts m) (parts new) c.args.t n same
     (walked_after m new c.args.t n s.result.1 s.new.ahead c.requires.thread l c.catch_up.ensures.some
     c.catch_up.ensures.none) in
-    let made = c.if-access.ensures.made in
-    subst (λ (q : Program). EntersOwn q (parts m) (entry c.args.t n (Some c.access.new.event)) (parts c.access.new.self))
+    let made = c.in-Some.ensures.made in
+    subst (λ (q : Program). EntersOwn q (parts m) (entry c.args.t n (Some (told_access c.in-Some.access))) (parts c.access.new.self))
     same
-    (step_enters new.view.program (parts m) (parts new) (parts c.access.new.self) c.args.t n c.access.new.event w
+    (step_enters new.view.program (parts m) (parts new) (parts c.access.new.self) c.args.t n (told_access c.in-Some.access) w
     (made.1 w.here (walked_there new.view.program (parts m) (parts new) c.args.t n w)) made.0)
 
-pub returns-then-access-clause-turn : goal.returns-then-access-clause-turn
-returns-then-access-clause-turn c =
+pub returns-in-Some-clause-turn : goal.returns-in-Some-clause-turn
+returns-in-Some-clause-turn c =
     let m = c.args.machine.now in
     let s = c.look_ahead-local in
     let n = s.result.0 in
@@ -67,7 +68,7 @@ end_entry-requires-clause-thread c =
     let l = looked m.view c.machine.result.now c.args.t n s.result.1 s.new.ahead c.machine.ensures.shows c.requires.thread
     s.ensures in
     let new = c.access.new.self in
-    let still = c.if-access.ensures.made.0 in
+    let still = c.in_default.ensures.made.0 in
     let w = walked_after m new c.args.t n s.result.1 s.new.ahead c.requires.thread l (λ l. ap (λ (q : MachineView). parts q) still ∙ c.catch_up.ensures.some l)
     (λ e. still ∙ c.catch_up.ensures.none e) in
     walked_made m.view.program (parts m) (parts new) c.args.t n w
@@ -80,7 +81,7 @@ end_entry-requires-clause-awake c =
     let l = looked m.view c.machine.result.now c.args.t n s.result.1 s.new.ahead c.machine.ensures.shows c.requires.thread
     s.ensures in
     let new = c.access.new.self in
-    let still = c.if-access.ensures.made.0 in
+    let still = c.in_default.ensures.made.0 in
     let w = walked_after m new c.args.t n s.result.1 s.new.ahead c.requires.thread l (λ l. ap (λ (q : MachineView). parts q) still ∙ c.catch_up.ensures.some l)
     (λ e. still ∙ c.catch_up.ensures.none e) in
     walked_awake m.view.program (parts m) (parts new) c.args.t n w
@@ -93,7 +94,7 @@ end_entry-requires-clause-next c =
     let l = looked m.view c.machine.result.now c.args.t n s.result.1 s.new.ahead c.machine.ensures.shows c.requires.thread
     s.ensures in
     let new = c.access.new.self in
-    let still = c.if-access.ensures.made.0 in
+    let still = c.in_default.ensures.made.0 in
     let w = walked_after m new c.args.t n s.result.1 s.new.ahead c.requires.thread l (λ l. ap (λ (q : MachineView). parts q) still ∙ c.catch_up.ensures.some l)
     (λ e. still ∙ c.catch_up.ensures.none e) in
     λ x at. next_there m.view.program new.view.program (parts m) (parts new) c.args.t n x s.result.1
@@ -133,7 +134,7 @@ returns-clause-enters c =
     let l = looked m.view c.machine.result.now c.args.t n s.result.1 s.new.ahead c.machine.ensures.shows c.requires.thread
     s.ensures in
     let new = c.access.new.self in
-    let still = c.if-access.ensures.made.0 in
+    let still = c.in_default.ensures.made.0 in
     let w = walked_after m new c.args.t n s.result.1 s.new.ahead c.requires.thread l (λ l. ap (λ (q : MachineView). parts q) still ∙ c.catch_up.ensures.some l)
     (λ e. still ∙ c.catch_up.ensures.none e) in
     subst (λ (q : Program). EntersOwn q (parts m) (taken_entry c.args.t c.end_entry.result.0 c.end_entry.new.event)
@@ -150,7 +151,7 @@ returns-clause-goes c =
     let l = looked m.view c.machine.result.now c.args.t n s.result.1 s.new.ahead c.machine.ensures.shows c.requires.thread
     s.ensures in
     let new = c.access.new.self in
-    let still = c.if-access.ensures.made.0 in
+    let still = c.in_default.ensures.made.0 in
     let w = walked_after m new c.args.t n s.result.1 s.new.ahead c.requires.thread l (λ l. ap (λ (q : MachineView). parts q) still ∙ c.catch_up.ensures.some l)
     (λ e. still ∙ c.catch_up.ensures.none e) in
     c.end_entry.ensures.goes (parts m)
@@ -164,7 +165,7 @@ returns-clause-breaks c =
     let l = looked m.view c.machine.result.now c.args.t n s.result.1 s.new.ahead c.machine.ensures.shows c.requires.thread
     s.ensures in
     let new = c.access.new.self in
-    let still = c.if-access.ensures.made.0 in
+    let still = c.in_default.ensures.made.0 in
     let w = walked_after m new c.args.t n s.result.1 s.new.ahead c.requires.thread l (λ l. ap (λ (q : MachineView). parts q) still ∙ c.catch_up.ensures.some l)
     (λ e. still ∙ c.catch_up.ensures.none e) in
     let same = (ap (λ (q : MachineView). q.view.program) still ∙ c.catch_up.ensures.program) in

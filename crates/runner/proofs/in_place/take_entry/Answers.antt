@@ -6,6 +6,7 @@ use Rattle.locals.specs.Requests.{next_step_of}
 use Rattle.locals.specs.Threads.{Thread}
 use Rattle.machine.specs.States.{thread_of}
 use Rattle.machine.specs.Views.{View, concrete}
+use Rattle.machine.specs.Accessing.{told_access}
 use Rattle.piece_machine.specs.PieceViews.{PieceView as MachineView, parts}
 use Rattle.runner.specs.Entries.{BreaksAfter, taken_entry}
 use Rattle.runner.specs.Logs.{EntersOwn}
@@ -15,8 +16,8 @@ use Rattle.runner.proofs.Walking.{if_err, step_enters, walk_waits, walked_as, wa
 use Rattle.runner.proofs.Walking.{walked_still, walked_there}
 use Rattle.runner.proofs.in_place.take_entry.Goals as goal
 
-pub returns-then-access-clause-enters : goal.returns-then-access-clause-enters
-returns-then-access-clause-enters c =
+pub returns-in-Some-clause-enters : goal.returns-in-Some-clause-enters
+returns-in-Some-clause-enters c =
     let old = c.args.machine.now in
     let mid = c.run_local-local.new.self in
     let n = c.run_local-local.result in
@@ -24,10 +25,10 @@ returns-then-access-clause-enters c =
     let w = walked_on old mid c.args.t n c.requires.thread c.run_local-local.ensures.runs
     c.run_local-local.ensures.phases in
     let w' = walked_as old.view.program mid.view.program (parts old) (parts mid) c.args.t n same w in
-    let made = c.if-access.ensures.made in
-    subst (λ (q : Program). EntersOwn q (parts old) (entry c.args.t n (Some c.access.new.event))
+    let made = c.in-Some.ensures.made in
+    subst (λ (q : Program). EntersOwn q (parts old) (entry c.args.t n (Some (told_access c.in-Some.access)))
     (parts c.access.new.self)) same
-    (step_enters mid.view.program (parts old) (parts mid) (parts c.access.new.self) c.args.t n c.access.new.event w'
+    (step_enters mid.view.program (parts old) (parts mid) (parts c.access.new.self) c.args.t n (told_access c.in-Some.access) w'
     (made.1 w'.here (walked_there mid.view.program (parts old) (parts mid) c.args.t n w')) made.0)
 
 pub end_entry-requires-clause-thread : goal.end_entry-requires-clause-thread
@@ -35,7 +36,7 @@ end_entry-requires-clause-thread c =
     let old = c.args.machine.now in
     let mid = c.run_local-local.new.self in
     let new = c.access.new.self in
-    let still = c.if-access.ensures.made.0 in
+    let still = c.in_default.ensures.made.0 in
     walked_made old.view.program (parts old) (parts new) c.args.t c.run_local-local.result
     (walked_still old mid new c.args.t c.run_local-local.result c.requires.thread c.run_local-local.ensures.runs
     c.run_local-local.ensures.phases still)
@@ -45,7 +46,7 @@ end_entry-requires-clause-awake c =
     let old = c.args.machine.now in
     let mid = c.run_local-local.new.self in
     let new = c.access.new.self in
-    let still = c.if-access.ensures.made.0 in
+    let still = c.in_default.ensures.made.0 in
     walked_awake old.view.program (parts old) (parts new) c.args.t c.run_local-local.result
     (walked_still old mid new c.args.t c.run_local-local.result c.requires.thread c.run_local-local.ensures.runs
     c.run_local-local.ensures.phases still)
@@ -61,7 +62,7 @@ returns-clause-enters c =
     let old = c.args.machine.now in
     let mid = c.run_local-local.new.self in
     let new = c.access.new.self in
-    let still = c.if-access.ensures.made.0 in
+    let still = c.in_default.ensures.made.0 in
     let same = ap (λ (m : MachineView). m.view.program) still
     ∙ ap (λ (w : View). w.program) c.run_local-local.ensures.runs.after in
     let w = walked_still old mid new c.args.t c.run_local-local.result c.requires.thread c.run_local-local.ensures.runs
@@ -76,7 +77,7 @@ returns-clause-goes c =
     let old = c.args.machine.now in
     let mid = c.run_local-local.new.self in
     let new = c.access.new.self in
-    let still = c.if-access.ensures.made.0 in
+    let still = c.in_default.ensures.made.0 in
     let same = ap (λ (m : MachineView). m.view.program) still
     ∙ ap (λ (w : View). w.program) c.run_local-local.ensures.runs.after in
     let w = walked_still old mid new c.args.t c.run_local-local.result c.requires.thread c.run_local-local.ensures.runs
@@ -89,7 +90,7 @@ returns-clause-breaks c =
     let old = c.args.machine.now in
     let mid = c.run_local-local.new.self in
     let new = c.access.new.self in
-    let still = c.if-access.ensures.made.0 in
+    let still = c.in_default.ensures.made.0 in
     let p = old.view.program in
     let n = c.run_local-local.result in
     let same = ap (λ (m : MachineView). m.view.program) still

@@ -1,7 +1,7 @@
 -- What the thread did is done on the machine; what always holds is kept, and the bits are right.
 use Rattle.std.proofs.Common.{◌≡◌, ◌-◌, length, slice_set, true, Some, ap, ◌∙◌, subst}
-use Rattle.std.specs.Prelude.{MatchBool}
-use Rattle.machine.specs.Accessing.{HasNoAccess, MakesAccess}
+use Rattle.std.specs.Prelude.{MatchOption}
+use Rattle.machine.specs.Accessing.{HasNoAccess, MakesAccess, told_access}
 use Rattle.machine.specs.States.{ConcreteState, thread_of}
 use Rattle.machine.specs.ConcreteSteps.{can_move}
 use Rattle.machine.specs.Views.{View, concrete, parts_of}
@@ -20,7 +20,7 @@ invariant_of-self c =
     let stands : thread_of k c.args.t ≡ Some x =
     stands_at k.threads c.args.t x x made.0 made.1 c.index_mut-local.ensures.value in
     let r = access_keeps c.self.inside.image c.self.inside.common c.take_access.new.shared k.threads c.args.t x
-    c.take_access.new.local c.take_access.new.event c.take_access.result c.self.inside.able.words made.0 stands moves
+    c.take_access.new.local c.take_access.result c.self.inside.able.words made.0 stands moves
     c.self.invariant.0 c.self.invariant.2 c.take_access.ensures.access c.take_access.ensures.none
     c.take_access.ensures.lives in
     (r.0, c.self.invariant.1, r.1)
@@ -42,21 +42,21 @@ returns c =
     let stands : thread_of (concrete v) c.args.t ≡ Some x =
     stands_at v.threads c.args.t x x made.0 made.1 c.index_mut-local.ensures.value in
     let after = c.take_access.new.shared in
-    subst (λ (q : View). MatchBool c.take_access.result (MakesAccess q c.args.t c.take_access.new.event (record {
+    subst (λ (q : View). MatchOption c.take_access.result ((record {
       program = c.self.inside.image;
       words = after.words;
       sleepers = after.sleepers;
       threads = slice_set v.threads (c.args.t - 1) c.take_access.new.local;
       output = after.output;
       room = after.capacity - length after.output;
-    })) ((record {
+    } ≡ q) × HasNoAccess q c.args.t) (λ told. MakesAccess q c.args.t (told_access told) (record {
       program = c.self.inside.image;
       words = after.words;
       sleepers = after.sleepers;
       threads = slice_set v.threads (c.args.t - 1) c.take_access.new.local;
       output = after.output;
       room = after.capacity - length after.output;
-    } ≡ q) × HasNoAccess q c.args.t)) c.self.view_is
+    }))) c.self.view_is
     (access_returns c.self.inside.image c.self.inside.common after v.threads c.args.t x c.take_access.new.local
-    c.take_access.new.event c.take_access.result made.0 stands c.take_access.ensures.access
+    c.take_access.result made.0 stands c.take_access.ensures.access
     c.take_access.ensures.none)

@@ -6,7 +6,8 @@ use Rattle.runner.specs.Logs.{cost}
 use Rattle.runner.specs.Entries.{taken_entry}
 use Rattle.machine.specs.ConcreteSteps.{can_move}
 use Rattle.runner.specs.Views.{SharedView, log_state}
-use Rattle.runner.proofs.Growing.{breaks_can, is_shared, keeps_entry}
+use mir.Val.{bool_byte}
+use Rattle.runner.proofs.Growing.{breaks_can, keeps_entry}
 use Rattle.runner.proofs.shared.Shared.go_on.Goals as goal
 
 pub invariant_of-self-2 : goal.invariant_of-self-2
@@ -24,7 +25,7 @@ invariant_of-self-2 g c =
           (parts e.new.machine) s.log.items m.new.log.items c.push_taken.new.log.items entry s.steps
           s.limit s.kills c.from.result
           c.self.invariant.0 room m.ensures.program m.ensures.same.0 m.ensures.same.1 e.ensures.program
-          e.ensures.enters e.ensures.turn c.push_taken.ensures (c.from.ensures ∙ is_shared e.result.0.shared e.new.event),
+          e.ensures.enters e.ensures.turn c.push_taken.ensures (c.from.ensures ∙ ap bool_byte (c.is_shared.ensures e.new.event)),
       record {
         total = omega (
           arith,

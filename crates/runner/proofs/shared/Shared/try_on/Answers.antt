@@ -9,7 +9,8 @@ use Rattle.runner.specs.Views.{SharedView, log_state}
 use Rattle.runner.specs.Reports.{CanFail}
 use Rattle.runner.specs.declared.attempt.Attempt.{Attempt}
 use Rattle.runner.specs.Attempts.{HasEntered, TriedSo}
-use Rattle.runner.proofs.Growing.{breaks_can, is_shared, keeps_entry}
+use mir.Val.{bool_byte}
+use Rattle.runner.proofs.Growing.{breaks_can, keeps_entry}
 use Rattle.runner.proofs.Noting.{made_so, wants_at}
 use Rattle.runner.proofs.Walking.{and_err}
 use Rattle.runner.proofs.Wanting.{and_ok, entered_so}
@@ -31,7 +32,7 @@ invariant_of-self-in-Ok g c =
           (parts e.new.machine) s.log.items m.new.log.items c.push_taken.new.log.items entry s.steps
           s.limit s.kills c.from.result
           c.self.invariant.0 room m.ensures.program m.ensures.same.0 m.ensures.same.1 c.in-Ok.ensures.program
-          c.in-Ok.ensures.enters c.in-Ok.ensures.turn c.push_taken.ensures (c.from.ensures ∙ is_shared taken.shared e.new.event),
+          c.in-Ok.ensures.enters c.in-Ok.ensures.turn c.push_taken.ensures (c.from.ensures ∙ ap bool_byte (c.is_shared.ensures e.new.event)),
       record {
         total = omega (
           arith,
