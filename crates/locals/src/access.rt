@@ -63,7 +63,7 @@ impl Activation {
         }
     }
 
-    #[inline]
+    #[inline(always)]
     fn load(&mut self, words: &Mem) -> Option<Access>
         requires { self.old.place < most_instructions }
         ensures { Accessed result (looks 0 0 (Some Load) self.old) words.now self.old words.now self.new }
@@ -80,7 +80,7 @@ impl Activation {
         })
     }
 
-    #[inline]
+    #[inline(always)]
     fn store(&mut self, words: &mut Mem) -> Option<Access>
         requires { self.old.place < most_instructions }
         ensures { Accessed result (looks 0 0 (Some Store) self.old) words.old self.old words.new self.new }
@@ -99,7 +99,7 @@ impl Activation {
         })
     }
 
-    #[inline]
+    #[inline(always)]
     fn swap(&mut self, words: &mut Mem) -> Option<Access>
         requires { self.old.place < most_instructions }
         ensures { Accessed result (looks 0 0 (Some Swap) self.old) words.old self.old words.new self.new }
@@ -117,7 +117,7 @@ impl Activation {
         })
     }
 
-    #[inline]
+    #[inline(always)]
     fn compare_swap(&mut self, words: &mut Mem) -> Option<Access>
         requires { self.old.place < most_instructions }
         ensures { Accessed result (looks 0 0 (Some CompareSwap) self.old) words.old self.old words.new self.new }
@@ -135,7 +135,7 @@ impl Activation {
         })
     }
 
-    #[inline]
+    #[inline(always)]
     fn fetch_or(&mut self, words: &mut Mem) -> Option<Access>
         requires { self.old.place < most_instructions }
         ensures { Accessed result (looks 0 0 (Some FetchOr) self.old) words.old self.old words.new self.new }
@@ -153,7 +153,7 @@ impl Activation {
         })
     }
 
-    #[inline]
+    #[inline(always)]
     fn fetch_add(&mut self, words: &mut Mem) -> Option<Access>
         requires { self.old.place < most_instructions }
         ensures { Accessed result (looks 0 0 (Some FetchAdd) self.old) words.old self.old words.new self.new }
@@ -172,7 +172,7 @@ impl Activation {
     }
 
     // Puts the answer in the place of so many operands, and goes on behind the instruction.
-    #[inline]
+    #[inline(always)]
     fn answer_access(&mut self, operands: usize, answer: u32)
         requires place { self.old.place < most_instructions }
         requires some { (0 < operands) × (operands ≤ length self.old.operands) }

@@ -1,13 +1,14 @@
 use robustexit::ExitPhase;
 use words::Fault;
 
-/// What came of the next step of a thread, taken where it is a local one.
+/// What came of the next step of a thread, taken where it is a local one. Its one number has room in a register beside
+/// its kind; with a fault in it, it would go through memory at each step.
 #[derive(Clone, Copy, PartialEq, Eq, Debug)]
 pub enum Progress {
     /// The step was taken, and the next instruction is at this place. It isn't in the activation yet.
     Went(u32),
-    /// The step was taken, and failed.
-    Failed(Fault),
+    /// The step was taken, and failed. The fault stands beside it.
+    Failed,
     /// The next step is no local one, so none was taken.
     Stayed,
 }

@@ -1,5 +1,5 @@
 ghost use Rattle.std.specs.Prelude.{◌≡◌, ◌+◌, ◌<◌, ◌≤◌, ◌==◌, [], ◌∷◌, drop, length, reverse, take, nat_lt};
-ghost use Rattle.std.specs.Prelude.{slice_get, IfSome, IfNone};
+ghost use Rattle.std.specs.Prelude.{slice_get, IfSome, IfNone, option_copied};
 
 use arrayvec::ArrayVec;
 use std::marker::Model;
@@ -49,16 +49,15 @@ impl<T: Copy + Default + Drop, const N: usize> Stack<T, N> {
         }
     }
 
-    /// Becomes a copy of another, in its place.
+    /// Becomes a copy of another, in its place. As many items as it has are written over, and not taken off first.
     pub fn copy_from(&mut self, other: &Stack<T, N>)
         ensures { self.new ≡ other.now }
     {
-        self.items.clear();
-        if self
-            .items
-            .try_extend_from_slice(other.items.as_slice())
-            .is_err()
-        {
+        let from = other.items.as_slice();
+        let kept = self.items.len().min(from.len());
+        self.items.truncate(kept);
+        self.items.as_mut_slice().copy_from_slice(&from[..kept]);
+        if self.items.try_extend_from_slice(&from[kept..]).is_err() {
             unreachable!()
         }
     }
@@ -91,6 +90,13 @@ impl<T: Copy + Default + Drop, const N: usize> Stack<T, N> {
         ensures some { IfSome result (λ item. self.now ≡ item ∷ drop 1 self.now) }
     {
         self.below_top(0)
+    }
+
+    /// The top item, where it stands.
+    pub fn top_in_place(&self) -> Option<&T>
+        ensures { option_copied result ≡ slice_get self.now 0 }
+    {
+        self.items.as_slice().last()
     }
 
     /// The two uppermost items, the lower one first.

@@ -1,13 +1,10 @@
 -- An access that a thread makes in its place is its step.
-use Rattle.std.proofs.Common.{◌≡◌, ◌≢◌, ◌≤◌, ◌<◌, ◌-◌, ◌+◌, ◌%◌, ◌==◌, ◌∙◌, ℕ, Bool, true, false, List, Option, Some, None, Result, Ok, Err}
-use Rattle.std.proofs.Common.{zero, suc, [], ◌∷◌, slice_get, length, length-set, slice_set, refl, ap, sym, subst, arith, is_some, not, ◌||◌}
+use Rattle.std.proofs.Common.{◌≡◌, ◌≢◌, ◌≤◌, ◌-◌, ◌+◌, ◌%◌, ◌==◌, ◌∙◌, ℕ, Bool, true, false, List, Option, Some, None, Result, Ok, Err}
+use Rattle.std.proofs.Common.{zero, suc, [], ◌∷◌, slice_get, length, length-set, slice_set, refl, ap, sym, subst, arith, not, ◌||◌}
 use Rattle.std.specs.Prelude.{MatchBool, if◌then◌else◌, nat_lt, slice_index}
 use Rattle.std.specs.Int.Bits.{bit_or}
 use Rattle.isa.specs.Programs.{Program}
-use Rattle.robustexit.specs.declared.phase.ExitPhase.{ExitPhase}
 use Rattle.robustexit.specs.declared.phase.ExitPhase.TheVariants.{Entry, Pending, ClearId, LastWake, Ended}
-use Rattle.locals.specs.declared.access.AccessKind.{AccessKind}
-use Rattle.locals.specs.declared.access.AccessKind.TheVariants as kind
 use Rattle.locals.specs.Accesses.{Found, Accessing, found, goes_on, accessing}
 use Rattle.locals.specs.Threads.{Thread, Runs, Dies, Exits}
 use Rattle.locals.specs.Looks.{Request, AskLoad, AskStore, AskSwap, AskCompareSwap, AskOr, AskAdd, AskFork, AskPrint}

@@ -1,14 +1,15 @@
 -- The least thread of a set from a number on.
 use Rattle.std.proofs.Common.{◌≡◌, ◌≢◌, ℕ, ◌+◌, ◌-◌, ◌*◌, ◌/◌, ◌%◌, ◌^◌, ◌<◌, ◌≤◌, true, false, eqb, Some, None, List}
-use Rattle.std.proofs.Common.{length, get_or, refl, ap, sym, ◌∙◌, arith, inl, inr}
+use Rattle.std.proofs.Common.{length, get_or, take, refl, ap, sym, ◌∙◌, arith, inl, inr, Option}
 use Rattle.std.proofs.Math.Nat.{mod-lt, mod-add-div, mul_comm, div-le_self}
 use Rattle.std.proofs.Math.ListN.{get_or-eq_default}
 use Rattle.std.proofs.lemmas.Bool.{cases_lt, eq-eqb, ne_eqb, both_ways}
+use Rattle.std.proofs.lemmas.List.{get_or-take, length-take}
 use Rattle.std.proofs.lemmas.Nat.{pow_pos}
 use Rattle.std.specs.Int.{bit_at, trailing_zeros, w64}
 use Rattle.std.proofs.lemmas.Nat.Bits.{bit_at-zero, bit_at_above, bit_at_cat_high, bit_at-trailing_zeros}
 use Rattle.machine.specs.declared.thread_set.ThreadSet.TheVariants.{Single, Several}
-use Rattle.machine.specs.ThreadSets.{has, IsLeastFrom}
+use Rattle.machine.specs.ThreadSets.{has, has_bit, IsLeastFrom}
 
 -- the bits of a number without its lowest ones
 shifted : (n low j : ℕ) → bit_at n (low + j) ≡ bit_at (n / 2 ^ low) j
@@ -123,3 +124,24 @@ inside_word n k small is = elim (cases_lt k 64) [
 pub some_inside : (n low : ℕ) → n < 18446744073709551616 → n / 2 ^ low ≢ 0
     → low + trailing_zeros w64 (n / 2 ^ low) < 64
 some_inside n low small some = inside_word n (low + trailing_zeros w64 (n / 2 ^ low)) small (some_from n low small some).1
+
+-- the first words of a set tell as much as all, where none is past them
+pub within : (words : List ℕ) (t last n : ℕ) (o : Option ℕ) → 1 ≤ t → last ≤ 64 * n
+    → ((u : ℕ) → last < u → has_bit words u ≡ false)
+    → IsLeastFrom (has_bit (take n words)) t o → IsLeastFrom (has_bit words) t o
+within words t last n o some far none least = whole o least
+  where
+    same : (u : ℕ) → 1 ≤ u → has_bit words u ≡ has_bit (take n words) u
+    same u le = elim (cases_lt ((u - 1) / 64) n) [
+      | inl there ↦ ap (λ w. eqb (bit_at w ((u - 1) % 64)) 1) (sym (get_or-take n words ((u - 1) / 64) 0 there))
+      | inr behind ↦
+          let short : length (take n words) ≤ n = omega (arith, length-take n words) in
+          none u (omega (arith, behind, far, le))
+          ∙ sym (ap (λ w. eqb (bit_at w ((u - 1) % 64)) 1)
+          (get_or-eq_default (take n words) 0 (omega (arith, short, behind)))
+          ∙ ap (λ w. eqb w 1) (bit_at-zero ((u - 1) % 64)))
+    ]
+
+    whole : (r : Option ℕ) → IsLeastFrom (has_bit (take n words)) t r → IsLeastFrom (has_bit words) t r
+    whole None h = λ u le. same u (omega (arith, some, le)) ∙ h u le
+    whole (Some k) h = (h.0, same k (omega (arith, some, h.0)) ∙ h.1, λ v le less. same v (omega (arith, some, le)) ∙ h.2 v le less)

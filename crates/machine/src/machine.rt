@@ -187,10 +187,11 @@ impl Machine {
     pub fn next_able(&self, from: u32) -> Option<u32>
         ensures { IsLeastFrom (can_move (concrete self.now)) from result }
     {
-        if from as usize > self.threads.len() {
+        let made = self.threads.len() as u32;
+        if from > made {
             return None;
         }
-        self.able.next_from(from.max(1))
+        self.able.next_within(from.max(1), made)
     }
 
     /// Whether no thread can move.

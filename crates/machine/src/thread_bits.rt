@@ -1,5 +1,5 @@
 //! Which threads can move, with a bit for each.
-ghost use Rattle.std.specs.Prelude.{◌≡◌, ◌≢◌, ◌≤◌, ◌+◌, ℕ, replicate};
+ghost use Rattle.std.specs.Prelude.{◌≡◌, ◌≢◌, ◌≤◌, ◌<◌, ℕ, false, replicate};
 ghost use Rattle.machine.specs.ThreadSets.{IsLeastFrom, IsMember, has_bit, most_members, with_turned};
 
 use crate::thread_set::{WORDS, has_bit, least_from};
@@ -38,12 +38,15 @@ impl ThreadBits {
         }
     }
 
-    /// The least thread from `t` on, if there is one.
-    pub(crate) fn next_from(&self, t: u32) -> Option<u32>
-        requires { (1 ≤ t) × (t ≤ most_members + 1) }
+    /// The least thread from `t` on, if there is one. None is past `last`, so the words behind its own aren't looked at.
+    pub(crate) fn next_within(&self, t: u32, last: u32) -> Option<u32>
+        requires from { (1 ≤ t) × (t ≤ last) }
+        requires last { last ≤ most_members }
+        requires none { (u : ℕ) → last < u → has_bit self.now.words u ≡ false }
         ensures { IsLeastFrom (has_bit self.now.words) t result }
     {
-        least_from(&self.words, t)
+        let words = (last as usize).div_ceil(64);
+        least_from(&self.words[..words], t)
     }
 }
 

@@ -1,4 +1,4 @@
-ghost use Rattle.std.specs.Prelude.{◌≡◌, ◌≢◌, ◌<◌, ◌≤◌, ◌+◌, ◌==◌, [], MatchBool, IfSome, replicate};
+ghost use Rattle.std.specs.Prelude.{◌≡◌, ◌≢◌, ◌<◌, ◌≤◌, ◌+◌, ◌==◌, [], MatchBool, IfSome, length, replicate};
 ghost use Rattle.std.specs.List.{All};
 ghost use Rattle.std.specs.Int.{bit_at};
 ghost use Rattle.machine.specs.ThreadSets.{IsLeastFrom, most_members};
@@ -152,13 +152,14 @@ fn lowest_from(word: u64, low: u32) -> Option<u32>
     Some(low + left.trailing_zeros())
 }
 
-// The least thread from `t` on whose bit is set.
-pub(crate) fn least_from(words: &[u64; WORDS], t: u32) -> Option<u32>
-    requires { (1 ≤ t) × (t ≤ most_members + 1) }
+// The least thread from `t` on whose bit is set in these words, which are all of a set or the first ones.
+pub(crate) fn least_from(words: &[u64], t: u32) -> Option<u32>
+    requires words { length words.now ≤ 16 }
+    requires from { (1 ≤ t) × (t ≤ most_members + 1) }
     ensures { IsLeastFrom (has_bit words.now) t result }
 {
     let mut low = (t - 1) % 64;
-    for place in (t as usize - 1) / 64..WORDS {
+    for place in (t as usize - 1) / 64..words.len() {
         if let Some(k) = lowest_from(words[place], low) {
             return Some(64 * place as u32 + k + 1);
         }

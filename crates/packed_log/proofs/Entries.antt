@@ -7,6 +7,7 @@ use Rattle.std.proofs.lemmas.List.{get_or-append-add, length-map, map-append, ta
 use Rattle.std.proofs.lemmas.Option.{get_or_from_slice_get, slice_get-get_or, slice_get-map, slice_get_within}
 use Rattle.std.specs.Prelude.{option_map}
 use Rattle.std.proofs.Math.Seq.{get_or-append_seam}
+use Rattle.machine.specs.ConcreteServing.{plain}
 use Rattle.machine.specs.declared.event.Entry.{Entry}
 use Rattle.machine.specs.declared.event.EventName.{EventName}
 use Rattle.machine.specs.declared.thread_set.ThreadSet.TheVariants.{Single, Several}
@@ -123,6 +124,17 @@ pub pushed_wide : (entry : Entry) (heads : List ℕ) (wide : List WideHead) (set
 pushed_wide entry heads wide sets head is packed =
     one_more entry (heads_of heads wide) sets head (heads_of heads (wide ++ head ∷ [])) is packed
     (sym (append_assoc (map widened heads) wide (head ∷ [])))
+
+-- behind a step that woke and moved nobody the sets are as before
+pub pushed_plain : (t l : ℕ) (name : EventName) (value : ℕ) (heads : List WideHead) (sets : List ℕ)
+    (heads' : List WideHead)
+    → Pushed (record { thread = t; local = l; event = Some (plain name value) }) heads sets heads'
+    → (entries_of heads' sets ≡ entries_of heads sets ++ record { thread = t; local = l; event = Some (plain name value) } ∷ [])
+    × IsPacked heads' sets
+pushed_plain t l name value heads sets heads' h =
+    let entry : Entry = record { thread = t; local = l; event = Some (plain name value) } in
+    subst (λ (s : List ℕ). (entries_of heads' s ≡ entries_of heads sets ++ entry ∷ []) × IsPacked heads' s)
+    (append-nil sets) h
 
 -- the last of a list
 slice_get_last : (xs : List Entry) (x : Entry) → slice_get (xs ++ x ∷ []) (length (xs ++ x ∷ []) - 1) ≡ Some x

@@ -13,7 +13,7 @@ use Rattle.packed_log.specs.Packing.{wakes_in, moves_in, value_in, widened, word
 use Rattle.packed_log.specs.Views.{IsHeadOf, IsWhole, HasHead}
 
 -- the head of these parts
-abbrev of_parts : ℕ → ℕ → ℕ → ℕ → ℕ → ℕ → ℕ
+abbrev pub of_parts : ℕ → ℕ → ℕ → ℕ → ℕ → ℕ → ℕ
 of_parts t l k a b v = t + l * 1024 + k * 524288 + a * 16777216 + b * 67108864 + v * 268435456
 
 thread_of_parts : (t l k a b v : ℕ) → t < 1024 → of_parts t l k a b v % 1024 ≡ t

@@ -1,5 +1,6 @@
 //! The head of an entry, as the crate's page has its bits.
-ghost use Rattle.std.specs.Prelude.{◌≡◌, ◌+◌, ◌≤◌, length, take, drop, MatchBool, option_copied};
+ghost use Rattle.std.specs.Prelude.{◌≡◌, ◌+◌, ◌≤◌, Some, length, take, drop, MatchBool, option_copied};
+ghost use Rattle.machine.specs.ConcreteServing.{plain};
 ghost use Rattle.packed_log.specs.Packing.{entry_of, event_of, form_of as form_in, kind_in, name_of, set_at as set_in};
 ghost use Rattle.packed_log.specs.Packing.{sets_in, widened, words_of as words_in};
 ghost use Rattle.packed_log.specs.Views.{IsHeadOf, IsWhole, HasHead, Woke};
@@ -56,6 +57,15 @@ pub fn head_of(thread: u32, local: u32, event: Option<&Event>) -> u64
     }
 }
 
+/// The same where the shared step, of this kind and value, woke and moved nobody.
+#[inline(always)]
+pub fn plain_head(thread: u32, local: u32, name: EventName, value: u32) -> u64
+    requires { HasHead thread local }
+    ensures { IsHeadOf (record { thread = thread; local = local; event = Some (plain name value) }) (widened result) }
+{
+    u64::from(thread) + u64::from(local) * LOCAL + number_of(name) * KIND + u64::from(value) * VALUE
+}
+
 /// The head of any entry, with its thread and its local steps beside it.
 pub fn wide_head_of(thread: u32, local: u32, event: Option<&Event>) -> WideHead
     ensures { IsHeadOf (record { thread = thread; local = local; event = option_copied event.entry }) result }
@@ -64,6 +74,17 @@ pub fn wide_head_of(thread: u32, local: u32, event: Option<&Event>) -> WideHead
         thread,
         local,
         head: head_of(0, 0, event),
+    }
+}
+
+/// The same where the shared step, of this kind and value, woke and moved nobody.
+pub fn wide_plain_head(thread: u32, local: u32, name: EventName, value: u32) -> WideHead
+    ensures { IsHeadOf (record { thread = thread; local = local; event = Some (plain name value) }) result }
+{
+    WideHead {
+        thread,
+        local,
+        head: plain_head(0, 0, name, value),
     }
 }
 

@@ -1,9 +1,13 @@
-ghost use Rattle.std.specs.Prelude.{◌≡◌, ◌≢◌, ◌≤◌, ◌<◌, ◌+◌, ◌-◌, ◌^◌, ◌++◌, ◌∷◌, [], length, slice_get};
+ghost use Rattle.std.specs.Prelude.{◌≡◌, ◌≢◌, ◌≤◌, ◌<◌, ◌+◌, ◌-◌, ◌^◌, ◌++◌, ◌∷◌, [], length, slice_get, Some};
 ghost use Rattle.std.specs.Prelude.{OnOk, IfOk, MatchBool, is_ok, if◌then◌else◌, option_copied, vec_len, vec_capacity};
+ghost use Rattle.machine.specs.ConcreteServing.{plain};
 ghost use Rattle.packed_log.specs.Packing.{entries_of, heads_of, kept, sets_of};
 ghost use Rattle.packed_log.specs.Views.{IsPacked as IsPackedIn, Woke, step_of};
 
-use crate::head::{entry_at, has_head, head_of, sets_beside, wide_head_of, widen, woken_at};
+use crate::head::{
+    entry_at, has_head, head_of, plain_head, sets_beside, wide_head_of, wide_plain_head, widen,
+    woken_at,
+};
 use crate::reader::LogReader;
 use crate::wide_head::WideHead;
 use machine::{Entry, Event, EventName, ThreadSet};
@@ -124,6 +128,23 @@ impl PackedLog {
             self.heads.push_reserved(head_of(thread, local, event));
         } else {
             self.wide.push_reserved(wide_head_of(thread, local, event));
+        }
+    }
+
+    /// The same of a shared step, of this kind and value, that woke and moved nobody, as most do.
+    #[inline(always)]
+    pub fn push_plain(&mut self, thread: u32, local: u32, name: EventName, value: u32)
+        requires { 1 ≤ self.old.room }
+        ensures entries { self.new.items ≡ self.old.items
+            ++ record { thread = thread; local = local; event = Some (plain name value) } ∷ [] }
+        ensures room { self.old.room ≤ self.new.room + 1 }
+    {
+        if self.wide.is_empty() && has_head(thread, local) {
+            self.heads
+                .push_reserved(plain_head(thread, local, name, value));
+        } else {
+            self.wide
+                .push_reserved(wide_plain_head(thread, local, name, value));
         }
     }
 
@@ -303,6 +324,9 @@ mod tests {
         log.push_parts(5, 3, Some(&requeue()));
         assert_eq!(rt; log.len(), 6);
         assert_eq!(rt; log.last(), Some(entries[2]));
+        log.make_room()?;
+        log.push_plain(64, 0, EventName::Kill, 1);
+        assert_eq!(rt; log.last(), Some(entries[1]));
         assert!(rt; PackedLog::with_capacity(rt.alloc(), 6)?.is_empty());
         let mut reader = LogReader::of(&entries);
         assert_eq!(rt; reader.len(), 5);

@@ -1,6 +1,7 @@
 //! What threads of a machine in pieces do in their place: their local steps, and accesses to words.
 ghost use Rattle.std.specs.Prelude.{◌≡◌, ◌-◌, true, Ok, MatchBool, slice_set};
 ghost use Rattle.machine.specs.Accessing.{HasNoAccess};
+ghost use Rattle.machine.specs.ConcreteServing.{plain};
 ghost use Rattle.machine.specs.ConcreteSteps.{can_move};
 ghost use Rattle.machine.specs.LocalRuns.{RunsOn};
 ghost use Rattle.machine.specs.Views.{concrete};
@@ -39,13 +40,15 @@ impl PieceMachine {
     }
 
     /// Makes the access to a word that is the next step of thread `t`, which can move, where one is and the word lies in
-    /// the memory, and says whether it did. Else nothing has changed. No held bucket is in the way of an access.
+    /// the memory, and says whether it did. Else nothing has changed. No held bucket is in the way of an access, and it wakes
+    /// and moves nobody.
     #[inline(always)]
     pub fn access(&mut self, t: u32, event: &mut Event) -> bool
         requires { can_move (concrete self.old.view) t ≡ true }
         ensures made { MatchBool result ((piece_of self.old.view.program (parts self.old) t ≡ Ok (parts self.new, event.new))
             × HasNoLocal self.old.view t)
             ((self.new ≡ self.old) × HasNoAccess self.old.view t) }
+        ensures plain { result ≡ true → event.new ≡ plain event.new.name event.new.value }
         ensures program { self.new.view.program ≡ self.old.view.program }
     {
         self.machine.access(t, event)

@@ -22,7 +22,9 @@ use Rattle.runner.specs.declared.attempt.Obstacle.{Obstacle}
 use Rattle.runner.specs.declared.attempt.Obstacle.TheVariants.{First, Other}
 use Rattle.runner.specs.declared.passing_over.Waiting.{Waiting}
 use Rattle.runner.specs.declared.thread_bits.ThreadBits.{ThreadBits}
-use Rattle.runner.specs.Attempts.{HasEntered, WantsBucket, WantsIf}
+use Rattle.runner.specs.declared.attempt.Attempt.{Attempt}
+use Rattle.runner.specs.declared.attempt.Attempt.TheVariants.{Made, Took, Wants, HeldUp, Refused}
+use Rattle.runner.specs.Attempts.{HasEntered, TriedSo, WantsBucket, WantsIf, is_made}
 use Rattle.runner.specs.Reports.{IsHeldUp, IsStopped}
 use Rattle.runner.specs.Logs.{Enters, Runs, opening}
 use Rattle.runner.specs.Views.{LogState}
@@ -156,6 +158,15 @@ all_stopped p limit h from before free u moves = elim (cases_lt u from) [
   | inl less ↦ before u less moves
   | inr past ↦ inr (free u past moves)
 ]
+
+-- an entry that was made is one of the thread's own, whichever bucket it took
+pub made_so : (p : Program) (k k' : PieceConcrete) (t : ℕ) (a : Attempt) → is_made a ≡ true → HasEntered p k t k'
+    → TriedSo p k t a k'
+made_so p k k' t Made made entered = entered
+made_so p k k' t (Took bucket) made entered = entered
+made_so p k k' t (Wants bucket) made entered = absurd cc
+made_so p k k' t HeldUp made entered = absurd cc
+made_so p k k' t Refused made entered = absurd cc
 
 -- what is noted of an obstacle
 pub wants_if : (p : Program) (k : PieceConcrete) (t : ℕ) (o : Obstacle) → ((b : ℕ) → o ≡ First b → WantsBucket p k t b)

@@ -14,15 +14,17 @@ use Rattle.machine.specs.States.{thread_of}
 use Rattle.machine.specs.declared.event.Entry.{Entry}
 use Rattle.piece_machine.specs.PieceConcrete.{PieceConcrete, lies_in}
 use Rattle.runner.specs.declared.attempt.Attempt.{Attempt}
-use Rattle.runner.specs.declared.attempt.Attempt.TheVariants.{Made, HeldUp, Refused}
+use Rattle.runner.specs.declared.attempt.Attempt.TheVariants.{Made, Took, Wants, HeldUp, Refused}
 use Rattle.runner.specs.declared.attempt.Obstacle.{Obstacle}
 use Rattle.runner.specs.declared.attempt.Obstacle.TheVariants.{First, Other}
 use Rattle.runner.specs.Logs.{EntersOwn}
 
 -- whether the entry was made
 abbrev pub is_made : Attempt → Bool
-is_made (Made took) = true
-is_made (HeldUp obstacle) = false
+is_made Made = true
+is_made (Took bucket) = true
+is_made (Wants bucket) = false
+is_made HeldUp = false
 is_made Refused = false
 
 -- a thread that stands here makes a call that takes this bucket first, which it is still to take
@@ -57,6 +59,8 @@ WantsIf p k t Other = Unit {0}
 
 -- what is told of a try that led from one state to the other
 abbrev pub TriedSo : Program → PieceConcrete → ℕ → Attempt → PieceConcrete → Type 0
-TriedSo p k t (Made took) k' = HasEntered p k t k'
-TriedSo p k t (HeldUp obstacle) k' = WantsIf p k' t obstacle
+TriedSo p k t Made k' = HasEntered p k t k'
+TriedSo p k t (Took bucket) k' = HasEntered p k t k'
+TriedSo p k t (Wants bucket) k' = WantsBucket p k' t bucket
+TriedSo p k t HeldUp k' = Unit {0}
 TriedSo p k t Refused k' = Unit {0}

@@ -5,6 +5,7 @@ use Rattle.isa.specs.Programs.{Program}
 use Rattle.locals.specs.Threads.{Thread}
 use Rattle.locals.specs.Steps.{local_step, local_after}
 use Rattle.machine.specs.declared.event.Entry.{Entry}
+use Rattle.machine.specs.ConcreteServing.{plain}
 use Rattle.machine.specs.declared.event.Event.{Event}
 use Rattle.machine.specs.declared.event.StepFault.{StepFault}
 use Rattle.machine.specs.declared.event.StepFault.TheVariants as step
@@ -25,6 +26,10 @@ event_if false event = None
 -- the entry of thread t that was made in its place, where the event of its shared step is this one, if it has one
 abbrev pub taken_entry : ℕ → Taken → Event → Entry
 taken_entry t taken event = record { thread = t; local = taken.local; event = event_if taken.shared event }
+
+-- a step that is known to be an access wakes and moves nobody
+abbrev pub IsPlainIf : Taken → Event → Type 0
+IsPlainIf taken event = taken.access ≡ true → (taken.shared ≡ true) × (event ≡ plain event.name event.value)
 
 -- a thread comes in at a place: a turn where it stands before a local step, and else its step with the event
 abbrev pub entry_end_by : PieceConcrete → Result (PieceConcrete × Event) StepFault → Option Thread

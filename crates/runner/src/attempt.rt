@@ -1,5 +1,7 @@
-ghost use Rattle.std.specs.Prelude.{◌≡◌};
-ghost use Rattle.runner.specs.Attempts.{is_made};
+ghost use Rattle.std.specs.Prelude.{◌≡◌, ℕ, false};
+ghost use Rattle.isa.specs.Programs.{Program};
+ghost use Rattle.piece_machine.specs.PieceConcrete.{PieceConcrete};
+ghost use Rattle.runner.specs.Attempts.{TriedSo, WantsIf, is_made};
 
 /// The held bucket that is in the way of a thread's next entry.
 #[derive(Clone, Copy)]
@@ -10,13 +12,17 @@ pub enum Obstacle {
     Other,
 }
 
-/// What came of a try to make a thread's next entry.
+/// What came of a try to make a thread's next entry. Its one number has room in a register beside its kind.
 #[derive(Clone, Copy)]
 pub enum Attempt {
-    /// It was made, and took this bucket, if it is known to have taken one.
-    Made(Option<u32>),
-    /// A held bucket is in its way.
-    HeldUp(Obstacle),
+    /// It was made, and isn't known to have taken a bucket.
+    Made,
+    /// It was made, and took this bucket.
+    Took(u32),
+    /// This held bucket is in its way, which its call takes first.
+    Wants(u32),
+    /// Another held bucket is in its way.
+    HeldUp,
     /// It would pass the limit, or the thread can't move.
     Refused,
 }
@@ -26,6 +32,19 @@ impl Attempt {
     pub fn is_made(self) -> bool
         ensures { result ≡ is_made self }
     {
-        matches!(self, Attempt::Made(_))
+        matches!(self, Attempt::Made | Attempt::Took(_))
+    }
+}
+
+impl Obstacle {
+    /// What came of the try that met it.
+    pub fn attempt(self) -> Attempt
+        ensures made { is_made result ≡ false }
+        ensures tried { (p : Program) (k k' : PieceConcrete) (t : ℕ) → WantsIf p k' t self → TriedSo p k t result k' }
+    {
+        match self {
+            Obstacle::First(bucket) => Attempt::Wants(bucket),
+            Obstacle::Other => Attempt::HeldUp,
+        }
     }
 }

@@ -1,6 +1,6 @@
 ghost use Rattle.words.specs.Limits.{most_local_steps};
-ghost use Rattle.std.specs.Prelude.{◌≡◌, ◌≢◌, ◌≤◌, ◌<◌, ◌+◌, ◌++◌, ◌∷◌, ℕ, [], length, true, None, Some, Err, IfErr, IfOk};
-ghost use Rattle.std.specs.Prelude.{IfSome, MatchBool, OnErr, OnOk};
+ghost use Rattle.std.specs.Prelude.{◌≡◌, ◌≢◌, ◌≤◌, ◌<◌, ◌+◌, ◌++◌, ◌∷◌, ℕ, [], length, true, false, None, Some, Err, IfErr, IfOk};
+ghost use Rattle.std.specs.Prelude.{MatchBool, OnErr, OnOk};
 ghost use Rattle.locals.specs.Looks.{look};
 ghost use Rattle.locals.specs.Requests.{next_step_of};
 ghost use Rattle.locals.specs.Threads.{Thread};
@@ -11,14 +11,14 @@ ghost use Rattle.machine.specs.Views.{concrete};
 ghost use Rattle.piece_machine.specs.PieceConcrete.{PieceConcrete, piece_fault_at, with_local};
 ghost use Rattle.piece_machine.specs.PieceDetermined.{IsFit};
 ghost use Rattle.piece_machine.specs.PieceViews.{GoesTo, parts};
-ghost use Rattle.runner.specs.Attempts.{AsksFirst, WantsIf};
-ghost use Rattle.runner.specs.Entries.{BreaksAfter, entry_end, taken_entry, event_if};
+ghost use Rattle.runner.specs.Attempts.{AsksFirst, WantsIf, is_made};
+ghost use Rattle.runner.specs.Entries.{BreaksAfter, IsPlainIf, entry_end, taken_entry, event_if};
 ghost use Rattle.runner.specs.Logs.{EntersOwn, event_cost};
 ghost use Rattle.runner.specs.Reports.{IsHeldUp};
 ghost use Rattle.runner.specs.Walks.{Walked, LooksFrom};
 ghost use Rattle.runner.specs.declared.attempt.Obstacle;
 
-use crate::attempt::Obstacle;
+use crate::attempt::{Attempt, Obstacle};
 use crate::calling::call_in;
 use crate::entering::event_if;
 use crate::fault::RunFault;
@@ -38,17 +38,19 @@ pub struct Taken {
     pub local: u32,
     /// Whether a shared step comes behind them.
     pub shared: bool,
+    /// Whether that is known to be an access to a word, which wakes and moves nobody.
+    pub access: bool,
 }
 
-/// The bucket that an entry took which was made in its place, if it took one.
+/// What came of the try of an entry that was made in its place.
 #[inline(always)]
-pub fn bucket_taken(taken: Taken, event: &Event) -> Option<u32>
-    ensures { IfSome result (λ bucket. bucket ≡ event.now.value) }
+pub fn attempt_of(taken: Taken, event: &Event) -> Attempt
+    ensures { is_made result ≡ true }
 {
-    if taken.shared && event.name == EventName::FutexLock {
-        Some(event.value)
+    if taken.shared && !taken.access && event.name == EventName::FutexLock {
+        Attempt::Took(event.value)
     } else {
-        None
+        Attempt::Made
     }
 }
 
@@ -56,10 +58,15 @@ pub fn bucket_taken(taken: Taken, event: &Event) -> Option<u32>
 /// shared step, if it has one.
 #[inline(always)]
 pub fn push_taken(log: &mut PackedLog, t: u32, taken: Taken, event: &Event)
-    requires { 1 ≤ log.old.room }
+    requires room { 1 ≤ log.old.room }
+    requires access { IsPlainIf taken event.now }
     ensures { log.new.items ≡ log.old.items ++ taken_entry t taken event.now ∷ [] }
 {
-    log.push_parts(t, taken.local, event_if(taken.shared, event));
+    if taken.access {
+        log.push_plain(t, taken.local, event.name, event.value);
+    } else {
+        log.push_parts(t, taken.local, event_if(taken.shared, event));
+    }
 }
 
 /// Takes the next entry of thread `t` in its place: its local steps until another step comes or its turn is over, and
@@ -77,6 +84,7 @@ pub fn take_entry(
     requires room { 1 ≤ machine.old.view.room }
     ensures enters { EntersOwn machine.old.view.program (parts machine.old) (taken_entry t result.0 event.new)
         (parts machine.new) }
+    ensures access { IsPlainIf result.0 event.new }
     ensures turn { result.0.local ≤ most_local_steps }
     ensures goes { OnOk result.1 (1 ≤ result.0.local + event_cost (event_if result.0.shared event.new)) }
     ensures breaks { IfErr result.1
@@ -90,6 +98,7 @@ pub fn take_entry(
             Taken {
                 local,
                 shared: true,
+                access: true,
             },
             Ok(()),
         );
@@ -114,6 +123,7 @@ pub fn take_if_free(
     requires room { 1 ≤ machine.old.view.room }
     ensures enters { IfOk result (λ taken. EntersOwn machine.old.view.program (parts machine.old)
         (taken_entry t taken.0 event.new) (parts machine.new)) }
+    ensures access { IfOk result (λ taken. IsPlainIf taken.0 event.new) }
     ensures turn { IfOk result (λ taken. taken.0.local ≤ most_local_steps) }
     ensures goes { IfOk result (λ taken. OnOk taken.1
         (1 ≤ taken.0.local + event_cost (event_if taken.0.shared event.new))) }
@@ -133,6 +143,7 @@ pub fn take_if_free(
         let taken = Taken {
             local: 0,
             shared: true,
+            access: true,
         };
         return Ok((taken, Ok(())));
     }
@@ -154,6 +165,7 @@ fn take_ahead(
     requires room { 1 ≤ machine.old.view.room }
     ensures enters { IfOk result (λ taken. EntersOwn machine.old.view.program (parts machine.old)
         (taken_entry t taken.0 event.new) (parts machine.new)) }
+    ensures access { IfOk result (λ taken. IsPlainIf taken.0 event.new) }
     ensures turn { IfOk result (λ taken. taken.0.local ≤ most_local_steps) }
     ensures goes { IfOk result (λ taken. OnOk taken.1
         (1 ≤ taken.0.local + event_cost (event_if taken.0.shared event.new))) }
@@ -174,6 +186,7 @@ fn take_ahead(
         let taken = Taken {
             local,
             shared: true,
+            access: true,
         };
         return Ok((taken, Ok(())));
     }
@@ -264,6 +277,7 @@ fn end_entry(
         → next.now ≡ next_step_of (look machine.old.view.program t x) }
     requires room { 1 ≤ machine.old.view.room }
     ensures count { result.0.local ≡ local }
+    ensures other { result.0.access ≡ false }
     ensures enters { (k : PieceConcrete) → Walked machine.old.view.program k t local (parts machine.old)
         → EntersOwn machine.old.view.program k (taken_entry t result.0 event.new) (parts machine.new) }
     ensures goes { (k : PieceConcrete) → Walked machine.old.view.program k t local (parts machine.old)
@@ -277,6 +291,7 @@ fn end_entry(
     let mut taken = Taken {
         local,
         shared: false,
+        access: false,
     };
     if is_local(next) {
         return (taken, Ok(()));

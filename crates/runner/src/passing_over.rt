@@ -6,10 +6,10 @@ ghost use Rattle.isa.specs.Programs.{Program};
 ghost use Rattle.piece_machine.specs.PieceConcrete.{PieceConcrete};
 ghost use Rattle.piece_machine.specs.PieceDetermined.{IsFit};
 ghost use Rattle.piece_machine.specs.PieceViews.{parts};
-ghost use Rattle.runner.specs.Attempts.{TriedSo, WantsIf, is_made};
+ghost use Rattle.runner.specs.Attempts.{TriedSo, WantsBucket, is_made};
 ghost use Rattle.runner.specs.Waits.{AllHeld, AllWait, AllWant, IsHeldIf, IsNextFree, IsSound};
 
-use crate::attempt::{Attempt, Obstacle};
+use crate::attempt::Attempt;
 use crate::thread_bits::{ThreadBits, lowest_from};
 use piece_machine::PieceMachine;
 use words::{BUCKETS, MOST_THREADS};
@@ -79,12 +79,13 @@ impl Waiting {
     {
         self.check(machine);
         match attempt {
-            Attempt::Made(took) => {
+            Attempt::Made => self.leave(t),
+            Attempt::Took(bucket) => {
                 self.leave(t);
-                self.shut_taken(machine, took);
+                self.shut_taken(machine, bucket);
             }
-            Attempt::HeldUp(obstacle) => self.note(machine, t, obstacle),
-            Attempt::Refused => {}
+            Attempt::Wants(bucket) => self.note(machine, t, bucket),
+            Attempt::HeldUp | Attempt::Refused => {}
         }
     }
 
@@ -157,8 +158,8 @@ impl Waiting {
         self.ready.take_all(&set);
     }
 
-    // The same of a bucket that an entry took, if it took one.
-    fn shut_taken(&mut self, machine: &PieceMachine, took: Option<u32>)
+    // The same of a bucket that an entry took.
+    fn shut_taken(&mut self, machine: &PieceMachine, bucket: u32)
         requires buckets { (parts machine.now).buckets ≡ run_buckets }
         requires sound { IsSound self.old }
         requires held { AllHeld (parts machine.now) self.old }
@@ -166,9 +167,6 @@ impl Waiting {
         ensures wants { self.new.wants ≡ self.old.wants }
         ensures held { AllHeld (parts machine.now) self.new }
     {
-        let Some(bucket) = took else {
-            return;
-        };
         if bucket < BUCKETS && self.counts[bucket as usize] != 0 {
             self.shut_bucket(machine, bucket);
         }
@@ -225,10 +223,10 @@ impl Waiting {
         self.counts[bucket as usize] = count.saturating_add(1);
     }
 
-    // Notes which bucket thread `t` wants, where that is known.
+    // Notes that thread `t` wants this bucket.
     #[cold]
     #[inline(never)]
-    fn note(&mut self, machine: &PieceMachine, t: u32, obstacle: Obstacle)
+    fn note(&mut self, machine: &PieceMachine, t: u32, bucket: u32)
         requires thread { (0 < t) × (t ≤ most_threads) }
         requires buckets { (parts machine.now).buckets ≡ run_buckets }
         requires sound { IsSound self.old }
@@ -236,11 +234,8 @@ impl Waiting {
         ensures sound { IsSound self.new }
         ensures held { AllHeld (parts machine.now) self.new }
         ensures wants { (p : Program) → AllWant p (parts machine.now) self.old
-            → WantsIf p (parts machine.now) t obstacle → AllWant p (parts machine.now) self.new }
+            → WantsBucket p (parts machine.now) t bucket → AllWant p (parts machine.now) self.new }
     {
-        let Obstacle::First(bucket) = obstacle else {
-            return;
-        };
         if bucket < BUCKETS {
             self.leave(t);
             self.enter(t, bucket);

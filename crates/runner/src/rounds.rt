@@ -9,7 +9,7 @@ ghost use Rattle.runner.specs.Rounds.{AllPast, Idle};
 ghost use Rattle.runner.specs.Views.{log_state};
 ghost use Rattle.runner.specs.Waits.{AllWait};
 
-use crate::attempt::{Attempt, Obstacle};
+use crate::attempt::Attempt;
 use crate::fault::RunFault;
 use crate::naming::RunName;
 use crate::passing_over::Waiting;
@@ -236,13 +236,13 @@ fn try_entry<J: RunName, G: Gate>(
     piece.go_on(image);
     gate.pass(t);
     match shared.enter(t, piece, share) {
-        Ok(()) => Ok(Attempt::Made(None)),
+        Ok(()) => Ok(Attempt::Made),
         Err(RunFault::Limit) => {
             refused[t as usize] = true;
             Ok(Attempt::Refused)
         }
         // A held bucket is in its way.
-        Err(RunFault::CannotMove) => Ok(Attempt::HeldUp(Obstacle::Other)),
+        Err(RunFault::CannotMove) => Ok(Attempt::HeldUp),
         Err(fault) => Err(fault),
     }
 }

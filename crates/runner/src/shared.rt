@@ -21,7 +21,7 @@ ghost use Rattle.runner.specs.Views.{log_state};
 use crate::attempt::Attempt;
 use crate::entering::{enter, enter_kill, enter_outside, make_room};
 use crate::fault::RunFault;
-use crate::in_place::{bucket_taken, push_taken, take_entry, take_if_free};
+use crate::in_place::{attempt_of, push_taken, take_entry, take_if_free};
 use crate::naming::RunName;
 use crate::next::{After, Next};
 use crate::piece::Piece;
@@ -499,13 +499,13 @@ impl<J: RunName> Shared<J> {
         }
         let machine = &mut self.machine;
         match take_if_free(machine, image, t, &mut self.ahead, &mut self.event) {
-            Err(obstacle) => Ok(Attempt::HeldUp(obstacle)),
+            Err(obstacle) => Ok(obstacle.attempt()),
             Ok((taken, outcome)) => {
                 push_taken(&mut self.log, t, taken, &self.event);
                 self.steps += taken.local + u32::from(taken.shared);
                 share.count_one(&mut self.book);
-                let took = bucket_taken(taken, &self.event);
-                outcome.and(Ok(Attempt::Made(took)))
+                let attempt = attempt_of(taken, &self.event);
+                outcome.and(Ok(attempt))
             }
         }
     }

@@ -14,8 +14,8 @@ returns-in-Failed-clause-reached c =
     let image = c.args.image.now in
     let here = c.loop-count in
     one_more image c.args.t here.count (running c.args.self.now) (running_at here.place here.self)
-    (Dies (Faulted c.in-Failed.fault)) here.invariant.reached
+    (Dies (Faulted c.take_at.new.fault)) here.invariant.reached
     (ap local_next (subst (λ v. looks_at (most_of v) c.args.t (slice_get image.code here.place) here.place here.self
-    ≡ Goes (Dies (Faulted c.in-Failed.fault))) c.version-version.ensures.value
-    (subst (λ r. Progressed r (looks_at (most_of c.version-version.result) c.args.t (slice_get image.code here.place) here.place
+    ≡ Goes (Dies (Faulted c.take_at.new.fault))) c.version-version.ensures.value
+    (subst (λ r. Progressed r c.take_at.new.fault (looks_at (most_of c.version-version.result) c.args.t (slice_get image.code here.place) here.place
     here.self) here.self c.take_at.new.self) c.in-Failed.is c.take_at.ensures)))

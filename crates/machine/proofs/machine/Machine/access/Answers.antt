@@ -1,15 +1,10 @@
 -- What the thread did is done on the machine; what always holds is kept, and the bits are right.
-use Rattle.std.proofs.Common.{◌≡◌, ◌≢◌, ◌-◌, length, slice_set, Bool, true, false, Some, List, ap, sym, ◌∙◌, refl, subst}
+use Rattle.std.proofs.Common.{◌≡◌, ◌-◌, length, slice_set, true, Some, ap, ◌∙◌, subst}
 use Rattle.std.specs.Prelude.{MatchBool}
-use Rattle.robustexit.specs.declared.phase.ExitPhase.TheVariants.{Ended}
-use Rattle.isa.specs.Programs.{Program}
-use Rattle.locals.specs.Threads.{Thread, Exits}
-use Rattle.locals.specs.Looks.{look}
-use Rattle.machine.specs.declared.event.Event.{Event}
-use Rattle.machine.specs.Accessing.{AccessedSo, HasNoAccess, MakesAccess}
+use Rattle.machine.specs.Accessing.{HasNoAccess, MakesAccess}
 use Rattle.machine.specs.States.{ConcreteState, thread_of}
 use Rattle.machine.specs.ConcreteSteps.{can_move}
-use Rattle.machine.specs.Views.{CommonView, View, IsWellFormed, ShowsAble, concrete, parts_of}
+use Rattle.machine.specs.Views.{View, concrete, parts_of}
 use Rattle.machine.proofs.Ables.{mover_made}
 use Rattle.machine.proofs.Accessing.{access_keeps, access_returns}
 use Rattle.machine.proofs.Whole.{stands_at}

@@ -1,7 +1,5 @@
 -- What always holds is kept: a thread that goes on by local steps can move as before.
-use Rattle.std.proofs.Common.{◌≡◌, ◌≢◌, ◌-◌, length, slice_set, Some, true, ap, ◌∙◌, refl, subst}
-use Rattle.robustexit.specs.declared.phase.ExitPhase.TheVariants.{Ended}
-use Rattle.locals.specs.Threads.{Exits}
+use Rattle.std.proofs.Common.{◌≡◌, ◌-◌, length, slice_set, Some, true, ap, ◌∙◌, refl, subst}
 use Rattle.machine.specs.States.{ConcreteState, thread_of}
 use Rattle.machine.specs.ConcreteSteps.{can_move}
 use Rattle.machine.specs.LocalRuns.{RunsOn}

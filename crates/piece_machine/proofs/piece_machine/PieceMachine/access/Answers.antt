@@ -3,7 +3,7 @@ use Rattle.std.proofs.Common.{◌≡◌, true, Ok, ap, sym, subst, ◌∙◌}
 use Rattle.std.specs.Prelude.{MatchBool}
 use Rattle.machine.specs.Accessing.{HasNoAccess}
 use Rattle.machine.specs.ConcreteSteps.{can_move}
-use Rattle.machine.specs.Views.{View, concrete}
+use Rattle.machine.specs.Views.{concrete}
 use Rattle.piece_machine.specs.PieceConcrete.{Outcome, piece_of}
 use Rattle.piece_machine.specs.PieceViews.{PieceView, HasNoLocal, parts}
 use Rattle.piece_machine.proofs.Accessed.{access_done, access_kept, access_program}

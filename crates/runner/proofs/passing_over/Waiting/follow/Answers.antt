@@ -9,19 +9,47 @@ use Rattle.runner.proofs.passing_over.Waiting.follow.Goals as goal
 
 pub shut_taken-requires-clause-held : goal.shut_taken-requires-clause-held
 shut_taken-requires-clause-held c =
-    same_held (parts c.args.machine.now) c.check.new.self c.leave.new.self c.leave.ensures.shut c.check.ensures.held
+    same_held (parts c.args.machine.now) c.check.new.self c.leave-in-Took.new.self c.leave-in-Took.ensures.shut c.check.ensures.held
 
 pub returns-in-Made : goal.returns-in-Made
 returns-in-Made c = λ p k fit want same tried.
     let new = parts c.args.machine.now in
     let xs = c.args.self.now.wants in
-    let e = c.shut_taken.ensures in
+    let e = c.leave.ensures in
     record {
-      want = want_as p new (slice_set xs c.args.t None) c.shut_taken.new.self.wants
-          (e.wants ∙ c.leave.ensures.wants
+      want = want_as p new (slice_set xs c.args.t None) c.leave.new.self.wants
+          (e.wants
           ∙ ap (λ (ys : List (Option ℕ)). slice_set ys c.args.t None) c.check.ensures.wants)
           (made_want p k new c.args.t xs fit want
           (subst (λ (a : Attempt). TriedSo p k c.args.t a new) c.in-Made.is tried));
+      sound = e.sound;
+      held = same_held (parts c.args.machine.now) c.check.new.self c.leave.new.self e.shut c.check.ensures.held;
+    }
+
+pub returns-in-Took : goal.returns-in-Took
+returns-in-Took c = λ p k fit want same tried.
+    let new = parts c.args.machine.now in
+    let xs = c.args.self.now.wants in
+    let e = c.shut_taken.ensures in
+    record {
+      want = want_as p new (slice_set xs c.args.t None) c.shut_taken.new.self.wants
+          (e.wants ∙ c.leave-in-Took.ensures.wants
+          ∙ ap (λ (ys : List (Option ℕ)). slice_set ys c.args.t None) c.check.ensures.wants)
+          (made_want p k new c.args.t xs fit want
+          (subst (λ (a : Attempt). TriedSo p k c.args.t a new) c.in-Took.is tried));
+      sound = e.sound;
+      held = e.held;
+    }
+
+pub returns-in-Wants : goal.returns-in-Wants
+returns-in-Wants c = λ p k fit want same tried.
+    let new = parts c.args.machine.now in
+    let e = c.note.ensures in
+    record {
+      want = e.wants p
+          (want_as p new c.args.self.now.wants c.check.new.self.wants c.check.ensures.wants
+          (still_want p k new c.args.self.now.wants (same (ap is_made c.in-Wants.is)) want))
+          (subst (λ (a : Attempt). TriedSo p k c.args.t a new) c.in-Wants.is tried);
       sound = e.sound;
       held = e.held;
     }
@@ -29,14 +57,11 @@ returns-in-Made c = λ p k fit want same tried.
 pub returns-in-HeldUp : goal.returns-in-HeldUp
 returns-in-HeldUp c = λ p k fit want same tried.
     let new = parts c.args.machine.now in
-    let e = c.note.ensures in
     record {
-      want = e.wants p
-          (want_as p new c.args.self.now.wants c.check.new.self.wants c.check.ensures.wants
-          (still_want p k new c.args.self.now.wants (same (ap is_made c.in-HeldUp.is)) want))
-          (subst (λ (a : Attempt). TriedSo p k c.args.t a new) c.in-HeldUp.is tried);
-      sound = e.sound;
-      held = e.held;
+      want = want_as p new c.args.self.now.wants c.check.new.self.wants c.check.ensures.wants
+          (still_want p k new c.args.self.now.wants (same (ap is_made c.in-HeldUp.is)) want);
+      sound = c.check.ensures.sound;
+      held = c.check.ensures.held;
     }
 
 pub returns-in-Refused : goal.returns-in-Refused

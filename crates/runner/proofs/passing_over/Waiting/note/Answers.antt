@@ -1,8 +1,6 @@
-use Rattle.std.proofs.Common.{◌∙◌, ap, refl, subst}
+use Rattle.std.proofs.Common.{◌∙◌, ap, refl}
 use Rattle.std.specs.Prelude.{List, Option, ℕ, Some, None, slice_set}
 use Rattle.piece_machine.specs.PieceViews.{parts}
-use Rattle.runner.specs.declared.attempt.Obstacle.{Obstacle}
-use Rattle.runner.specs.Attempts.{WantsIf}
 use Rattle.runner.proofs.Noting.{held_want, want_as, written_twice}
 use Rattle.runner.proofs.passing_over.Waiting.note.Goals as goal
 
@@ -11,9 +9,8 @@ returns-then-bucket-lt-BUCKETS-clause-wants c = λ p want wants.
     let k = parts c.args.machine.now in
     let xs = c.args.self.now.wants in
     let t = c.args.t in
-    want_as p k (slice_set xs t (Some c.in-First.bucket)) c.shut_bucket.new.self.wants
+    want_as p k (slice_set xs t (Some c.args.bucket)) c.shut_bucket.new.self.wants
     (c.shut_bucket.ensures.wants ∙ c.enter.ensures.wants
-    ∙ ap (λ (ys : List (Option ℕ)). slice_set ys t (Some c.in-First.bucket)) c.leave.ensures.wants
-    ∙ written_twice xs t None (Some c.in-First.bucket))
-    (held_want p k k t c.in-First.bucket xs refl want
-    (subst (λ (o : Obstacle). WantsIf p k t o) c.in-First.is wants))
+    ∙ ap (λ (ys : List (Option ℕ)). slice_set ys t (Some c.args.bucket)) c.leave.ensures.wants
+    ∙ written_twice xs t None (Some c.args.bucket))
+    (held_want p k k t c.args.bucket xs refl want wants)

@@ -8,10 +8,9 @@ use Rattle.machine.specs.ConcreteSteps.{can_move}
 use Rattle.runner.specs.Views.{SharedView, log_state}
 use Rattle.runner.specs.Reports.{CanFail}
 use Rattle.runner.specs.declared.attempt.Attempt.{Attempt}
-use Rattle.runner.specs.declared.attempt.Attempt.TheVariants.{Made}
 use Rattle.runner.specs.Attempts.{HasEntered, TriedSo}
 use Rattle.runner.proofs.Growing.{breaks_can, is_shared, keeps_entry}
-use Rattle.runner.proofs.Noting.{wants_at}
+use Rattle.runner.proofs.Noting.{made_so, wants_at}
 use Rattle.runner.proofs.Walking.{and_err}
 use Rattle.runner.proofs.Wanting.{and_ok, entered_so}
 use Rattle.runner.proofs.shared.Shared.try_on.Goals as goal
@@ -55,7 +54,7 @@ returns-in-Ok-clause-err g c =
     let e = c.take_if_free in
     let moves = subst (λ (x : SharedView). can_move (log_state x).concrete.concrete c.args.t ≡ true) (sym c.self.view_is)
     c.requires.thread in
-    and_err (λ fault. CanFail g.J.RunName.program g.J.RunName.outside g.J.RunName.limit fault) c.in-Ok.outcome (Made c.bucket_taken-took.result) c.and.result
+    and_err (λ fault. CanFail g.J.RunName.program g.J.RunName.outside g.J.RunName.limit fault) c.in-Ok.outcome c.attempt_of-attempt.result c.and.result
     c.and.ensures
     (breaks_can g.J.RunName.program g.J.RunName.outside s.machine.view.program m.new.machine.view.program
     g.J.RunName.limit (parts s.machine) (parts m.new.machine) s.log.items s.steps s.limit s.kills c.args.t
@@ -69,16 +68,19 @@ returns-in-Ok-clause-tried g c =
     let m = c.make_room in
     let e = c.take_if_free in
     and_ok (λ (a : Attempt). TriedSo p (log_state c.args.self.now).concrete c.args.t a (parts e.new.machine)) c.in-Ok.outcome
-    (Made c.bucket_taken-took.result) c.and.result c.and.ensures
+    c.attempt_of-attempt.result c.and.result c.and.ensures
+    (made_so p (log_state c.args.self.now).concrete (parts e.new.machine) c.args.t c.attempt_of-attempt.result
+    c.attempt_of-attempt.ensures
     (subst (λ (x : SharedView). HasEntered p (log_state x).concrete c.args.t (parts e.new.machine)) c.self.view_is
     (entered_so p s.machine.view.program m.new.machine.view.program (parts s.machine) (parts m.new.machine)
     (parts e.new.machine) c.args.t c.in-Ok.taken e.new.event c.self.invariant.0.program m.ensures.program m.ensures.same.0
-    c.in-Ok.ensures.enters))
+    c.in-Ok.ensures.enters)))
 
 pub returns-in-Err-clause-tried : goal.returns-in-Err-clause-tried
 returns-in-Err-clause-tried g c =
     let m = c.make_room in
     let e = c.take_if_free in
-    wants_at g.J.RunName.program c.self.inside.machine.view.program m.new.machine.view.program (parts m.new.machine)
+    c.attempt.ensures.tried g.J.RunName.program (log_state c.args.self.now).concrete (parts e.new.machine) c.args.t
+    (wants_at g.J.RunName.program c.self.inside.machine.view.program m.new.machine.view.program (parts m.new.machine)
     (parts e.new.machine) c.args.t c.in-Err.obstacle c.self.invariant.0.program m.ensures.program c.in-Err.ensures.held.0
-    c.in-Err.ensures.wants
+    c.in-Err.ensures.wants)
