@@ -4,10 +4,11 @@ ghost use Rattle.program.specs.Names.{said_by};
 ghost use Rattle.program.specs.Trees.{as_version};
 ghost use Rattle.program.specs.WellFormed.{WellFormed};
 ghost use Rattle.lowering.specs.Layout.{layout_of};
+ghost use Rattle.lowering.specs.Pieces.{code_of};
 ghost use Rattle.codegen.specs.Generated.{piece_of, unlinked_pieces};
 ghost use Rattle.codegen_workers.specs.Limits.{most_workers};
 ghost use Rattle.backend.specs.Lowered.{IsLowered};
-ghost use Rattle.backend.specs.Refusals.{RefusesCode};
+ghost use Rattle.backend.specs.Refusals.{CodeFits, RefusesCode};
 
 use crate::marking::collect_marks;
 use codegen::{CodePiece, generate};
@@ -48,6 +49,26 @@ fn image_is_within_limits(image: &Image)
     image.code();
 }
 
+// The image of a checked program with this layout and these pieces, of the layout's version.
+fn assemble_image(
+    alloc: Global,
+    checked: &Checked,
+    layout: &Layout,
+    pieces: Vec<CodePiece>,
+) -> Result<Image, Refusal>
+    requires layout { layout.now
+        ≡ layout_of (as_version layout.now.version (said_by checked.now)) }
+    requires pieces { map piece_of pieces.items
+        ≡ unlinked_pieces (as_version layout.now.version (said_by checked.now)) }
+    ensures { let p = as_version layout.now.version (said_by checked.now) in
+        MatchResult result (λ image. (image ≡ code_of p) × CodeFits p) (λ e. RefusesCode p e) }
+{
+    checked_is_well_formed(checked);
+    let image = link(alloc, layout, pieces)?;
+    image_is_within_limits(&image);
+    Ok(image)
+}
+
 // What a checked program with this layout and these pieces is lowered to, for an image of the layout's version.
 fn assemble(
     alloc: Global,
@@ -61,10 +82,8 @@ fn assemble(
     ensures { let p = as_version layout.version (said_by checked.now) in
         MatchResult result (λ lowered. IsLowered p lowered) (λ e. RefusesCode p e) }
 {
-    checked_is_well_formed(checked);
     let marks = collect_marks(alloc, pieces.as_slice())?;
-    let image = link(alloc, &layout, pieces)?;
-    image_is_within_limits(&image);
+    let image = assemble_image(alloc, checked, &layout, pieces)?;
     Ok(Lowered {
         image,
         layout,
@@ -104,4 +123,40 @@ pub fn lower_with<R: Threads + Wait + Sync, G: Gate>(
     let layout = place_as(alloc, checked, version)?;
     let pieces = generate_with(rt, alloc, checked, &layout, workers, gate)?;
     assemble(alloc, checked, layout, pieces)
+}
+
+/// The image of a checked program as `lower` makes it, without what else `lower` tells of it.
+///
+/// The refusals are those of `lower`.
+pub fn lower_image(
+    alloc: Global,
+    checked: &Checked,
+    version: ImageVersion,
+) -> Result<Image, Refusal>
+    ensures { let p = as_version version (said_by checked.now) in
+        MatchResult result (λ image. (image ≡ code_of p) × CodeFits p) (λ e. RefusesCode p e) }
+{
+    let layout = place_as(alloc, checked, version)?;
+    let pieces = generate(alloc, checked, &layout)?;
+    assemble_image(alloc, checked, &layout, pieces)
+}
+
+/// The image of a checked program as `lower_with` makes it, by this many workers, from 1 to 64.
+///
+/// The refusals are those of `lower_with`.
+pub fn lower_image_with<R: Threads + Wait + Sync, G: Gate>(
+    rt: &R,
+    alloc: Global,
+    checked: &Checked,
+    version: ImageVersion,
+    workers: u32,
+    gate: &G,
+) -> Result<Image, Refusal>
+    requires { (1 ≤ workers) × (workers ≤ most_workers) }
+    ensures { let p = as_version version (said_by checked.now) in
+        MatchResult result (λ image. (image ≡ code_of p) × CodeFits p) (λ e. RefusesCode p e) }
+{
+    let layout = place_as(alloc, checked, version)?;
+    let pieces = generate_with(rt, alloc, checked, &layout, workers, gate)?;
+    assemble_image(alloc, checked, &layout, pieces)
 }

@@ -13,7 +13,7 @@ use Rattle.backend.specs.declared.lowered.Lowered.{Lowered}
 use Rattle.refinement.specs.Refines.{Refines}
 use Rattle.refinement.specs.Pieces.{RefinesInPieces}
 use Rattle.compiler.specs.Accepts.{AcceptsText, RefusesProgram, RefusesTextAs}
-use Rattle.compiler.specs.Compiles.{IsRead, IsReadLoweredAs}
+use Rattle.compiler.specs.Compiles.{IsCompiledAs, IsRead, IsReadLoweredAs}
 
 module _ (v : ImageVersion) (text : List ℕ) where
   -- a text that is no program
@@ -29,7 +29,22 @@ module _ (v : ImageVersion) (text : List ℕ) where
   not_fitting p e a (inr long) =
       inr (inr record { program = p; accepts = a; long = long.1; refusal = long.0 })
 
-  -- a program whose code fits
+  -- the image of a program whose code fits
+  pub imaged : (c : CheckedProgram) (image : Image) → IsRead text c
+      → Refines (as_version v (said_by c)) (code_of (as_version v (said_by c)))
+      → RefinesInPieces (as_version v (said_by c)) (code_of (as_version v (said_by c)))
+      → (image ≡ code_of (as_version v (said_by c))) × backend.CodeFits (as_version v (said_by c))
+      → IsCompiledAs v text image
+  imaged c image read refines pieces is = record {
+    program = said_by c;
+    accepts = read.accepts;
+    fits = is.1;
+    code = is.0;
+    refines = subst (λ (i : Image). Refines (as_version v (said_by c)) i) (sym is.0) refines;
+    pieces = subst (λ (i : Image). RefinesInPieces (as_version v (said_by c)) i) (sym is.0) pieces;
+  }
+
+  -- such a program, and what it is lowered to
   pub read_whole : (c : CheckedProgram) (lowered : Lowered) → IsRead text c
       → Refines (as_version v (said_by c)) (code_of (as_version v (said_by c)))
       → RefinesInPieces (as_version v (said_by c)) (code_of (as_version v (said_by c)))
@@ -37,14 +52,7 @@ module _ (v : ImageVersion) (text : List ℕ) where
   read_whole c lowered read refines pieces is = record {
     accepts = read.accepts;
     code = is;
-    compiled = record {
-      program = said_by c;
-      accepts = read.accepts;
-      fits = is.fits;
-      code = is.image;
-      refines = subst (λ (i : Image). Refines (as_version v (said_by c)) i) (sym is.image) refines;
-      pieces = subst (λ (i : Image). RefinesInPieces (as_version v (said_by c)) i) (sym is.image) pieces;
-    };
+    compiled = imaged c lowered.image read refines pieces (is.image, is.fits);
   }
 
   -- a text whose program's code fits is refused for want of memory alone

@@ -9,7 +9,7 @@ ghost use Rattle.compiler.specs.Accepts.{AcceptsText, RefusesProgram, RefusesTex
 ghost use Rattle.compiler.specs.Compiles.{IsCompiled, IsCompiledAs, IsRead, IsReadLowered, IsReadLoweredAs};
 
 use crate::laws::text_laws;
-use backend::{Lowered, lower};
+use backend::{Lowered, lower, lower_image};
 use callees::few_declarations;
 use checker::check;
 use isa::Image;
@@ -18,21 +18,39 @@ use program::Checked;
 use proof_simulation::code_refines;
 use proof_well_formed::units_of_texts_have_numbers;
 use scanner::{Refusal, scan, token_laws};
-use std::alloc::Global;
+use std::alloc::{AllocError, Global};
+use syntax::Unit;
 use words::ImageVersion;
 
-// The checked program of a text.
-pub(crate) fn read<'a>(alloc: Global, text: &'a [u8]) -> Result<Checked<'a>, Refusal>
-    ensures { MatchResult result (λ checked. IsRead text.now checked)
+// How many bytes of memory the tokens of a text take for each of its bytes, where they take many.
+const ROOM_FOR_A_BYTE: usize = 48;
+
+// Asks for as much memory as the tokens of a text may take, and gives it back. The C library's allocator gets a block from
+// the system and gives it back there where it is larger than each that was given back before; smaller ones it keeps. So
+// what the tokens leave serves for the program and its code. Where there isn't so much, nothing is lost.
+fn make_room(alloc: Global, text: &[u8]) {
+    let room: Result<Vec<u8>, AllocError> = Vec::with_capacity(
+        alloc,
+        text.len().saturating_mul(ROOM_FOR_A_BYTE),
+    );
+    drop(room);
+}
+
+// The checked program of a text, and its tree, which is to be kept until the code is made: it lies in many small blocks,
+// and who asks for a large one waits until the allocator has joined all that were given back.
+pub(crate) fn read<'a>(alloc: Global, text: &'a [u8]) -> Result<(Checked<'a>, Unit<'a>), Refusal>
+    ensures { MatchResult result (λ r. IsRead text.now r.0)
         (λ e. (e ≡ out_of_memory) ⊎ RefusesProgram text.now e) }
 {
     few_declarations();
     units_of_texts_have_numbers();
     token_laws();
+    make_room(alloc, text);
     let tokens = scan(alloc, text)?;
     let unit = parse(alloc, tokens.as_slice())?;
+    drop(tokens);
     let checked = check(alloc, &unit)?;
-    Ok(checked)
+    Ok((checked, unit))
 }
 
 /// Whether a source text is a program.
@@ -55,8 +73,9 @@ fn image_or_refusal(alloc: Global, text: &[u8], version: ImageVersion) -> Result
     ensures { MatchResult result (λ image. IsCompiledAs version text.now image)
         (λ e. (e ≡ out_of_memory) ⊎ RefusesTextAs version text.now e) }
 {
-    let (_, lowered) = read_lowered(alloc, text, version)?;
-    let Lowered { image, .. } = lowered;
+    code_refines();
+    let (checked, _unit) = read(alloc, text)?;
+    let image = lower_image(alloc, &checked, version)?;
     Ok(image)
 }
 
@@ -70,7 +89,7 @@ fn read_lowered<'a>(
         (λ e. (e ≡ out_of_memory) ⊎ RefusesTextAs version text.now e) }
 {
     code_refines();
-    let checked = read(alloc, text)?;
+    let (checked, _unit) = read(alloc, text)?;
     let lowered = lower(alloc, &checked, version)?;
     Ok((checked, lowered))
 }

@@ -11,7 +11,7 @@ ghost use Rattle.compiler.specs.Compiles.{IsCompiled, IsCompiledAs};
 
 use crate::compiling::read;
 use crate::laws::text_laws;
-use backend::{Lowered, lower_with};
+use backend::lower_image_with;
 use isa::Image;
 use proof_simulation::code_refines;
 use scanner::Refusal;
@@ -75,8 +75,8 @@ fn image_with<R: Threads + Wait + Sync, G: Gate>(
         (λ e. (e ≡ out_of_memory) ⊎ RefusesTextAs version text.now e) }
 {
     code_refines();
-    let checked = read(alloc, text)?;
-    let lowered = lower_with(
+    let (checked, _unit) = read(alloc, text)?;
+    let image = lower_image_with(
         rt,
         alloc,
         &checked,
@@ -84,7 +84,6 @@ fn image_with<R: Threads + Wait + Sync, G: Gate>(
         workers_for(text, workers),
         gate,
     )?;
-    let Lowered { image, .. } = lowered;
     Ok(image)
 }
 

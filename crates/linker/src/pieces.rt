@@ -47,7 +47,7 @@ pub(crate) fn places(alloc: Global, pieces: &[CodePiece]) -> Result<Vec<u32>, Re
     ensures { MatchResult result (λ v. v.items ≡ places_from 0 (map piece_of pieces.now))
         (λ e. e ≡ out_of_memory) }
 {
-    let mut places = Vec::new(alloc);
+    let mut places = Vec::with_capacity(alloc, pieces.len())?;
     let mut place = 0;
     for piece in pieces {
         places.push(place)?;
@@ -92,7 +92,7 @@ pub(crate) fn link_pieces(
         MatchResult result (λ v. (v.items ≡ made) × (all_fit total made ≡ true))
         (λ e. FailsWhere (all_fit total made ≡ false) e) }
 {
-    let mut image = Vec::new(alloc);
+    let mut image = Vec::with_capacity(alloc, total as usize)?;
     let mut base = 0;
     for piece in pieces {
         link_piece(piece.code.as_slice(), base, starts, total, &mut image)?;

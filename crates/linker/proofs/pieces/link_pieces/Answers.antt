@@ -11,8 +11,8 @@ returns-in_err-link_piece c =
     let f = slice_index c.args.starts.now in
     let all = instructions (code_from f 0 (map piece_of c.args.pieces.now)) in
     let code = c.as_slice.result.now in
-    failed c.from_residual.result c.in_err-link_piece.field-0.0 _ _ (all_fit c.args.total all ≡ false)
-    c.from_residual.ensures c.in_err-link_piece.ensures
+    failed c.from_residual-in_err-link_piece.result c.in_err-link_piece.field-0.0 _ _ (all_fit c.args.total all ≡ false)
+    c.from_residual-in_err-link_piece.ensures c.in_err-link_piece.ensures
     (fit_end f c.loop-piece.base c.loop-piece.piece-index c.args.pieces.now c.piece-item.result code
     c.loop-piece-test.true c.piece-item.is c.as_slice.ensures.value c.args.total all c.loop-piece.invariant.fit)
 
