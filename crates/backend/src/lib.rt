@@ -4,4 +4,4 @@
 mod lowered;
 mod marking;
 
-pub use lowered::{Lowered, lower, lower_image, lower_image_with, lower_with};
+pub use lowered::{Lowered, lower, lower_image, lower_image_with};

@@ -104,27 +104,6 @@ pub fn lower(alloc: Global, checked: &Checked, version: ImageVersion) -> Result<
     assemble(alloc, checked, layout, pieces)
 }
 
-/// Lowers a checked program as `lower` does, to the same, with the code of its pieces made by this many workers, from 1
-/// to 64 (`codegen_workers::generate_with`).
-///
-/// `Memory` comes also where a worker can't be started.
-pub fn lower_with<R: Threads + Wait + Sync, G: Gate>(
-    rt: &R,
-    alloc: Global,
-    checked: &Checked,
-    version: ImageVersion,
-    workers: u32,
-    gate: &G,
-) -> Result<Lowered, Refusal>
-    requires { (1 ≤ workers) × (workers ≤ most_workers) }
-    ensures { let p = as_version version (said_by checked.now) in
-        MatchResult result (λ lowered. IsLowered p lowered) (λ e. RefusesCode p e) }
-{
-    let layout = place_as(alloc, checked, version)?;
-    let pieces = generate_with(rt, alloc, checked, &layout, workers, gate)?;
-    assemble(alloc, checked, layout, pieces)
-}
-
 /// The image of a checked program as `lower` makes it, without what else `lower` tells of it.
 ///
 /// The refusals are those of `lower`.
@@ -141,9 +120,10 @@ pub fn lower_image(
     assemble_image(alloc, checked, &layout, pieces)
 }
 
-/// The image of a checked program as `lower_with` makes it, by this many workers, from 1 to 64.
+/// The image of a checked program as `lower` makes it, with the code of its pieces made by this many workers, from 1 to 64
+/// (`codegen_workers::generate_with`).
 ///
-/// The refusals are those of `lower_with`.
+/// The refusals are those of `lower`; `Memory` comes also where a worker can't be started.
 pub fn lower_image_with<R: Threads + Wait + Sync, G: Gate>(
     rt: &R,
     alloc: Global,
