@@ -22,12 +22,12 @@ access-requires c =
 
 pub returns-in-Some-clause-gives : goal.returns-in-Some-clause-gives
 returns-in-Some-clause-gives c =
-    let told : c.put.new.event ≡ told_access c.in-Some.access =
+    let told : c.put.new.self ≡ told_access c.in-Some.access =
     c.put.ensures ∙ ap (λ (n : EventName). plain n c.in-Some.access.value) c.access_name.ensures in
     step_end c.args.machine.now.view.program (parts c.args.machine.now) c.args.t c.args.here.now
-    (parts c.access.new.self) c.put.new.event
+    (parts c.access.new.self) c.put.new.self
     (c.if-turn.ensures (look c.args.machine.now.view.program c.args.t c.args.here.now) c.requires.next)
-    (subst (λ (m : MachineView). piece_of m.view.program (parts m) c.args.t ≡ Ok (parts c.access.new.self, c.put.new.event))
+    (subst (λ (m : MachineView). piece_of m.view.program (parts m) c.args.t ≡ Ok (parts c.access.new.self, c.put.new.self))
     c.copy_local.ensures
     (c.in-Some.ensures.made.0 ∙ (λ i. Ok (parts c.access.new.self, sym told i))))
 
