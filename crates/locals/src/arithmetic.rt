@@ -9,7 +9,8 @@ ghost use Rattle.locals.specs.Results.{SignedResult, QuotientResult, outcome_at}
 use isa::Operator;
 use words::{Fault, signed, word};
 
-/// What an operator makes of two words, or the fault that it meets.
+/// What an operator makes of two words, or the fault that it meets. A call of it would put what it answers into memory.
+#[inline(always)]
 pub fn operate(operator: Operator, a: u32, b: u32) -> Result<u32, Fault>
     ensures { (place : ℕ) (rest : List ℕ) (locals : LocalsOf) (callers : List FrameOf)
         → at_place place locals callers (operator_effect operator a b rest)

@@ -7,6 +7,7 @@ mod answering;
 mod arithmetic;
 mod asking;
 mod frame;
+mod holding;
 mod local;
 mod local_run;
 mod progress;

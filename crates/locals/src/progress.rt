@@ -7,6 +7,9 @@ use words::Fault;
 pub enum Progress {
     /// The step was taken, and the next instruction is at this place. It isn't in the activation yet.
     Went(u32),
+    /// The step was taken, the next instruction is the one behind it, and this word is the top operand. It isn't among
+    /// the activation's operands yet.
+    Holds(u32),
     /// The step was taken, and failed. The fault stands beside it.
     Failed,
     /// The next step is no local one, so none was taken.

@@ -1,21 +1,36 @@
-use Rattle.std.proofs.Common.{◌≡◌, ap, slice_get, subst}
-use Rattle.words.specs.Versions.{most_of}
-use Rattle.words.specs.declared.outcome.Cause.TheVariants.{Faulted}
-use Rattle.locals.specs.Looks.{Goes}
-use Rattle.locals.specs.Steps.{local_next}
-use Rattle.locals.specs.Threads.{Dies}
-use Rattle.locals.specs.Views.{Progressed, looks_at, running, running_at}
-use Rattle.locals.proofs.Running.{one_more}
+use Rattle.std.proofs.Common.{subst}
+use Rattle.locals.specs.Views.{Reaches, running}
 use Rattle.locals.proofs.activation.Activation.run.Goals as goal
 
--- a step that fails is the last one
-pub returns-in-Failed-clause-reached : goal.returns-in-Failed-clause-reached
-returns-in-Failed-clause-reached c =
-    let image = c.args.image.now in
-    let here = c.loop-count in
-    one_more image c.args.t here.count (running c.args.self.now) (running_at here.place here.self)
-    (Dies (Faulted c.take_at.new.fault)) here.invariant.reached
-    (ap local_next (subst (λ v. looks_at (most_of v) c.args.t (slice_get image.code here.place) here.place here.self
-    ≡ Goes (Dies (Faulted c.take_at.new.fault))) c.version-version.ensures.value
-    (subst (λ r. Progressed r c.take_at.new.fault (looks_at (most_of c.version-version.result) c.args.t (slice_get image.code here.place) here.place
-    here.self) here.self c.take_at.new.self) c.in-Failed.is c.take_at.ensures)))
+-- each step goes on from where those before it have led
+
+pub loop-count-preserved : goal.loop-count-preserved
+loop-count-preserved c =
+    let led = c.advance-reached in
+    let start = running c.args.self.now in
+    record {
+      reached = subst (λ e. Reaches e led.new.fault c.args.image.now c.args.t start led.result.count led.result.place led.new.self)
+        c.in-Open.is (led.ensures.reached start c.loop-count.invariant.reached);
+      within = led.ensures.within.1;
+    }
+
+pub returns-in-Failure-clause-reached : goal.returns-in-Failure-clause-reached
+returns-in-Failure-clause-reached c =
+    let led = c.advance-reached in
+    let start = running c.args.self.now in
+    subst (λ e. Reaches e led.new.fault c.args.image.now c.args.t start led.result.count led.result.place led.new.self)
+    c.in-Failure.is (led.ensures.reached start c.loop-count.invariant.reached)
+
+pub returns-in-Rest-clause-reached : goal.returns-in-Rest-clause-reached
+returns-in-Rest-clause-reached c =
+    let led = c.advance-reached in
+    let start = running c.args.self.now in
+    (subst (λ e. Reaches e led.new.fault c.args.image.now c.args.t start led.result.count led.result.place led.new.self)
+    c.in-Rest.is (led.ensures.reached start c.loop-count.invariant.reached)).0
+
+pub returns-in-Rest-clause-whole : goal.returns-in-Rest-clause-whole
+returns-in-Rest-clause-whole c below =
+    let led = c.advance-reached in
+    let start = running c.args.self.now in
+    (subst (λ e. Reaches e led.new.fault c.args.image.now c.args.t start led.result.count led.result.place led.new.self)
+    c.in-Rest.is (led.ensures.reached start c.loop-count.invariant.reached)).1
