@@ -1,3 +1,4 @@
+pub mod Blanks
 pub mod Reverses
 pub mod Running
 pub mod Uppermost

@@ -1,6 +1,7 @@
 pub mod Limits
 pub mod Accesses
 pub mod Threads
+pub mod Uses
 pub mod Effects
 pub mod InstructionEffects
 pub mod Looks

@@ -1,5 +1,7 @@
-ghost use Rattle.std.specs.Prelude.{◌≡◌};
+ghost use Rattle.std.specs.Prelude.{◌≡◌, ◌≢◌, ◌≤◌, ℕ, MatchBool, length, max};
+ghost use Rattle.isa.specs.Limits.{most_locals};
 ghost use Rattle.locals.specs.Threads.{fresh, local_at, with_local};
+ghost use Rattle.locals.specs.Uses.{AreBlank, IsBlank, bound_of};
 
 use isa::Slot;
 
@@ -39,7 +41,9 @@ impl Locals {
 
     /// Puts a word into a local. One past the last takes none.
     pub fn set(&mut self, slot: Slot, word: u32)
-        ensures { self.new ≡ with_local self.old slot word }
+        ensures value { self.new ≡ with_local self.old slot word }
+        ensures blank { (used : ℕ) → used ≤ most_locals → IsBlank used self.old
+            → IsBlank (max used (bound_of slot)) self.new }
     {
         match slot {
             Slot::Local(i) => {
@@ -49,6 +53,52 @@ impl Locals {
             }
             Slot::Template => self.scratch = word,
         }
+    }
+}
+
+/// The number behind that of a local, if it is the procedure's own and there is one of that number; else 0.
+pub fn bound_of(slot: Slot) -> usize
+    ensures value { result ≡ bound_of slot }
+    ensures within { result ≤ most_locals }
+{
+    match slot {
+        Slot::Local(i) if (i as usize) < LOCALS => i as usize + 1,
+        Slot::Local(_) | Slot::Template => 0,
+    }
+}
+
+impl Locals {
+    /// Become those of a new frame, in their place. None from this number on is in use.
+    pub fn clear(&mut self, used: usize)
+        requires within { used ≤ most_locals }
+        requires blank { IsBlank used self.old }
+        ensures { self.new ≡ fresh }
+    {
+        let mut i = 0;
+        while i < used {
+            self.values[i] = 0;
+            i += 1;
+        }
+        self.scratch = 0;
+    }
+
+    /// Become a copy of others, in their place. None from this number on is in use.
+    pub fn copy_from(&mut self, other: &Locals, used: usize)
+        requires within { used ≤ most_locals }
+        requires blank { IsBlank used self.old × IsBlank used other.now }
+        ensures { self.new ≡ other.now }
+    {
+        self.values[..used].copy_from_slice(&other.values[..used]);
+        self.scratch = other.scratch;
+    }
+
+    /// Whether they are the same as others. None from this number on is in use.
+    pub fn equals(&self, other: &Locals, used: usize) -> bool
+        requires within { used ≤ most_locals }
+        requires blank { IsBlank used self.now × IsBlank used other.now }
+        ensures { MatchBool result (self.now ≡ other.now) (self.now ≢ other.now) }
+    {
+        self.scratch == other.scratch && self.values[..used] == other.values[..used]
     }
 }
 
@@ -65,4 +115,49 @@ pub struct Frame {
     pub back: u32,
     /// The locals of the caller.
     pub locals: Locals,
+}
+
+impl Frame {
+    /// Becomes a copy of another, in its place. No local from this number on is in use.
+    pub fn copy_from(&mut self, other: &Frame, used: usize)
+        requires within { used ≤ most_locals }
+        requires blank { IsBlank used self.old.locals × IsBlank used other.now.locals }
+        ensures { self.new ≡ other.now }
+    {
+        self.back = other.back;
+        self.locals.copy_from(&other.locals, used);
+    }
+}
+
+/// Makes frames copies of others, as many, in their place. No local from this number on is in use.
+pub fn copy_frames(to: &mut [Frame], from: &[Frame], used: usize)
+    requires same { length to.old ≡ length from.now }
+    requires within { used ≤ most_locals }
+    requires blank { AreBlank used to.old × AreBlank used from.now }
+    ensures { to.new ≡ from.now }
+{
+    let mut i = 0;
+    while i < from.len() {
+        to[i].copy_from(&from[i], used);
+        i += 1;
+    }
+}
+
+/// Whether frames are the same as others. No local from this number on is in use.
+pub fn same_frames(a: &[Frame], b: &[Frame], used: usize) -> bool
+    requires within { used ≤ most_locals }
+    requires blank { AreBlank used a.now × AreBlank used b.now }
+    ensures { MatchBool result (a.now ≡ b.now) (a.now ≢ b.now) }
+{
+    if a.len() != b.len() {
+        return false;
+    }
+    let mut i = 0;
+    while i < a.len() {
+        if a[i].back != b[i].back || !a[i].locals.equals(&b[i].locals, used) {
+            return false;
+        }
+        i += 1;
+    }
+    true
 }

@@ -6,6 +6,7 @@ mod activation;
 mod answering;
 mod arithmetic;
 mod asking;
+mod copying;
 mod frame;
 mod holding;
 mod local;

@@ -7,7 +7,7 @@ use std::marker::Model;
 /// A stack of at most `N` items, which takes no memory beyond its own. Contracts see its items from the top one down.
 #[derive(Drop)]
 pub struct Stack<T, const N: usize> {
-    items: ArrayVec<T, N>,
+    pub(crate) items: ArrayVec<T, N>,
 }
 
 impl<T, const N: usize> Model for Stack<T, N> {

@@ -10,7 +10,7 @@ loop-count-preserved c =
     let start = running c.args.self.now in
     record {
       reached = subst (λ e. Reaches e led.new.fault c.args.image.now c.args.t start led.result.count led.result.place led.new.self)
-        c.in-Open.is (led.ensures.reached start c.loop-count.invariant.reached);
+          c.in-Open.is (led.ensures.reached start c.loop-count.invariant.reached);
       within = led.ensures.within.1;
     }
 

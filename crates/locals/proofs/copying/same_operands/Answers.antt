@@ -3,7 +3,7 @@ use Rattle.std.specs.Cmp.Lexicographic.{pointwise}
 use Rattle.std.proofs.lemmas.Slice.Eq.{slice_eq-Decides}
 use Rattle.std.proofs.lemmas.Bool.Decides.{Decides-eqb}
 use Rattle.locals.proofs.Reverses.{same_by}
-use Rattle.locals.proofs.activation.same_operands.Goals as goal
+use Rattle.locals.proofs.copying.same_operands.Goals as goal
 
 abbrev same : ℕ → ℕ → Bool
 same a b = a == b
