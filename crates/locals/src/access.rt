@@ -1,9 +1,9 @@
 //! Accesses to words that threads make in their place: who asks for one goes on with its answer at once.
-ghost use Rattle.std.specs.Prelude.{◌≡◌, ◌<◌, ◌≤◌, ◌+◌, ◌∷◌, Some, slice_get, length, drop, MatchBool};
+ghost use Rattle.std.specs.Prelude.{◌≡◌, ◌<◌, ◌≤◌, ◌+◌, ◌∷◌, Some, slice_get, length, drop, MatchBool, is_some};
 ghost use Rattle.words.specs.Versions.{most_of};
 ghost use Rattle.isa.specs.Limits.{most_instructions};
 ghost use Rattle.isa.specs.declared.instr.Instr.TheVariants.{Load, Store, Swap, CompareSwap, FetchOr, FetchAdd};
-ghost use Rattle.locals.specs.Accesses.{Accessed};
+ghost use Rattle.locals.specs.Accesses.{Accessed, accessing};
 ghost use Rattle.locals.specs.Views.{looks};
 
 use crate::activation::Activation;
@@ -60,6 +60,48 @@ impl Activation {
             Instr::FetchOr => self.fetch_or(words),
             Instr::FetchAdd => self.fetch_add(words),
             _ => None,
+        }
+    }
+
+    /// Whether the next instruction is an access to a word, and its address lies in the memory.
+    pub fn has_access(&self, image: &Image, t: u32, words: &Mem) -> bool
+        ensures { result ≡ is_some (accessing
+            (looks (most_of image.now.version) t (slice_get image.now.code self.now.place) self.now) words.now) }
+    {
+        match image.at(self.place) {
+            Some(Instr::Load) => self.has_address(words),
+            Some(Instr::Store) => self.has_address_below(words),
+            Some(Instr::Swap) => self.has_address_below(words),
+            Some(Instr::FetchOr) => self.has_address_below(words),
+            Some(Instr::FetchAdd) => self.has_address_below(words),
+            Some(Instr::CompareSwap) => match self.operands.top_three() {
+                Some((a, _, _)) => has(words, Addr(a)),
+                None => false,
+            },
+            _ => false,
+        }
+    }
+
+    // Whether the top operand is the address of a word.
+    fn has_address(&self, words: &Mem) -> bool
+        ensures { result ≡ is_some (accessing (looks 0 0 (Some Load) self.now) words.now) }
+    {
+        match self.operands.top() {
+            Some(a) => has(words, Addr(a)),
+            None => false,
+        }
+    }
+
+    // Whether the operand below the top one is the address of a word.
+    fn has_address_below(&self, words: &Mem) -> bool
+        ensures store { result ≡ is_some (accessing (looks 0 0 (Some Store) self.now) words.now) }
+        ensures swap { result ≡ is_some (accessing (looks 0 0 (Some Swap) self.now) words.now) }
+        ensures or { result ≡ is_some (accessing (looks 0 0 (Some FetchOr) self.now) words.now) }
+        ensures add { result ≡ is_some (accessing (looks 0 0 (Some FetchAdd) self.now) words.now) }
+    {
+        match self.operands.top_two() {
+            Some((a, _)) => has(words, Addr(a)),
+            None => false,
         }
     }
 

@@ -5,6 +5,9 @@ ghost use Rattle.locals.specs.Uses.{AreBlank, IsBlank, bound_of};
 
 use isa::Slot;
 
+// As many locals are copied without a call where no more are in use.
+const FEW: usize = 8;
+
 /// How many locals a frame has, besides the one of the templates.
 pub const LOCALS: usize = isa::MOST_LOCALS as usize;
 
@@ -83,7 +86,32 @@ impl Locals {
     }
 
     /// Become a copy of others, in their place. None from this number on is in use.
+    #[inline(always)]
     pub fn copy_from(&mut self, other: &Locals, used: usize)
+        requires within { used ≤ most_locals }
+        requires blank { IsBlank used self.old × IsBlank used other.now }
+        ensures { self.new ≡ other.now }
+    {
+        if used <= FEW {
+            self.copy_few(other);
+        } else {
+            self.copy_many(other, used);
+        }
+    }
+
+    // The same where there are few.
+    #[inline(always)]
+    fn copy_few(&mut self, other: &Locals)
+        requires { IsBlank 8 self.old × IsBlank 8 other.now }
+        ensures { self.new ≡ other.now }
+    {
+        self.values[..FEW].copy_from_slice(&other.values[..FEW]);
+        self.scratch = other.scratch;
+    }
+
+    // The same of any number.
+    #[inline(never)]
+    fn copy_many(&mut self, other: &Locals, used: usize)
         requires within { used ≤ most_locals }
         requires blank { IsBlank used self.old × IsBlank used other.now }
         ensures { self.new ≡ other.now }

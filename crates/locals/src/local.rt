@@ -205,6 +205,16 @@ impl Local {
         }
     }
 
+    /// Whether the next step of thread `t` is an access to a word, and its address lies in the memory.
+    pub fn has_access(&self, image: &Image, t: u32, words: &Mem) -> bool
+        ensures { result ≡ is_some (accessing (look image.now t self.now) words.now) }
+    {
+        match &self.stage {
+            Stage::Running(activation) => activation.has_access(image, t, words),
+            Stage::Dying(_) | Stage::Exiting(_) => false,
+        }
+    }
+
     /// Takes local steps of thread `t` in place until the next one isn't local or the budget is used. Answers how many.
     pub fn run(&mut self, image: &Image, t: u32, budget: u32) -> u32
         ensures reached { local_after image.now t result self.old ≡ Some self.new }

@@ -9,6 +9,7 @@ ghost use Rattle.buckets.specs.BucketCount.{IsBucketCount};
 ghost use Rattle.buckets.specs.Places.{names};
 ghost use Rattle.buckets.specs.Sleepers.{bucket_count, holder_of};
 ghost use Rattle.futexcalls.specs.Pieces.{takes_at, held_at, IsPhase, LiesIn};
+ghost use Rattle.locals.specs.Accesses.{accessing};
 ghost use Rattle.locals.specs.Looks.{look};
 ghost use Rattle.locals.specs.Requests.{next_step_of};
 ghost use Rattle.locals.specs.Threads.{Thread};
@@ -292,6 +293,13 @@ impl Machine {
     {
         let local = &mut self.threads[t as usize - 1];
         take_access(&self.image, &mut self.common, t, local)
+    }
+
+    /// Whether the next step of thread `t` is an access to a word of the memory, if its local steps led it here.
+    pub fn has_access_at(&self, t: u32, local: &Local) -> bool
+        ensures { result ≡ is_some (accessing (look self.now.program t local.now) self.now.words) }
+    {
+        local.has_access(&self.image, t, &self.common.words)
     }
 
     /// One step of thread `t`, local or shared. A printed number lowers the room by one.
