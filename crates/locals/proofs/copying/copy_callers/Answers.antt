@@ -1,4 +1,4 @@
-use Rattle.std.proofs.Common.{◌≡◌, ◌∙◌, subst, sym, reverse}
+use Rattle.std.proofs.Common.{subst, sym, reverse}
 use Rattle.std.proofs.lemmas.List.{reverse-reverse}
 use Rattle.locals.specs.Uses.{AreBlank}
 use Rattle.locals.proofs.Blanks.{backwards}

@@ -1,4 +1,4 @@
-use Rattle.std.proofs.Common.{◌≡◌, ◌≤◌, arith, max}
+use Rattle.std.proofs.Common.{◌≤◌, arith}
 use Rattle.isa.specs.Limits.{most_locals}
 use Rattle.locals.proofs.Blanks.{wider, all_wider}
 use Rattle.locals.proofs.activation.Activation.used_with.Goals as goal

@@ -1,4 +1,4 @@
-use Rattle.std.proofs.Common.{◌≡◌, ◌≤◌, ◌∙◌, ◌+◌, ◌++◌, ap, arith, drop, replicate, rules}
+use Rattle.std.proofs.Common.{◌≡◌, ◌∙◌, ◌++◌, ap, arith, drop, replicate, rules}
 use Rattle.locals.proofs.Blanks.{clear_more, cleared_whole}
 use Rattle.locals.proofs.frame.Locals.clear.Goals as goal
 

@@ -1,9 +1,6 @@
-use Rattle.std.proofs.Common.{◌≡◌, ◌==◌, Bool, MatchBool, ℕ, take, ap, refl}
-use Rattle.std.specs.Bool.{Decides}
-use Rattle.std.specs.Cmp.Lexicographic.{pointwise}
+use Rattle.std.proofs.Common.{take}
 use Rattle.std.proofs.lemmas.Slice.Eq.{slice_eq-Decides}
 use Rattle.std.proofs.lemmas.Bool.Decides.{Decides-eqb}
-use Rattle.locals.specs.Threads.{Locals}
 use Rattle.locals.proofs.Blanks.{same_locals}
 use Rattle.locals.proofs.frame.Locals.equals.Goals as goal
 
