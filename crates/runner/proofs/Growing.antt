@@ -19,7 +19,7 @@ use Rattle.runner.specs.Logs.{Runs, Enters, EntersOwn, Ends, HasOnly, Outside, e
 use Rattle.runner.specs.Logs.{kills_in, opening}
 use Rattle.runner.specs.declared.fault.RunFault.{RunFault}
 use Rattle.runner.specs.declared.fault.RunFault.TheVariants.{Broken}
-use Rattle.runner.specs.Entries.{BreaksAfter, entry_end, entry_end_by, event_if, IsFine}
+use Rattle.runner.specs.Entries.{BreaksAfter, EntersAccess, Stands, entry_end, entry_end_by, event_if, IsFine}
 use Rattle.runner.specs.Legal.{IsLegal}
 use Rattle.runner.specs.Reports.{CanFail}
 use Rattle.runner.proofs.Going.{runs_more}
@@ -214,3 +214,24 @@ breaks_can p may q q' limit k k' log steps limited killed t count (Err fault) le
       turn = turn;
       breaks = b.breaks;
     })
+
+-- a piece came in with an access, behind which the machine had room for one entry more
+pub keeps_access : (p : Program) (may : Outside) (q m q' : Program) (limit : ℕ) (h : LogState) (k : PieceConcrete)
+    (items log : List Entry) (new : PieceConcrete) (a : PieceView) (t steps limited killed : ℕ)
+    → m ≡ q → k ≡ h.concrete → items ≡ h.log → q' ≡ m → IsLegal p may limit q h.concrete h.log steps limited killed
+    → local_after p a.thread a.count a.origin ≡ Some a.here → Stands h t a → can_move h.concrete.concrete t ≡ true
+    → cost h.log + (a.count + 1) ≤ limit → EntersAccess m k t a.here a.count items new log
+    → IsLegal p may limit q' new log (steps + (a.count + 1)) limited killed
+keeps_access p may q m q' limit h k items log new a t steps limited killed mq kh ih qm legal goes stands moves within e =
+    let gives : entry_end q h.concrete t a.here ≡ Ok (new, Some e.event) =
+    (λ i. entry_end (sym mq i) (sym kh i) t a.here) ∙ e.gives in
+    let fine : IsFine p limit h t a = record {
+      stands = stands;
+      moves = moves;
+      concrete = new;
+      event = Some e.event;
+      gives = ap (λ x. entry_end x h.concrete t a.here) (sym legal.program) ∙ gives;
+      within = within;
+    } in
+    keeps p may q q' limit h log new a t steps limited killed 1 (Some e.event) (qm ∙ mq) legal goes fine gives
+    (e.grows ∙ ap (λ es. es ++ entry t a.count (Some e.event) ∷ []) ih) refl

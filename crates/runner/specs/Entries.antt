@@ -1,5 +1,5 @@
 -- What comes of a piece that is handed in.
-use Rattle.std.specs.Prelude.{ℕ, ◌≡◌, ◌≢◌, ◌+◌, ◌++◌, ◌≤◌, ◌<◌, ◌⊎◌, [], ◌∷◌, Bool, true, false, Option, Some, None}
+use Rattle.std.specs.Prelude.{ℕ, List, ◌≡◌, ◌≢◌, ◌+◌, ◌++◌, ◌≤◌, ◌<◌, ◌⊎◌, [], ◌∷◌, Bool, true, false, Option, Some, None}
 use Rattle.std.specs.Prelude.{Result, Ok, Err}
 use Rattle.isa.specs.Programs.{Program}
 use Rattle.locals.specs.Threads.{Thread}
@@ -47,6 +47,13 @@ entry_end_by k (Err fault) None = Err fault
 abbrev pub entry_end : Program → PieceConcrete → ℕ → Thread → Result (PieceConcrete × Option Event) StepFault
 entry_end p k t here =
     let there = with_local k t here in entry_end_by there (piece_of p there t) (local_step p t here)
+
+-- a thread came in at a place after so many local steps with a shared step, as one entry more of the log
+pub record EntersAccess (p : Program) (k : PieceConcrete) (t : ℕ) (here : Thread) (count : ℕ) (log : List Entry)
+    (k' : PieceConcrete) (log' : List Entry) : Type 0 where
+  pub event : Event
+  pub gives : entry_end p k t here ≡ Ok (k', Some event)
+  pub grows : log' ≡ log ++ record { thread = t; local = count; event = Some event } ∷ []
 
 -- a thread comes by so many local steps to a step that may not be
 pub record BreaksAfter (p : Program) (k : PieceConcrete) (t count : ℕ) : Type 0 where

@@ -1,5 +1,6 @@
 ghost use Rattle.std.specs.Prelude.{◌≡◌, ◌≢◌, ◌≤◌, ◌<◌, ◌^◌, ◌++◌, ◌∷◌, [], length, true, Some, None, Ok};
-ghost use Rattle.std.specs.Prelude.{IfOk, OnOk, OnErr, IsOk, option_copied};
+ghost use Rattle.std.specs.Prelude.{IfOk, OnOk, OnErr, IsOk, option_copied, is_some};
+ghost use Rattle.locals.specs.Accesses.{accessing};
 ghost use Rattle.locals.specs.Looks.{look};
 ghost use Rattle.locals.specs.Requests.{next_step_of};
 ghost use Rattle.machine.specs.States.{state_of, thread_of};
@@ -7,7 +8,7 @@ ghost use Rattle.machine.specs.ConcreteSteps.{can_move};
 ghost use Rattle.machine.specs.Views.{concrete};
 ghost use Rattle.piece_machine.specs.PieceConcrete.{kill_piece, stray_piece};
 ghost use Rattle.piece_machine.specs.PieceViews.{GoesTo, parts};
-ghost use Rattle.runner.specs.Entries.{entry_end, event_if};
+ghost use Rattle.runner.specs.Entries.{EntersAccess, entry_end, event_if};
 
 use crate::stepping::is_local;
 use locals::{Local, NextStep};
@@ -46,6 +47,30 @@ pub fn enter(
     let shared = hand_in(machine, t, here, next, event);
     log.push_parts(t, count, event_if(shared, event));
     Ok(shared)
+}
+
+/// Takes in where thread `t` has come after `count` local steps, and the access to a word that is its next step, as one
+/// entry of the log, for which there is room. Nothing is asked for and answered.
+pub fn enter_access(
+    machine: &mut PieceMachine,
+    log: &mut PackedLog,
+    t: u32,
+    local: &Local,
+    count: u32,
+)
+    requires thread { can_move (concrete machine.old.view) t ≡ true }
+    requires goes { GoesTo machine.old.view t local.now }
+    requires access { is_some (accessing (look machine.old.view.program t local.now) machine.old.view.words) ≡ true }
+    requires room { 1 ≤ log.old.room }
+    ensures enters { EntersAccess machine.old.view.program (parts machine.old) t local.now count log.old.items
+        (parts machine.new) log.new.items }
+    ensures program { machine.new.view.program ≡ machine.old.view.program }
+{
+    machine.copy_local(t, local);
+    match machine.access(t) {
+        Some(access) => log.push_plain(t, count, access_name(access.kind), access.value),
+        None => unreachable!(),
+    }
 }
 
 /// Takes in a wake of thread `t`, which sleeps, from outside, as one entry of the log.

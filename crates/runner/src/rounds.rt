@@ -32,6 +32,8 @@ pub fn run_rounds<J: RunName, G: Gate>(
     ensures ok { OnOk result (Idle J.program J.limit (log_state shared.new)) }
     ensures err { IfErr result (λ fault. CanFail J.program J.outside J.limit fault) }
 {
+    // As long as there is one thread, a round is an entry of it.
+    run_alone(shared, share, gate, 1)?;
     let mut refused = [false; MOST_THREADS as usize + 1];
     let mut waiting = Waiting::new();
     let mut piece = Piece::idle(1);

@@ -1,6 +1,7 @@
 ghost use Rattle.words.specs.Limits.{most_local_steps};
 ghost use Rattle.std.specs.Prelude.{suc, ◌≡◌, ◌≢◌, ◌≤◌, ◌<◌, ◌+◌, [], length, true, false, Some, None, Ok, IfOk};
-ghost use Rattle.std.specs.Prelude.{IfErr, OnOk, IfSome, IfNone, MatchBool, MatchOption};
+ghost use Rattle.std.specs.Prelude.{IfErr, OnOk, IfSome, IfNone, MatchBool, MatchOption, is_some};
+ghost use Rattle.locals.specs.Accesses.{accessing};
 ghost use Rattle.locals.specs.Looks.{look};
 ghost use Rattle.locals.specs.Requests.{next_step_of};
 ghost use Rattle.machine.specs.States.{thread_of};
@@ -19,7 +20,7 @@ ghost use Rattle.machine.specs.Views.{concrete};
 ghost use Rattle.runner.specs.Views.{log_state};
 
 use crate::attempt::Attempt;
-use crate::entering::{enter, enter_kill, enter_outside, make_room};
+use crate::entering::{enter, enter_access, enter_kill, enter_outside, make_room};
 use crate::fault::RunFault;
 use crate::in_place::{attempt_of, is_shared, push_taken, take_entry, take_if_free};
 use crate::naming::RunName;
@@ -300,6 +301,70 @@ impl<J: RunName> Shared<J> {
             (log_state self.new).concrete }
         ensures within { cost self.new.log ≤ J.limit }
     {
+        // As most entries do.
+        if self.enter_access(t, piece, share) {
+            return Ok(());
+        }
+        self.enter_any(t, piece, share)
+    }
+
+    // The same where the piece's next step is an access to a word, in whose way nothing can be. Answers whether it came in:
+    // else nothing has changed.
+    fn enter_access(&mut self, t: u32, piece: &Piece<J>, share: &mut Share<J>) -> bool
+        ensures made { result ≡ true → Takes J.program J.limit (log_state self.old) t piece.now (log_state self.new)
+            × (share.new ≡ record share.old { count = share.old.count + 1 }) }
+        ensures none { result ≡ false → (log_state self.new ≡ log_state self.old) × (share.new ≡ share.old) }
+        ensures given { self.new.given ≡ self.old.given }
+        ensures legal { Runs J.program (opening J.program) self.new.log
+            (log_state self.new).concrete }
+        ensures within { cost self.new.log ≤ J.limit }
+    {
+        if !self.may_access(t, piece) || make_room(&mut self.machine, &mut self.log).is_err() {
+            return false;
+        }
+        enter_access(
+            &mut self.machine,
+            &mut self.log,
+            t,
+            &piece.here,
+            piece.count,
+        );
+        self.steps += piece.count + 1;
+        share.count_one(&mut self.book);
+        true
+    }
+
+    // Whether the piece can come in, and its next step is an access to a word.
+    fn may_access(&self, t: u32, piece: &Piece<J>) -> bool
+        ensures fine { result ≡ true → Stands (log_state self.now) t piece.now
+            × (can_move (log_state self.now).concrete.concrete t ≡ true)
+            × (cost self.now.log + (piece.now.count + 1) ≤ J.limit) }
+        ensures access { result ≡ true
+            → is_some (accessing (look J.program t piece.now.here) self.now.machine.view.words) ≡ true }
+    {
+        let machine = self.machine.machine();
+        self.stands(t, piece)
+            && machine.can_move(t)
+            && self.limit - self.steps > piece.count
+            && machine.has_access_at(t, &piece.here)
+    }
+
+    // The same of a piece with any step.
+    fn enter_any(&mut self, t: u32, piece: &Piece<J>, share: &mut Share<J>) -> Result<(), RunFault>
+        ensures ok { OnOk result
+            (Takes J.program J.limit (log_state self.old) t piece.now (log_state self.new)) }
+        ensures counted { OnOk result (share.new
+            ≡ record share.old { count = share.old.count + 1 }) }
+        ensures err { IfErr result (λ fault. (log_state self.new ≡ log_state self.old)
+            × (share.new ≡ share.old)
+            × RefusesEntry J.program J.limit (log_state self.old) t piece.now fault) }
+        ensures broken { IfErr result (λ fault. fault ≡ RunFault.Broken
+            → MeetsBroken J.program J.outside J.limit) }
+        ensures given { self.new.given ≡ self.old.given }
+        ensures legal { Runs J.program (opening J.program) self.new.log
+            (log_state self.new).concrete }
+        ensures within { cost self.new.log ≤ J.limit }
+    {
         let next = self.machine.machine().next_step_at(t, &piece.here);
         if let Some(fault) = self.refusal(t, piece, next) {
             return Err(fault);
@@ -454,6 +519,7 @@ impl<J: RunName> Shared<J> {
     /// before, if any.
     ///
     /// Refuses with `Memory`, and then nothing has changed; and with `Broken`, and then the local steps are an entry.
+    #[inline(always)]
     pub(crate) fn go_on(&mut self, t: u32, share: &mut Share<J>) -> Result<(), RunFault>
         requires thread { can_move (log_state self.old).concrete.concrete t ≡ true }
         requires free { IsHeldUp J.program (log_state self.old).concrete t → ⊥ }

@@ -6,6 +6,6 @@ use Rattle.runner.proofs.rounds.run_rounds.Goals as goal
 
 pub loop-init : goal.loop-init
 loop-init g c = record {
-  past = none_past g.J.RunName.program g.J.RunName.limit (suc most_threads) (log_state c.args.shared.now);
-  waits = c.new-waiting.ensures g.J.RunName.program (log_state c.args.shared.now).concrete;
+  past = none_past g.J.RunName.program g.J.RunName.limit (suc most_threads) (log_state c.run_alone.new.shared);
+  waits = c.new-waiting.ensures g.J.RunName.program (log_state c.run_alone.new.shared).concrete;
 }

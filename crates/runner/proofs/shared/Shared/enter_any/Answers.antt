@@ -6,7 +6,7 @@ use Rattle.piece_machine.specs.PieceViews.{parts}
 use Rattle.runner.specs.Views.{PieceView, LogState, SharedView, log_state}
 use Rattle.runner.specs.Entries.{IsFine, event_if}
 use Rattle.runner.proofs.Growing.{entry, is_shared, keeps}
-use Rattle.runner.proofs.shared.Shared.enter.Goals as goal
+use Rattle.runner.proofs.shared.Shared.enter_any.Goals as goal
 
 pub refusal-requires : goal.refusal-requires
 refusal-requires g c =
