@@ -216,6 +216,7 @@ impl Local {
     }
 
     /// Takes local steps of thread `t` in place until the next one isn't local or the budget is used. Answers how many.
+    #[inline(always)]
     pub fn run(&mut self, image: &Image, t: u32, budget: u32) -> u32
         ensures reached { local_after image.now t result self.old ≡ Some self.new }
         ensures within { result ≤ budget }
