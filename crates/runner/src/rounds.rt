@@ -32,11 +32,20 @@ pub fn run_rounds<J: RunName, G: Gate>(
     ensures ok { OnOk result (Idle J.program J.limit (log_state shared.new)) }
     ensures err { IfErr result (λ fault. CanFail J.program J.outside J.limit fault) }
 {
-    // As long as there is one thread, a round is an entry of it.
-    run_alone(shared, share, gate, 1)?;
+    let forked = run_first(shared, share, gate)?;
     let mut refused = [false; MOST_THREADS as usize + 1];
     let mut waiting = Waiting::new();
     let mut piece = Piece::idle(1);
+    end_round(
+        shared,
+        &mut refused,
+        &mut waiting,
+        image,
+        share,
+        gate,
+        &mut piece,
+        forked,
+    )?;
     while run_round(
         shared,
         &mut refused,
@@ -45,7 +54,49 @@ pub fn run_rounds<J: RunName, G: Gate>(
         share,
         gate,
         &mut piece,
+        1,
     )? {}
+    Ok(())
+}
+
+// As long as thread 1 is the only one, a round is an entry of it. Says whether it has made another: then its round isn't
+// over.
+fn run_first<J: RunName, G: Gate>(
+    shared: &mut Shared<J>,
+    share: &mut Share<J>,
+    gate: &G,
+) -> Result<bool, RunFault>
+    ensures err { IfErr result (λ fault. CanFail J.program J.outside J.limit fault) }
+{
+    if shared.machine().threads() > 1 {
+        return Ok(false);
+    }
+    run_alone(shared, share, gate, 1)?;
+    Ok(shared.machine().threads() > 1)
+}
+
+// Makes the entries of a round behind that of thread 1, where it has forked in it.
+fn end_round<J: RunName, G: Gate>(
+    shared: &mut Shared<J>,
+    refused: &mut [bool],
+    waiting: &mut Waiting,
+    image: &Image,
+    share: &mut Share<J>,
+    gate: &G,
+    piece: &mut Piece<J>,
+    forked: bool,
+) -> Result<(), RunFault>
+    requires image { image.now ≡ J.program }
+    requires room { length refused.old ≡ suc most_threads }
+    requires past { AllPast J.program J.limit (log_state shared.old) refused.old }
+    requires waits { AllWait J.program (log_state shared.old).concrete waiting.old }
+    ensures past { OnOk result (AllPast J.program J.limit (log_state shared.new) refused.new) }
+    ensures waits { OnOk result (AllWait J.program (log_state shared.new).concrete waiting.new) }
+    ensures err { IfErr result (λ fault. CanFail J.program J.outside J.limit fault) }
+{
+    if forked {
+        run_round(shared, refused, waiting, image, share, gate, piece, 2)?;
+    }
     Ok(())
 }
 
@@ -71,8 +122,8 @@ pub fn run_alone<J: RunName, G: Gate>(
     Ok(())
 }
 
-// Makes an entry for each thread that can make one and wasn't refused before, from one that can move and isn't known to
-// be held up to the next. Says whether it made any.
+// Makes an entry for each thread from this one on that can make one and wasn't refused before, from one that can move and
+// isn't known to be held up to the next. Says whether it made any.
 fn run_round<J: RunName, G: Gate>(
     shared: &mut Shared<J>,
     refused: &mut [bool],
@@ -81,8 +132,10 @@ fn run_round<J: RunName, G: Gate>(
     share: &mut Share<J>,
     gate: &G,
     piece: &mut Piece<J>,
+    first: u32,
 ) -> Result<bool, RunFault>
     requires image { image.now ≡ J.program }
+    requires first { (0 < first) × (first ≤ 2) }
     requires room { length refused.old ≡ suc most_threads }
     requires past { AllPast J.program J.limit (log_state shared.old) refused.old }
     requires waits { AllWait J.program (log_state shared.old).concrete waiting.old }
@@ -90,12 +143,12 @@ fn run_round<J: RunName, G: Gate>(
     ensures waits { OnOk result (AllWait J.program (log_state shared.new).concrete waiting.new) }
     ensures made { IfOk result (λ made. made ≡ true → (cost shared.old.log < cost shared.new.log)
         × (cost shared.new.log ≤ J.limit)) }
-    ensures none { IfOk result (λ made. made ≡ false
+    ensures none { IfOk result (λ made. made ≡ false → first ≡ 1
         → Idle J.program J.limit (log_state shared.new)) }
     ensures err { IfErr result (λ fault. CanFail J.program J.outside J.limit fault) }
 {
     let mut made = false;
-    let mut from = 1;
+    let mut from = first;
     while let Some(t) = waiting.next_free(shared.piece_machine(), from) {
         made |= take_turn(shared, refused, waiting, image, share, gate, t, piece)?;
         from = t + 1;

@@ -38,8 +38,8 @@ loop-t-preserved g c =
           (λ n. (e.none n).0) e.made;
       same = same_step (log_state c.args.shared.now) old new c.loop-t.made c.in_ok-made.field-0 v.same
           (λ n. (e.none n).0);
-      none = none_step p limit old new c.loop-t.made c.in_ok-made.field-0 t
-          (λ still. stopped_to p limit old c.loop-t.from t (v.none still) free) e.none;
+      none = λ still one. none_step p limit old new c.loop-t.made c.in_ok-made.field-0 t
+          (λ before. stopped_to p limit old c.loop-t.from t (v.none before one) free) e.none still;
     }
 
 pub loop-t-smaller : goal.loop-t-smaller
@@ -52,4 +52,4 @@ returns-clause-none g c =
     let m = c.piece_machine in
     let none = free_at p m.result.now.view.program here.concrete (parts m.result.now) c.loop-t.from None m.ensures.program
     m.ensures.parts c.in_default.ensures.free in
-    λ still. all_stopped p g.J.RunName.limit here c.loop-t.from (c.loop-t.invariant.none still) none
+    λ still one. all_stopped p g.J.RunName.limit here c.loop-t.from (c.loop-t.invariant.none still one) none

@@ -4,8 +4,11 @@ use Rattle.runner.specs.Views.{log_state}
 use Rattle.runner.proofs.Passing.{none_past}
 use Rattle.runner.proofs.rounds.run_rounds.Goals as goal
 
-pub loop-init : goal.loop-init
-loop-init g c = record {
-  past = none_past g.J.RunName.program g.J.RunName.limit (suc most_threads) (log_state c.run_alone.new.shared);
-  waits = c.new-waiting.ensures g.J.RunName.program (log_state c.run_alone.new.shared).concrete;
-}
+-- nobody was refused yet, and nobody waits
+pub end_round-requires-clause-past : goal.end_round-requires-clause-past
+end_round-requires-clause-past g c = λ lifetimes within.
+    none_past g.J.RunName.program g.J.RunName.limit (suc most_threads) (log_state c.run_first.new.shared)
+
+pub end_round-requires-clause-waits : goal.end_round-requires-clause-waits
+end_round-requires-clause-waits g c = λ lifetimes within.
+    c.new-waiting.ensures g.J.RunName.program (log_state c.run_first.new.shared).concrete
