@@ -49,6 +49,7 @@ impl Waiting {
 
     /// The first thread from this number on that can move and isn't passed over, if there is one: those before it are
     /// held up.
+    #[inline(always)]
     pub fn next_free(&self, machine: &PieceMachine, from: u32) -> Option<u32>
         requires waits { AllWait machine.now.view.program (parts machine.now) self.now }
         requires from { from ≤ suc most_threads }
@@ -69,6 +70,7 @@ impl Waiting {
     }
 
     /// Keeps what came of a try to make the next entry of thread `t`, behind which the machine is this one.
+    #[inline(always)]
     pub fn follow(&mut self, machine: &PieceMachine, t: u32, attempt: Attempt)
         requires thread { (0 < t) × (t ≤ most_threads) }
         requires buckets { (parts machine.now).buckets ≡ run_buckets }

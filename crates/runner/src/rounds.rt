@@ -75,7 +75,9 @@ fn run_first<J: RunName, G: Gate>(
     Ok(shared.machine().threads() > 1)
 }
 
-// Makes the entries of a round behind that of thread 1, where it has forked in it.
+// Makes the entries of a round behind that of thread 1, where it has forked in it. Apart, since it is called once.
+#[cold]
+#[inline(never)]
 fn end_round<J: RunName, G: Gate>(
     shared: &mut Shared<J>,
     refused: &mut [bool],
@@ -124,6 +126,7 @@ pub fn run_alone<J: RunName, G: Gate>(
 
 // Makes an entry for each thread from this one on that can make one and wasn't refused before, from one that can move and
 // isn't known to be held up to the next. Says whether it made any.
+#[inline(always)]
 fn run_round<J: RunName, G: Gate>(
     shared: &mut Shared<J>,
     refused: &mut [bool],
