@@ -1,4 +1,4 @@
-ghost use Rattle.std.specs.Prelude.{◌≡◌, ◌≢◌, ◌≤◌, ℕ, MatchBool, length, max};
+ghost use Rattle.std.specs.Prelude.{◌≡◌, ◌≢◌, ◌≤◌, ℕ, MatchBool, length, max, take};
 ghost use Rattle.isa.specs.Limits.{most_locals};
 ghost use Rattle.locals.specs.Threads.{fresh, local_at, with_local};
 ghost use Rattle.locals.specs.Uses.{AreBlank, IsBlank, bound_of};
@@ -77,6 +77,20 @@ impl Locals {
         requires blank { IsBlank used self.old }
         ensures { self.new ≡ fresh }
     {
+        // So many at once take no call.
+        if used <= FEW {
+            self.clear_first(FEW);
+        } else {
+            self.clear_first(used);
+        }
+    }
+
+    #[inline(always)]
+    fn clear_first(&mut self, used: usize)
+        requires within { used ≤ most_locals }
+        requires blank { IsBlank used self.old }
+        ensures { self.new ≡ fresh }
+    {
         let mut i = 0;
         while i < used {
             self.values[i] = 0;
@@ -126,7 +140,23 @@ impl Locals {
         requires blank { IsBlank used self.now × IsBlank used other.now }
         ensures { MatchBool result (self.now ≡ other.now) (self.now ≢ other.now) }
     {
-        self.scratch == other.scratch && self.values[..used] == other.values[..used]
+        self.scratch == other.scratch && self.has_used(other, used)
+    }
+
+    // Whether so many locals are those of the other. They are few mostly, and a slice's comparison is a call.
+    fn has_used(&self, other: &Locals, used: usize) -> bool
+        requires within { used ≤ most_locals }
+        ensures { MatchBool result (take used self.now.values ≡ take used other.now.values)
+            (take used self.now.values ≢ take used other.now.values) }
+    {
+        let mut i = 0;
+        while i < used {
+            if self.values[i] != other.values[i] {
+                return false;
+            }
+            i += 1;
+        }
+        true
     }
 }
 

@@ -15,7 +15,8 @@ use Rattle.machine.specs.declared.event.Event.{Event}
 use Rattle.machine.specs.declared.event.EventName.TheVariants as name
 use Rattle.machine.specs.declared.event.StepFault.{StepFault}
 use Rattle.machine.specs.declared.event.StepFault.TheVariants.{Broken}
-use Rattle.machine.specs.Accessing.{AccessedSo, HasNoAccess, MakesAccess, access_event, access_name, told_access}
+use Rattle.machine.specs.Accessing.{AccessedSo, DidAccess, HasNoAccess, MadeFrom, MakesAccess, access_event, access_name}
+use Rattle.machine.specs.Accessing.{told_access}
 use Rattle.machine.specs.ConcreteServing.{Served, gives, load, plain, serve, set_word}
 use Rattle.machine.specs.ConcreteSteps.{Stepped, can_move, go_on_with, on_machine, step_awake, step_of, step_thread}
 use Rattle.machine.specs.ConcreteSteps.{thread_can_move, thread_step}
@@ -319,3 +320,82 @@ access_returns p c c' threads t x x' None some stands did kept = (
       ∙ (λ i. after_view p c (stays threads t x stands i)),
   λ y at. ap (λ (z : Thread). accessing (look p t z) c.words) (one_thread y x (sym at ∙ stands)) ∙ did,
 )
+
+-- who made an access can move still
+pub access_moves : (c c' : CommonView) (l : Look) (threads : List Thread) (t : ℕ) (x x' : Thread) (made : Option Access)
+    → thread_at threads t ≡ Some x → can_move (parts_of c threads) t ≡ true → AccessedSo made l c c' x'
+    → IfSome made (λ told. x' ≢ Exits Ended)
+    → IfSome made (λ told. can_move (parts_of c' (slice_set threads (t - 1) x')) t ≡ true)
+access_moves c c' l threads t x x' None stands can did lives = tt
+access_moves c c' l threads t x x' (Some told) stands can did lives =
+    let k : ConcreteState = parts_of c threads in
+    let is : (record {
+      common = record k.common { words = did.access.words };
+      threads = slice_set k.threads (t - 1) did.access.thread;
+    }) ≡ parts_of c' (slice_set threads (t - 1) x') =
+    (λ i. parts_of (sym did.after i) (slice_set threads (t - 1) (sym did.goes i))) in
+    subst (λ (q : ConcreteState). can_move q t ≡ true) is
+    (still_can k did.access.words t did.access.thread x stands can
+    (subst (λ (y : Thread). y ≢ Exits Ended) did.goes lives))
+
+-- who stands before an access hasn't ended
+alive_of : (p : Program) (t : ℕ) (x : Thread) (words : List ℕ) (a : Accessing) → accessing (look p t x) words ≡ Some a
+    → x ≢ Exits Ended
+alive_of p t x words a h is =
+    let q : accessing (look p t (Exits Ended)) words ≡ Some a = ap (λ y. accessing (look p t y) words) (sym is) ∙ h in
+    absurd cc
+
+put_twice : {A : Type 0} → (xs : List A) (i : ℕ) (x y : A) → slice_set (slice_set xs i x) i y ≡ slice_set xs i y
+put_twice [] i x y = refl
+put_twice (z ∷ zs) zero x y = refl
+put_twice (z ∷ zs) (suc i) x y = ap (λ ws. z ∷ ws) (put_twice zs i x y)
+
+-- what always holds is kept by an access that a thread makes from where its local steps would have led it
+pub from_keeps : (p : Program) (c c' : CommonView) (threads : List Thread) (t : ℕ) (y x x' : Thread) (event : Event)
+    (bits : List ℕ) → 1 ≤ t → thread_at threads t ≡ Some y → can_move (parts_of c threads) t ≡ true
+    → IsWellFormed p (parts_of c threads) → ShowsAble bits (parts_of c threads)
+    → DidAccess (look p t x) c c' x' event → x' ≢ Exits Ended
+    → IsWellFormed p (parts_of c' (slice_set threads (t - 1) x'))
+    × ShowsAble bits (parts_of c' (slice_set threads (t - 1) x'))
+from_keeps p c c' threads t y x x' event bits some stands can well shows did lives =
+    let k : ConcreteState = parts_of c threads in
+    let k' : ConcreteState = record {
+      common = record k.common { words = did.access.words };
+      threads = slice_set k.threads (t - 1) did.access.thread;
+    } in
+    let is : k' ≡ parts_of c' (slice_set threads (t - 1) x') =
+    (λ i. parts_of (sym did.after i) (slice_set threads (t - 1) (sym did.goes i))) in (
+      subst (IsWellFormed p) is (keeps_access p k (look p t x) did.access t well did.makes),
+      subst (ShowsAble bits) is (shows_still k did.access.words t did.access.thread y bits some stands can
+          (subst (λ (z : Thread). z ≢ Exits Ended) did.goes lives) shows),
+    )
+
+-- and it is the access that the thread would have made there
+pub from_returns : (p : Program) (c c' : CommonView) (threads : List Thread) (t : ℕ) (y x x' : Thread) (told : Access)
+    → 1 ≤ t → thread_at threads t ≡ Some y → can_move (parts_of c threads) t ≡ true
+    → DidAccess (look p t x) c c' x' (told_access told) → x' ≢ Exits Ended
+    → MadeFrom told (after_view p c threads) t x (after_view p c' (slice_set threads (t - 1) x')) x'
+from_returns p c c' threads t y x x' told some stands can did lives =
+    let k : ConcreteState = parts_of c threads in
+    let is : (record {
+      common = record k.common { words = did.access.words };
+      threads = slice_set k.threads (t - 1) did.access.thread;
+    }) ≡ parts_of c' (slice_set threads (t - 1) x') =
+    (λ i. parts_of (sym did.after i) (slice_set threads (t - 1) (sym did.goes i))) in
+    record {
+      moved = still_can k k.common.words t x y stands can (alive_of p t x c.words did.access did.makes);
+      made = record {
+        origin = x;
+        stands = thread_at-put threads t y x stands;
+        access = did.access;
+        makes = did.makes;
+        told = did.told;
+        after = (λ i. after_view p (did.after i) (slice_set threads (t - 1) (did.goes i)))
+            ∙ (λ i. after_view p (record c { words = did.access.words })
+            (sym (put_twice threads (t - 1) x did.access.thread) i));
+      };
+      stands = thread_at-put threads t y x' stands;
+      moves = subst (λ (q : ConcreteState). can_move q t ≡ true) is
+          (still_can k did.access.words t did.access.thread y stands can
+          (subst (λ (z : Thread). z ≢ Exits Ended) did.goes lives));
+    }

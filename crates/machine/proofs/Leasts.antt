@@ -1,6 +1,6 @@
 -- The least thread of a set from a number on.
 use Rattle.std.proofs.Common.{◌≡◌, ◌≢◌, ℕ, ◌+◌, ◌-◌, ◌*◌, ◌/◌, ◌%◌, ◌^◌, ◌<◌, ◌≤◌, true, false, eqb, Some, None, List}
-use Rattle.std.proofs.Common.{length, get_or, take, refl, ap, sym, ◌∙◌, arith, inl, inr, Option}
+use Rattle.std.proofs.Common.{length, get_or, take, refl, ap, sym, ◌∙◌, arith, inl, inr, subst, Option}
 use Rattle.std.proofs.Math.Nat.{mod-lt, mod-add-div, mul_comm, div-le_self}
 use Rattle.std.proofs.Math.ListN.{get_or-eq_default}
 use Rattle.std.proofs.lemmas.Bool.{cases_lt, eq-eqb, ne_eqb, both_ways}
@@ -145,3 +145,25 @@ within words t last n o some far none least = whole o least
     whole : (r : Option ℕ) → IsLeastFrom (has_bit (take n words)) t r → IsLeastFrom (has_bit words) t r
     whole None h = λ u le. same u (omega (arith, some, le)) ∙ h u le
     whole (Some k) h = (h.0, same k (omega (arith, some, h.0)) ∙ h.1, λ v le less. same v (omega (arith, some, le)) ∙ h.2 v le less)
+
+-- where none is past the first word, it tells as much as all
+first : (words : List ℕ) (t : ℕ) → 1 ≤ t → t ≤ 64 → IsPassed words t 0 (t - 1)
+first words t some few = record {
+  inside = omega (arith, few, some);
+  from = omega (arith, some);
+  none = λ v le less. absurd (omega (arith, some, le, less));
+}
+
+pub few_found : (words : List ℕ) (t k : ℕ) → 1 ≤ t → t ≤ 64 → k < 64
+    → IsLeastFrom (λ i. eqb (bit_at (get_or words 0 0) i) 1) (t - 1) (Some k) → IsLeastFrom (has_bit words) t (Some (k + 1))
+few_found words t k some few small least =
+    let e : 64 * 0 + k + 1 ≡ k + 1 = omega arith in
+    subst (λ n. IsLeastFrom (has_bit words) t (Some n)) e
+    (found words t 0 (t - 1) k (first words t some few) small least)
+
+pub few_none : (words : List ℕ) (t : ℕ) → 1 ≤ t → t ≤ 64 → ((u : ℕ) → 64 < u → has_bit words u ≡ false)
+    → IsLeastFrom (λ i. eqb (bit_at (get_or words 0 0) i) 1) (t - 1) None → IsLeastFrom (has_bit words) t None
+few_none words t some few past least v le = elim (cases_lt v 65) [
+  | inl before ↦ (goes_on words t 0 (t - 1) (first words t some few) least).none v le before
+  | inr behind ↦ past v behind
+]

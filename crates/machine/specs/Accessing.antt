@@ -1,5 +1,5 @@
 -- A thread that makes an access to a word in its place.
-use Rattle.std.specs.Prelude.{ℕ, ◌≡◌, ◌-◌, Option, Some, None, slice_set}
+use Rattle.std.specs.Prelude.{ℕ, ◌≡◌, ◌-◌, true, Option, Some, None, slice_set}
 use Rattle.locals.specs.declared.access.Access.{Access}
 use Rattle.locals.specs.declared.access.AccessKind.{AccessKind}
 use Rattle.locals.specs.declared.access.AccessKind.TheVariants as kind
@@ -10,6 +10,7 @@ use Rattle.machine.specs.declared.event.Event.{Event}
 use Rattle.machine.specs.declared.event.EventName.{EventName}
 use Rattle.machine.specs.declared.event.EventName.TheVariants as name
 use Rattle.machine.specs.ConcreteServing.{plain}
+use Rattle.machine.specs.ConcreteSteps.{can_move}
 use Rattle.machine.specs.States.{thread_of}
 use Rattle.machine.specs.Views.{CommonView, View, concrete}
 
@@ -52,3 +53,19 @@ pub record MakesAccess (old : View) (t : ℕ) (event : Event) (new : View) : Typ
 -- the next step of thread t is no access to a word of the memory
 abbrev pub HasNoAccess : View → ℕ → Type 0
 HasNoAccess v t = (x : Thread) → thread_of (concrete v) t ≡ Some x → accessing (look v.program t x) v.words ≡ None
+
+-- a machine whose thread t has come to this state
+abbrev pub placed : View → ℕ → Thread → View
+placed v t x = record v { threads = slice_set v.threads (t - 1) x }
+
+-- thread t, if it could go to this state and can move there, made the access to a word that was its next step there, and
+-- stands where that led, as the state does; or nothing has changed
+pub record MadeFrom (told : Access) (old : View) (t : ℕ) (here : Thread) (new : View) (there : Thread) : Type 0 where
+  pub moved : can_move (concrete (placed old t here)) t ≡ true
+  pub made : MakesAccess (placed old t here) t (told_access told) new
+  pub stands : thread_of (concrete new) t ≡ Some there
+  pub moves : can_move (concrete new) t ≡ true
+
+abbrev pub AccessesFrom : Option Access → View → ℕ → Thread → View → Thread → Type 0
+AccessesFrom None old t here new there = (new ≡ old) × (there ≡ here)
+AccessesFrom (Some told) old t here new there = MadeFrom told old t here new there

@@ -1,5 +1,5 @@
 ghost use Rattle.std.specs.Prelude.{◌≡◌, ◌≢◌, ◌≤◌, ◌<◌, ◌+◌, ℕ, length, slice_index, slice_set, ◌-◌};
-ghost use Rattle.std.specs.Prelude.{◌⊎◌, true, false, Some, None, Ok, Err, IfOk, IfErr, OnOk, OnErr, MatchBool, MatchOption, is_some};
+ghost use Rattle.std.specs.Prelude.{◌⊎◌, true, false, Some, None, Ok, Err, IfOk, IfErr, OnOk, OnErr, MatchBool, MatchOption, IfSome, is_some};
 ghost use Rattle.words.specs.Limits.{most_threads};
 ghost use Rattle.words.specs.Process.{process_word};
 ghost use Rattle.words.specs.Updates.{put};
@@ -19,7 +19,7 @@ ghost use Rattle.machine.specs.States.{thread_of, state_of, opening_concrete};
 ghost use Rattle.machine.specs.Runs.{has_ended};
 ghost use Rattle.machine.specs.ConcreteSteps.{step_of, can_move, fault_at};
 ghost use Rattle.machine.specs.ConcreteOutside.{kill_of, stray_of};
-ghost use Rattle.machine.specs.Accessing.{HasNoAccess, MakesAccess, told_access};
+ghost use Rattle.machine.specs.Accessing.{AccessesFrom, HasNoAccess, MakesAccess, told_access};
 ghost use Rattle.machine.specs.LocalRuns.{RunsOn};
 ghost use Rattle.machine.specs.ThreadSets.{IsLeastFrom};
 ghost use Rattle.machine.specs.Views.{concrete, AllEnded, IsQuiet, variable_address, address_of, printed_by};
@@ -288,11 +288,23 @@ impl Machine {
     #[inline(always)]
     pub fn access(&mut self, t: u32) -> Option<Access>
         requires { can_move (concrete self.old) t ≡ true }
-        ensures { MatchOption result ((self.new ≡ self.old) × HasNoAccess self.old t)
+        ensures made { MatchOption result ((self.new ≡ self.old) × HasNoAccess self.old t)
             (λ told. MakesAccess self.old t (told_access told) self.new) }
+        ensures moves { IfSome result (λ told. can_move (concrete self.new) t ≡ true) }
     {
         let local = &mut self.threads[t as usize - 1];
         take_access(&self.image, &mut self.common, t, local)
+    }
+
+    /// The same of thread `t` as if its local steps had led it to this state: the access is made in this state, of which
+    /// the thread becomes a copy. Else nothing has changed, this state neither.
+    pub fn access_from(&mut self, t: u32, local: &mut Local) -> Option<Access>
+        requires { can_move (concrete self.old) t ≡ true }
+        ensures { AccessesFrom result self.old t local.old self.new local.new }
+    {
+        let access = take_access(&self.image, &mut self.common, t, local)?;
+        self.threads[t as usize - 1].copy_from(local);
+        Some(access)
     }
 
     /// Whether the next step of thread `t` is an access to a word of the memory, if its local steps led it here.

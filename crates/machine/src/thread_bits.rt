@@ -2,7 +2,7 @@
 ghost use Rattle.std.specs.Prelude.{◌≡◌, ◌≢◌, ◌≤◌, ◌<◌, ℕ, false, replicate};
 ghost use Rattle.machine.specs.ThreadSets.{IsLeastFrom, IsMember, has_bit, most_members, with_turned};
 
-use crate::thread_set::{WORDS, has_bit, least_from};
+use crate::thread_set::{WORDS, has_bit, least_from, lowest_from};
 
 /// Threads from 1 to 1,000, of which any may come in and go out: thread t has bit (t - 1) % 64 of word (t - 1) / 64.
 #[derive(Drop)]
@@ -45,8 +45,22 @@ impl ThreadBits {
         requires none { (u : ℕ) → last < u → has_bit self.now.words u ≡ false }
         ensures { IsLeastFrom (has_bit self.now.words) t result }
     {
+        if last <= 64 {
+            return self.next_of_few(t);
+        }
         let words = (last as usize).div_ceil(64);
         least_from(&self.words[..words], t)
+    }
+
+    // The same where none is past the first word.
+    #[inline(always)]
+    fn next_of_few(&self, t: u32) -> Option<u32>
+        requires from { (1 ≤ t) × (t ≤ 64) }
+        requires none { (u : ℕ) → 64 < u → has_bit self.now.words u ≡ false }
+        ensures { IsLeastFrom (has_bit self.now.words) t result }
+    {
+        let place = lowest_from(self.words[0], t - 1)?;
+        Some(place + 1)
     }
 }
 

@@ -140,7 +140,7 @@ pub(crate) fn has_bit(words: &[u64; WORDS], t: u32) -> bool
 
 // The place of the lowest bit of a word from `low` on, if one is set there.
 #[tactic(auto, using(crate::proofs::Leasts::none_from, crate::proofs::Leasts::some_from, crate::proofs::Leasts::some_inside))]
-fn lowest_from(word: u64, low: u32) -> Option<u32>
+pub(crate) fn lowest_from(word: u64, low: u32) -> Option<u32>
     requires { low < 64 }
     ensures least { IsLeastFrom (λ i. bit_at word i == 1) low result }
     ensures inside { IfSome result (λ k. k < 64) }

@@ -10,14 +10,16 @@ use Rattle.locals.specs.Looks.{Request, AskLoad, AskStore, AskSwap, AskCompareSw
 use Rattle.locals.specs.Looks.{AskWait, AskWake, AskRequeue, AskReturn, AskReturnValue, AskFault, Look, Goes, Asks}
 use Rattle.locals.specs.Looks.{Leaves, Breaks, Rests, look}
 use Rattle.machine.specs.declared.event.Event.{Event}
-use Rattle.machine.specs.Accessing.{HasNoAccess, MakesAccess, told_access}
+use Rattle.machine.specs.Accessing.{AccessesFrom, HasNoAccess, MakesAccess, placed, told_access}
 use Rattle.machine.specs.ConcreteSteps.{can_move}
 use Rattle.machine.specs.PieceStates.{PieceState, call_at, call_of}
 use Rattle.machine.specs.PieceSteps.{BlocksAt, BlocksCall}
 use Rattle.machine.specs.Views.{View, concrete}
 use Rattle.machine.proofs.Accessing.{access_steps, awake}
+use Rattle.machine.proofs.Placing.{thread_at-put}
 use Rattle.piece_machine.specs.PieceConcrete.{piece_of}
-use Rattle.piece_machine.specs.PieceViews.{PieceView, HasNoLocal, IsApart, IsKept, parts, pieces}
+use Rattle.piece_machine.specs.PieceViews.{PieceView, DoneFrom, GoesTo, HasNoLocal, IsApart, IsKept, parts, pieces}
+use Rattle.piece_machine.proofs.Locally.{local_put}
 use Rattle.piece_machine.proofs.OwnCalls.{one_thread}
 use Rattle.piece_machine.proofs.Taken.{kept_step, whole_gives}
 
@@ -120,3 +122,34 @@ pub access_program : (v v' : View) (t : ℕ) (made : Option Access)
     → v'.program ≡ v.program
 access_program v v' t (Some told) m = ap (λ (q : View). q.program) m.after
 access_program v v' t None m = ap (λ (q : View). q.program) m.0
+
+-- the same from where its local steps led the thread
+pub from_kept : (v v' : View) (phases : List FutexPhase) (t : ℕ) (here there : Thread) (made : Option Access)
+    → IsKept v phases → can_move (concrete v) t ≡ true → GoesTo v t here → AccessesFrom made v t here v' there
+    → IsKept v' phases
+from_kept v v' phases t here there (Some told) kept can goes m =
+    let mid = placed v t here in
+    kept_step mid v' phases phases t (told_access told) (local_put v mid phases t here kept can goes refl)
+    (ap (λ (q : View). q.program) m.made.after) refl (gives mid v' phases t (told_access told) m.moved m.made)
+from_kept v v' phases t here there None kept can goes m = subst (λ (q : View). IsKept q phases) (sym m.0) kept
+
+pub from_done : (v v' : View) (phases : List FutexPhase) (t : ℕ) (here there : Thread) (made : Option Access)
+    → GoesTo v t here → AccessesFrom made v t here v' there
+    → MatchOption made
+    (((let w : PieceView = record { view = v'; phases = phases } in w) ≡ record { view = v; phases = phases })
+    × (there ≡ here))
+    (λ told. DoneFrom told (record { view = v; phases = phases }) t here (record { view = v'; phases = phases }) there)
+from_done v v' phases t here there (Some told) goes m =
+    let mid = placed v t here in
+    record {
+      gives = gives mid v' phases t (told_access told) m.moved m.made;
+      shared = no_local mid v' t (told_access told) m.made here (thread_at-put v.threads t goes.origin here goes.stands);
+      stands = m.stands;
+      moves = m.moves;
+    }
+from_done v v' phases t here there None goes m = ((λ i. record { view = m.0 i; phases = phases }), m.1)
+
+pub from_program : (v v' : View) (t : ℕ) (here there : Thread) (made : Option Access) → AccessesFrom made v t here v' there
+    → v'.program ≡ v.program
+from_program v v' t here there (Some told) m = ap (λ (q : View). q.program) m.made.after
+from_program v v' t here there None m = ap (λ (q : View). q.program) m.0

@@ -1,5 +1,5 @@
 -- A machine whose threads take futex calls in pieces, as contracts see it, and its steps.
-use Rattle.std.specs.Prelude.{ℕ, ◌≡◌, ◌<◌, ◌==◌, Bool, List, [], ◌∷◌, Option, Some, None, false, is_some, length, slice_index_or}
+use Rattle.std.specs.Prelude.{ℕ, ◌≡◌, ◌<◌, ◌==◌, Bool, List, [], ◌∷◌, Option, Some, None, Ok, true, false, is_some, length, slice_index_or}
 use Rattle.std.specs.List.{sum_by}
 use Rattle.words.specs.Limits.{most_threads}
 use Rattle.buckets.specs.Sleepers.{bucket_count, holder_of}
@@ -12,6 +12,9 @@ use Rattle.futexcalls.specs.Pieces.{takes_at, LiesIn}
 use Rattle.locals.specs.Threads.{Thread}
 use Rattle.locals.specs.Looks.{look}
 use Rattle.locals.specs.Steps.{local_step, local_after}
+use Rattle.locals.specs.declared.access.Access.{Access}
+use Rattle.machine.specs.Accessing.{told_access}
+use Rattle.machine.specs.ConcreteSteps.{can_move}
 use Rattle.machine.specs.States.{thread_of}
 use Rattle.machine.specs.Views.{View, concrete, IsWellFormed}
 use Rattle.machine.specs.ConcretePieces.{pieces_of}
@@ -26,7 +29,7 @@ use Rattle.machine.specs.PieceStates.{PieceState, IsHeldRight, call_at, called}
 use Rattle.machine.specs.PieceSteps.{IsPieceStep, PieceRun, BlocksAt, BlocksCall, CanTakePiece}
 use Rattle.machine.specs.Runs.{Own, Strayed, Killed, Step, is_paused}
 use Rattle.machine.specs.ThreadSets.{set_of}
-use Rattle.piece_machine.specs.PieceConcrete.{PieceConcrete}
+use Rattle.piece_machine.specs.PieceConcrete.{PieceConcrete, piece_of, with_local}
 
 -- the machine, and for each thread from 0 the phase of its call
 pub record PieceView : Type 0 where
@@ -174,3 +177,11 @@ pub record GoesTo (v : View) (t : ℕ) (here : Thread) : Type 0 where
   pub count : ℕ
   pub stands : thread_of (concrete v) t ≡ Some origin
   pub goes : local_after v.program t count origin ≡ Some here
+
+-- thread t, which went from where it stands to this state, made the access to a word that was its next step there, no step
+-- of its own alone, and stands where that led, as the state does
+pub record DoneFrom (told : Access) (old : PieceView) (t : ℕ) (here : Thread) (new : PieceView) (there : Thread) : Type 0 where
+  pub gives : piece_of old.view.program (with_local (parts old) t here) t ≡ Ok (parts new, told_access told)
+  pub shared : is_some (local_step old.view.program t here) ≡ false
+  pub stands : thread_of (concrete new.view) t ≡ Some there
+  pub moves : can_move (concrete new.view) t ≡ true

@@ -1,11 +1,11 @@
 //! What threads of a machine in pieces do in their place: their local steps, and accesses to words.
-ghost use Rattle.std.specs.Prelude.{◌≡◌, ◌-◌, true, Ok, MatchOption, slice_set};
+ghost use Rattle.std.specs.Prelude.{◌≡◌, ◌-◌, true, Ok, IfSome, MatchOption, slice_set};
 ghost use Rattle.machine.specs.Accessing.{HasNoAccess, told_access};
 ghost use Rattle.machine.specs.ConcreteSteps.{can_move};
 ghost use Rattle.machine.specs.LocalRuns.{RunsOn};
 ghost use Rattle.machine.specs.Views.{concrete};
 ghost use Rattle.piece_machine.specs.PieceConcrete.{piece_of};
-ghost use Rattle.piece_machine.specs.PieceViews.{GoesTo, HasNoLocal, parts};
+ghost use Rattle.piece_machine.specs.PieceViews.{DoneFrom, GoesTo, HasNoLocal, parts};
 
 use crate::piece_machine::PieceMachine;
 use locals::{Access, Local};
@@ -46,8 +46,21 @@ impl PieceMachine {
         ensures made { MatchOption result ((self.new ≡ self.old) × HasNoAccess self.old.view t)
             (λ told. (piece_of self.old.view.program (parts self.old) t ≡ Ok (parts self.new, told_access told))
             × HasNoLocal self.old.view t) }
+        ensures moves { IfSome result (λ told. can_move (concrete self.new.view) t ≡ true) }
         ensures program { self.new.view.program ≡ self.old.view.program }
     {
         self.machine.access(t)
+    }
+
+    /// The same of thread `t` as if its local steps had led it to this state: the access is made in this state, of which
+    /// the thread becomes a copy. Else nothing has changed, this state neither.
+    pub fn access_from(&mut self, t: u32, local: &mut Local) -> Option<Access>
+        requires can_move { can_move (concrete self.old.view) t ≡ true }
+        requires goes { GoesTo self.old.view t local.old }
+        ensures made { MatchOption result ((self.new ≡ self.old) × (local.new ≡ local.old))
+            (λ told. DoneFrom told self.old t local.old self.new local.new) }
+        ensures program { self.new.view.program ≡ self.old.view.program }
+    {
+        self.machine.access_from(t, local)
     }
 }

@@ -23,7 +23,7 @@ use Rattle.runner.specs.declared.attempt.Obstacle.TheVariants.{First, Other}
 use Rattle.runner.specs.declared.passing_over.Waiting.{Waiting}
 use Rattle.runner.specs.declared.thread_bits.ThreadBits.{ThreadBits}
 use Rattle.runner.specs.declared.attempt.Attempt.{Attempt}
-use Rattle.runner.specs.declared.attempt.Attempt.TheVariants.{Made, Took, Wants, HeldUp, Refused}
+use Rattle.runner.specs.declared.attempt.Attempt.TheVariants.{Accessed, Made, Took, Wants, HeldUp, Refused}
 use Rattle.runner.specs.Attempts.{HasEntered, TriedSo, WantsBucket, WantsIf, is_made}
 use Rattle.runner.specs.Reports.{IsHeldUp, IsStopped}
 use Rattle.runner.specs.Logs.{Enters, Runs, opening}
@@ -160,13 +160,21 @@ all_stopped p limit h from before free u moves = elim (cases_lt u from) [
 ]
 
 -- an entry that was made is one of the thread's own, whichever bucket it took
-pub made_so : (p : Program) (k k' : PieceConcrete) (t : ℕ) (a : Attempt) → is_made a ≡ true → HasEntered p k t k'
-    → TriedSo p k t a k'
-made_so p k k' t Made made entered = entered
-made_so p k k' t (Took bucket) made entered = entered
-made_so p k k' t (Wants bucket) made entered = absurd cc
-made_so p k k' t HeldUp made entered = absurd cc
-made_so p k k' t Refused made entered = absurd cc
+pub made_so : (p : Program) (k k' : PieceConcrete) (t : ℕ) (a : Attempt) → is_made a ≡ true → a ≢ Accessed
+    → HasEntered p k t k' → TriedSo p k t a k'
+made_so p k k' t Accessed made other entered = absurd (other refl)
+made_so p k k' t Made made other entered = entered
+made_so p k k' t (Took bucket) made other entered = entered
+made_so p k k' t (Wants bucket) made other entered = absurd cc
+made_so p k k' t HeldUp made other entered = absurd cc
+made_so p k k' t Refused made other entered = absurd cc
+
+pub made_entered : (p : Program) (k k' : PieceConcrete) (t : ℕ) (a : Attempt) → ((a ≡ Accessed) ⊎ (a ≡ Made))
+    → TriedSo p k t a k' → HasEntered p k t k'
+made_entered p k k' t a is tried = elim is [
+  | inl e ↦ (subst (λ (b : Attempt). TriedSo p k t b k') e tried).0
+  | inr e ↦ subst (λ (b : Attempt). TriedSo p k t b k') e tried
+]
 
 -- what is noted of an obstacle
 pub wants_if : (p : Program) (k : PieceConcrete) (t : ℕ) (o : Obstacle) → ((b : ℕ) → o ≡ First b → WantsBucket p k t b)

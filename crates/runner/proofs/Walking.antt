@@ -1,23 +1,27 @@
 -- What comes of a thread that took the local steps of its turn, on the machine or ahead of it.
-use Rattle.std.proofs.Common.{◌≡◌, ◌≤◌, ◌<◌, ℕ, zero, suc, true, Option, Some, None, Ok, Err, Result}
+use Rattle.std.proofs.Common.{◌≡◌, ◌≢◌, ◌≤◌, ◌<◌, ℕ, zero, suc, true, Option, Some, None, Ok, Err, Result}
 use Rattle.std.proofs.Common.{is_some, length, slice_set, false, ◌-◌, IfErr, refl, ap, sym, ◌∙◌, subst, arith}
+use Rattle.std.specs.Prelude.{IfNone, IfSome, MatchOption}
 use Rattle.std.specs.Result.{result_and}
 use Rattle.isa.specs.Programs.{Program}
 use Rattle.locals.specs.declared.request.NextStep.{NextStep}
-use Rattle.locals.specs.Looks.{look}
+use Rattle.locals.specs.Looks.{Look, Goes, Asks, Leaves, Breaks, Rests, look}
+use Rattle.locals.specs.declared.request.NextStep.TheVariants as kind
 use Rattle.locals.specs.Requests.{next_step_of}
-use Rattle.locals.specs.Steps.{local_step, local_after}
+use Rattle.locals.specs.Steps.{local_next, local_step, local_after}
 use Rattle.locals.specs.Threads.{Thread}
 use Rattle.machine.specs.ConcreteSteps.{can_move, fault_of}
 use Rattle.machine.specs.declared.event.Event.{Event}
 use Rattle.machine.specs.declared.event.StepFault.{StepFault}
 use Rattle.machine.specs.declared.event.StepFault.TheVariants.{Broken, CannotMove}
+use Rattle.locals.specs.declared.access.Access.{Access}
+use Rattle.machine.specs.Accessing.{HasNoAccess, told_access}
 use Rattle.machine.specs.LocalRuns.{RunsOn}
 use Rattle.machine.specs.States.{state_of, thread_of}
 use Rattle.machine.specs.Views.{View, concrete}
 use Rattle.machine.proofs.Placing.{thread_at-put}
 use Rattle.piece_machine.specs.PieceConcrete.{PieceConcrete, piece_fault_at, piece_of, with_local}
-use Rattle.piece_machine.specs.PieceViews.{PieceView as MachineView, GoesTo, parts}
+use Rattle.piece_machine.specs.PieceViews.{PieceView as MachineView, DoneFrom, GoesTo, HasNoLocal, parts}
 use Rattle.runner.specs.Entries.{BreaksAfter, entry_end}
 use Rattle.runner.specs.Logs.{EntersOwn}
 use Rattle.runner.specs.Reports.{IsHeldUp}
@@ -184,27 +188,6 @@ walk_waits p k mid t n w waits = record {
   waits = waits;
 }
 
--- a thread that looked ahead, and was put there
-pub caught_up : (p : Program) (k mid : PieceConcrete) (t n : ℕ) (origin ahead here : Thread)
-    → thread_of k.concrete t ≡ Some origin → local_after p t n origin ≡ Some here → (0 < n → ahead ≡ here)
-    → (0 < n → mid ≡ with_local k t ahead) → (n ≡ 0 → mid ≡ k) → mid ≡ with_local k t here
-caught_up p k mid t zero origin ahead here stands goes is some none =
-    let e : origin ≡ here = cc in none refl ∙ sym (put_back k t here (stands ∙ ap Some e))
-caught_up p k mid t (suc n) origin ahead here stands goes is some none =
-    some (omega arith) ∙ ap (with_local k t) (is (omega arith))
-
-abbrev pub walked_ahead : (p : Program) (k mid : PieceConcrete) (t n : ℕ) (origin ahead : Thread) (next : NextStep)
-    → thread_of k.concrete t ≡ Some origin → can_move k.concrete t ≡ true → LooksFrom p t origin n next ahead
-    → (0 < n → mid ≡ with_local k t ahead) → (n ≡ 0 → mid ≡ k) → Walked p k t n mid
-walked_ahead p k mid t n origin ahead next stands moves l some none = record {
-  origin = origin;
-  here = l.here;
-  stands = stands;
-  moves = moves;
-  turns = l.turns;
-  there = caught_up p k mid t n origin ahead l.here stands l.turns.goes l.ahead_is some none;
-}
-
 -- its next step is the one that was seen ahead
 pub next_there : (p q : Program) (k mid : PieceConcrete) (t n : ℕ) (x : Thread) (next : NextStep) → q ≡ p
     → (w : Walked p k t n mid) → next ≡ next_step_of (look p t w.here) → thread_of mid.concrete t ≡ Some x
@@ -215,38 +198,6 @@ next_there p q k mid t n x next same w is at =
     is ∙ (λ i. next_step_of (look (sym same i) t (e i)))
 
 -- what was seen ahead of a machine
-pub record Looked (v : View) (t n : ℕ) (next : NextStep) (ahead : Thread) : Type 0 where
-  pub origin : Thread
-  pub stands : thread_of (concrete v) t ≡ Some origin
-  pub looks : LooksFrom v.program t origin n next ahead
-
-pub looked : (v w : View) (t n : ℕ) (next : NextStep) (ahead : Thread) → w ≡ v → can_move (concrete v) t ≡ true
-    → ((x : Thread) → thread_of (concrete w) t ≡ Some x → LooksFrom w.program t x n next ahead)
-    → Looked v t n next ahead
-looked v w t n next ahead shows moves looks =
-    let u = up (concrete v) t moves in
-    let all = subst (λ (z : View). (x : Thread) → thread_of (concrete z) t ≡ Some x
-    → LooksFrom z.program t x n next ahead) shows looks in
-    record { origin = u.thread; stands = u.stands; looks = all u.thread u.stands }
-
-pub goes_ahead : (v : View) (t n : ℕ) (next : NextStep) (ahead : Thread) (l : Looked v t n next ahead)
-    → GoesTo v t l.looks.here
-goes_ahead v t n next ahead l =
-    record { origin = l.origin; count = n; stands = l.stands; goes = l.looks.turns.goes }
-
-pub goes_there : (v : View) (t n : ℕ) (next : NextStep) (ahead : Thread) → Looked v t n next ahead → 0 < n
-    → GoesTo v t ahead
-goes_there v t n next ahead l some =
-    subst (λ (x : Thread). GoesTo v t x) (sym (l.looks.ahead_is some)) (goes_ahead v t n next ahead l)
-
-abbrev pub walked_after : (old mid : MachineView) (t n : ℕ) (next : NextStep) (ahead : Thread)
-    → can_move (concrete old.view) t ≡ true → Looked old.view t n next ahead
-    → (0 < n → parts mid ≡ with_local (parts old) t ahead) → (n ≡ 0 → mid ≡ old)
-    → Walked old.view.program (parts old) t n (parts mid)
-walked_after old mid t n next ahead moves l some none =
-    walked_ahead old.view.program (parts old) (parts mid) t n l.origin ahead next l.stands moves l.looks some
-    (λ is. ap (λ (m : MachineView). parts m) (none is))
-
 pub held_ahead : (p : Program) (k : PieceConcrete) (t n : ℕ) (origin ahead : Thread) (next : NextStep)
     → thread_of k.concrete t ≡ Some origin → can_move k.concrete t ≡ true → (l : LooksFrom p t origin n next ahead)
     → piece_fault_at p k t l.here ≡ Some CannotMove → IsHeldUp p k t
@@ -330,3 +281,119 @@ pub and_err : {A B E : Type 0} → (P : E → Type 0) (r : Result A E) (b : B) (
     → IfErr r P → IfErr out P
 and_err P (Ok x) b out is h = subst (λ o. IfErr o P) (sym is) tt
 and_err P (Err e) b out is h = subst (λ o. IfErr o P) (sym is) h
+
+-- a thread that went on in its place, and tried an access there
+pub walk_accessed : (old mid new : MachineView) (t n : ℕ) (made : Option Access) → can_move (concrete old.view) t ≡ true
+    → RunsOn old.view t 256 n mid.view → mid.phases ≡ old.phases
+    → MatchOption made ((new ≡ mid) × HasNoAccess mid.view t)
+    (λ told. (piece_of mid.view.program (parts mid) t ≡ Ok (parts new, told_access told)) × HasNoLocal mid.view t)
+    → IfSome made (λ told. EntersOwn old.view.program (parts old) (entry t n (Some (told_access told))) (parts new))
+walk_accessed old mid new t n None moves r phases h = tt
+walk_accessed old mid new t n (Some told) moves r phases h =
+    let same = ap (λ (w : View). w.program) r.after in
+    let w = walked_as old.view.program mid.view.program (parts old) (parts mid) t n same
+    (walked_on old mid t n moves r phases) in
+    subst (λ (q : Program). EntersOwn q (parts old) (entry t n (Some (told_access told))) (parts new)) same
+    (step_enters mid.view.program (parts old) (parts mid) (parts new) t n (told_access told) w
+    (h.1 w.here (walked_there mid.view.program (parts old) (parts mid) t n w)) h.0)
+
+pub walk_none : (old mid new : MachineView) (t n : ℕ) (made : Option Access) → can_move (concrete old.view) t ≡ true
+    → RunsOn old.view t 256 n mid.view → mid.phases ≡ old.phases
+    → MatchOption made ((new ≡ mid) × HasNoAccess mid.view t)
+    (λ told. (piece_of mid.view.program (parts mid) t ≡ Ok (parts new, told_access told)) × HasNoLocal mid.view t)
+    → IfNone made ((Walked old.view.program (parts old) t n (parts new)) × (new.view.room ≡ old.view.room))
+walk_none old mid new t n None moves r phases h = (
+  walked_still old mid new t n moves r phases h.0,
+  ap (λ (m : MachineView). m.view.room) h.0 ∙ ap (λ (w : View). w.room) r.after,
+)
+walk_none old mid new t n (Some told) moves r phases h = tt
+
+pub walk_moves : (mid new : MachineView) (t : ℕ) (made : Option Access) → can_move (concrete mid.view) t ≡ true
+    → MatchOption made ((new ≡ mid) × HasNoAccess mid.view t)
+    (λ told. (piece_of mid.view.program (parts mid) t ≡ Ok (parts new, told_access told)) × HasNoLocal mid.view t)
+    → IfSome made (λ told. can_move (concrete new.view) t ≡ true) → can_move (concrete new.view) t ≡ true
+walk_moves mid new t None moves h made = subst (λ (m : MachineView). can_move (concrete m.view) t ≡ true) (sym h.0) moves
+walk_moves mid new t (Some told) moves h made = made
+
+-- where the step that it stands before may not be
+pub breaks_there : (p : Program) (k mid : PieceConcrete) (t n : ℕ) (w : Walked p k t n mid)
+    → is_some (local_step p t w.here) ≡ false → piece_of p mid t ≡ Err Broken → BreaksAfter p k t n
+breaks_there p k mid t n w shared fails = record {
+  origin = w.origin;
+  here = w.here;
+  stands = w.stands;
+  goes = w.turns.goes;
+  breaks = refused_end (with_local k t w.here) (piece_of p (with_local k t w.here) t) (local_step p t w.here) Broken
+      (no_step (local_step p t w.here) shared) (ap (λ (m : PieceConcrete). piece_of p m t) (sym w.there) ∙ fails);
+}
+
+-- or waits for a bucket
+pub waits_there : (p : Program) (k mid : PieceConcrete) (t n : ℕ) (w : Walked p k t n mid)
+    → is_some (local_step p t w.here) ≡ false → piece_of p mid t ≡ Err CannotMove → IsHeldUp p k t
+waits_there p k mid t n w shared fails =
+    walk_waits p k mid t n w (refused_end (with_local k t w.here) (piece_of p (with_local k t w.here) t)
+    (local_step p t w.here) CannotMove (no_step (local_step p t w.here) shared)
+    (ap (λ (m : PieceConcrete). piece_of p m t) (sym w.there) ∙ fails))
+
+pub fault_here : (p : Program) (k : PieceConcrete) (t : ℕ) (x : Thread) → thread_of k.concrete t ≡ Some x
+    → piece_of p k t ≡ Err CannotMove → piece_fault_at p k t x ≡ Some CannotMove
+fault_here p k t x stands fails =
+    ap (λ (q : PieceConcrete). fault_of (piece_of p q t)) (put_back k t x stands) ∙ ap fault_of fails
+
+-- the step of a thread that is none of its own alone
+pub is_shared : (p : Program) (t : ℕ) (x : Thread) (next : NextStep) → next ≡ next_step_of (look p t x)
+    → next ≢ kind.Local → is_some (local_step p t x) ≡ false
+is_shared p t x next is not = by (look p t x) is
+  where
+    by : (l : Look) → next ≡ next_step_of l → is_some (local_next l) ≡ false
+    by (Goes y) h = absurd (not h)
+    by (Asks request go) h = refl
+    by (Leaves phase) h = refl
+    by Breaks h = refl
+    by Rests h = refl
+
+-- a thread that went on ahead of the machine by the local steps of its turn
+pub record Ahead (v : View) (t n : ℕ) (here : Thread) : Type 0 where
+  pub origin : Thread
+  pub stands : thread_of (concrete v) t ≡ Some origin
+  pub turns : Turns v.program t n origin here
+
+pub ahead_of : (v w : View) (t n : ℕ) (here : Thread) → w ≡ v → can_move (concrete v) t ≡ true
+    → ((x : Thread) → thread_of (concrete w) t ≡ Some x → Turns w.program t n x here) → Ahead v t n here
+ahead_of v w t n here shows moves turns =
+    let u = up (concrete v) t moves in
+    let all = subst (λ (z : View). (x : Thread) → thread_of (concrete z) t ≡ Some x → Turns z.program t n x here) shows
+    turns in
+    record { origin = u.thread; stands = u.stands; turns = all u.thread u.stands }
+
+pub goes_to : (v : View) (t n : ℕ) (here : Thread) → Ahead v t n here → GoesTo v t here
+goes_to v t n here a = record { origin = a.origin; count = n; stands = a.stands; goes = a.turns.goes }
+
+pub looks_to : (v : View) (t n : ℕ) (here : Thread) (next : NextStep) (a : Ahead v t n here)
+    → next ≡ next_step_of (look v.program t here) → LooksFrom v.program t a.origin n next here
+looks_to v t n here next a is = record { here = here; turns = a.turns; next_is = is; ahead_is = λ some. refl }
+
+-- it was put there
+abbrev pub walked_put : (old new : MachineView) (t n : ℕ) (here : Thread) → can_move (concrete old.view) t ≡ true
+    → Ahead old.view t n here → IsPut old t here new → Walked old.view.program (parts old) t n (parts new)
+walked_put old new t n here moves a is = record {
+  origin = a.origin;
+  here = here;
+  stands = a.stands;
+  moves = moves;
+  turns = a.turns;
+  there = ap (λ (m : MachineView). parts m) is;
+}
+
+-- or made its access from there
+pub from_enters : (old new : MachineView) (t n : ℕ) (here there : Thread) (told : Access)
+    → can_move (concrete old.view) t ≡ true → Ahead old.view t n here → DoneFrom told old t here new there
+    → EntersOwn old.view.program (parts old) (entry t n (Some (told_access told))) (parts new)
+from_enters old new t n here there told moves a d = record {
+  origin = a.origin;
+  here = here;
+  stands = a.stands;
+  moves = moves;
+  goes = a.turns.goes;
+  ends = (no_step (local_step old.view.program t here) d.shared, d.gives);
+}

@@ -14,13 +14,14 @@ use Rattle.machine.specs.States.{thread_of}
 use Rattle.machine.specs.declared.event.Entry.{Entry}
 use Rattle.piece_machine.specs.PieceConcrete.{PieceConcrete, lies_in}
 use Rattle.runner.specs.declared.attempt.Attempt.{Attempt}
-use Rattle.runner.specs.declared.attempt.Attempt.TheVariants.{Made, Took, Wants, HeldUp, Refused}
+use Rattle.runner.specs.declared.attempt.Attempt.TheVariants.{Accessed, Made, Took, Wants, HeldUp, Refused}
 use Rattle.runner.specs.declared.attempt.Obstacle.{Obstacle}
 use Rattle.runner.specs.declared.attempt.Obstacle.TheVariants.{First, Other}
 use Rattle.runner.specs.Logs.{EntersOwn}
 
 -- whether the entry was made
 abbrev pub is_made : Attempt → Bool
+is_made Accessed = true
 is_made Made = true
 is_made (Took bucket) = true
 is_made (Wants bucket) = false
@@ -59,6 +60,7 @@ WantsIf p k t Other = Unit {0}
 
 -- what is told of a try that led from one state to the other
 abbrev pub TriedSo : Program → PieceConcrete → ℕ → Attempt → PieceConcrete → Type 0
+TriedSo p k t Accessed k' = HasEntered p k t k' × (can_move k'.concrete t ≡ true)
 TriedSo p k t Made k' = HasEntered p k t k'
 TriedSo p k t (Took bucket) k' = HasEntered p k t k'
 TriedSo p k t (Wants bucket) k' = WantsBucket p k' t bucket

@@ -15,6 +15,8 @@ pub enum Obstacle {
 /// What came of a try to make a thread's next entry. Its one number has room in a register beside its kind.
 #[derive(Clone, Copy)]
 pub enum Attempt {
+    /// It was made, and ended with an access to a word: the thread can move still, and nobody else was concerned.
+    Accessed,
     /// It was made, and isn't known to have taken a bucket.
     Made,
     /// It was made, and took this bucket.
@@ -32,7 +34,7 @@ impl Attempt {
     pub fn is_made(self) -> bool
         ensures { result ≡ is_made self }
     {
-        matches!(self, Attempt::Made | Attempt::Took(_))
+        matches!(self, Attempt::Accessed | Attempt::Made | Attempt::Took(_))
     }
 }
 

@@ -1,23 +1,25 @@
 ghost use Rattle.words.specs.Limits.{most_local_steps};
 ghost use Rattle.std.specs.Prelude.{◌≡◌, ◌≢◌, ◌≤◌, ◌<◌, ◌+◌, ◌++◌, ◌∷◌, ℕ, [], length, true, None, Some, Err, IfErr, IfOk, is_some};
-ghost use Rattle.std.specs.Prelude.{MatchBool, OnErr, OnOk};
+ghost use Rattle.std.specs.Prelude.{IfNone, IfSome, MatchBool, OnErr, OnOk};
 ghost use Rattle.locals.specs.Looks.{look};
 ghost use Rattle.locals.specs.Requests.{next_step_of};
+ghost use Rattle.locals.specs.declared.request.NextStep.TheVariants as next;
 ghost use Rattle.locals.specs.Threads.{Thread};
+ghost use Rattle.machine.specs.Accessing.{told_access};
 ghost use Rattle.machine.specs.ConcreteSteps.{can_move};
 ghost use Rattle.machine.specs.declared.event.Event.{Event as EventOf};
 ghost use Rattle.machine.specs.declared.event.StepFault.TheVariants.{CannotMove};
 ghost use Rattle.machine.specs.States.{state_of, thread_of};
 ghost use Rattle.machine.specs.Views.{concrete};
-ghost use Rattle.piece_machine.specs.PieceConcrete.{PieceConcrete, piece_fault_at, with_local};
+ghost use Rattle.piece_machine.specs.PieceConcrete.{PieceConcrete, piece_fault_at};
 ghost use Rattle.piece_machine.specs.PieceDetermined.{IsFit};
 ghost use Rattle.piece_machine.specs.PieceViews.{GoesTo, parts};
 ghost use Rattle.runner.specs.Attempts.{AsksFirst, WantsIf, is_made};
 ghost use Rattle.runner.specs.Entries.{BreaksAfter, entry_end, taken_entry, taken_event};
 ghost use Rattle.runner.specs.Logs.{EntersOwn, event_cost};
 ghost use Rattle.runner.specs.Reports.{IsHeldUp};
-ghost use Rattle.runner.specs.Walks.{Walked, LooksFrom};
-ghost use Rattle.runner.specs.declared.attempt.Obstacle;
+ghost use Rattle.runner.specs.Walks.{Turns, Walked};
+ghost use Rattle.runner.specs.declared.attempt.{Attempt, Obstacle};
 
 use crate::attempt::{Attempt, Obstacle};
 use crate::calling::call_in;
@@ -62,7 +64,8 @@ pub fn is_shared(behind: Behind) -> bool
 /// What came of the try of an entry that was made in its place.
 #[inline(always)]
 pub fn attempt_of(taken: Taken, event: &Event) -> Attempt
-    ensures { is_made result ≡ true }
+    ensures made { is_made result ≡ true }
+    ensures other { result ≢ Attempt.Accessed }
 {
     if matches!(taken.behind, Behind::Stepped) && event.name == EventName::FutexLock {
         Attempt::Took(event.value)
@@ -87,40 +90,53 @@ pub fn push_taken(log: &mut PackedLog, t: u32, taken: Taken, event: &Event)
     }
 }
 
-/// Takes the next entry of thread `t` in its place: its local steps until another step comes or its turn is over, and
-/// then the shared step that it stands before, if any, whose event is put in its place. No held bucket is in its way. An
-/// access to a word, as most are, is made at once: nothing is asked for and answered.
-/// Where that step may not be, the entry has the local steps alone.
+/// Lets thread `t` take the local steps of its turn in its place, and the access to a word behind them, where that is its
+/// next step, as it mostly is: then its entry is made, and nothing was asked for and answered. Answers how many they were,
+/// and the access.
 #[inline(always)]
-pub fn take_entry(
-    machine: &mut PieceMachine,
-    t: u32,
-    event: &mut Event,
-) -> (Taken, Result<(), RunFault>)
-    requires thread { can_move (concrete machine.old.view) t ≡ true }
-    requires free { IsHeldUp machine.old.view.program (parts machine.old) t → ⊥ }
-    requires room { 1 ≤ machine.old.view.room }
-    ensures enters { EntersOwn machine.old.view.program (parts machine.old) (taken_entry t result.0 event.new)
-        (parts machine.new) }
-    ensures turn { result.0.local ≤ most_local_steps }
-    ensures goes { OnOk result.1 (1 ≤ result.0.local + event_cost (taken_event result.0.behind event.new)) }
-    ensures breaks { IfErr result.1
-        (λ fault. (fault ≡ RunFault.Broken)
-        × BreaksAfter machine.old.view.program (parts machine.old) t result.0.local) }
+pub fn walk(machine: &mut PieceMachine, t: u32) -> (u32, Option<Access>)
+    requires { can_move (concrete machine.old.view) t ≡ true }
+    ensures accessed { IfSome result.1 (λ access. EntersOwn machine.old.view.program (parts machine.old)
+        (record { thread = t; local = result.0; event = Some (told_access access) }) (parts machine.new)) }
+    ensures walked { IfNone result.1 (Walked machine.old.view.program (parts machine.old) t result.0 (parts machine.new)
+        × (machine.new.view.room ≡ machine.old.view.room)) }
+    ensures turn { result.0 ≤ most_local_steps }
+    ensures moves { can_move (concrete machine.new.view) t ≡ true }
     ensures program { machine.new.view.program ≡ machine.old.view.program }
 {
     let local = machine.run_local(t, MOST_LOCAL_STEPS);
-    if let Some(access) = machine.access(t) {
-        let behind = Behind::Accessed(access);
-        return (Taken { local, behind }, Ok(()));
-    }
+    (local, machine.access(t))
+}
+
+/// Ends the entry of thread `t`, which has taken the local steps of its turn in its place, so many, and stands before no
+/// access: with the shared step that it stands before, if any, whose event is put in its place. Where that step may not be,
+/// the entry has the local steps alone.
+#[inline(never)]
+pub fn end_walk(
+    machine: &mut PieceMachine,
+    t: u32,
+    local: u32,
+    event: &mut Event,
+) -> (Taken, Result<(), RunFault>)
+    requires moves { can_move (concrete machine.old.view) t ≡ true }
+    requires room { 1 ≤ machine.old.view.room }
+    ensures count { result.0.local ≡ local }
+    ensures enters { (k : PieceConcrete) → Walked machine.old.view.program k t local (parts machine.old)
+        → EntersOwn machine.old.view.program k (taken_entry t result.0 event.new) (parts machine.new) }
+    ensures goes { (k : PieceConcrete) → Walked machine.old.view.program k t local (parts machine.old)
+        → OnOk result.1 (1 ≤ result.0.local + event_cost (taken_event result.0.behind event.new)) }
+    ensures breaks { IfErr result.1 (λ fault. (k : PieceConcrete)
+        (w : Walked machine.old.view.program k t local (parts machine.old))
+        → (entry_end machine.old.view.program k t w.here ≢ Err CannotMove)
+        → (fault ≡ RunFault.Broken) × BreaksAfter machine.old.view.program k t result.0.local) }
+    ensures program { machine.new.view.program ≡ machine.old.view.program }
+{
     let next = machine.machine().next_step(t);
     end_entry(machine, t, local, &next, event)
 }
 
-/// The same of a thread that may be held up: refused with the held bucket that is in its way, and then nothing has
-/// changed. Where one may be, the thread takes its local steps ahead of the machine first, in `ahead`.
-#[inline(always)]
+/// Takes the next entry of thread `t`, which may be held up: refused with the held bucket that is in its way, and then
+/// nothing has changed. Where it begins with local steps, the thread takes them ahead of the machine first, in `ahead`.
 pub fn take_if_free(
     machine: &mut PieceMachine,
     image: &Image,
@@ -145,9 +161,6 @@ pub fn take_if_free(
     ensures wants { IfErr result (λ obstacle. WantsIf machine.old.view.program (parts machine.old) t obstacle) }
     ensures program { machine.new.view.program ≡ machine.old.view.program }
 {
-    if machine.holds_none() {
-        return Ok(take_entry(machine, t, event));
-    }
     // No held bucket is in the way of an access to a word.
     if let Some(access) = machine.access(t) {
         let taken = Taken {
@@ -156,11 +169,55 @@ pub fn take_if_free(
         };
         return Ok((taken, Ok(())));
     }
-    take_ahead(machine, image, t, ahead, event)
+    let next = machine.machine().next_step(t);
+    if is_local(&next) {
+        take_ahead(machine, image, t, ahead, event)
+    } else {
+        take_at_once(machine, t, next, event)
+    }
 }
 
-// The same of a thread that takes its local steps ahead of the machine first, where it takes any.
-#[inline(never)]
+// The same of a thread whose next step, `next`, is none of its own alone. A step that is refused changes nothing.
+fn take_at_once(
+    machine: &mut PieceMachine,
+    t: u32,
+    next: NextStep,
+    event: &mut Event,
+) -> Result<(Taken, Result<(), RunFault>), Obstacle>
+    requires thread { can_move (concrete machine.old.view) t ≡ true }
+    requires fit { IsFit machine.old.view.program (parts machine.old) }
+    requires room { 1 ≤ machine.old.view.room }
+    requires next { (x : Thread) → thread_of (concrete machine.old.view) t ≡ Some x
+        → next ≡ next_step_of (look machine.old.view.program t x) }
+    requires shared { next ≢ next.Local }
+    ensures enters { IfOk result (λ taken. EntersOwn machine.old.view.program (parts machine.old)
+        (taken_entry t taken.0 event.new) (parts machine.new)) }
+    ensures turn { IfOk result (λ taken. taken.0.local ≤ most_local_steps) }
+    ensures goes { IfOk result (λ taken. OnOk taken.1
+        (1 ≤ taken.0.local + event_cost (taken_event taken.0.behind event.new))) }
+    ensures breaks { IfOk result (λ taken. IfErr taken.1
+        (λ fault. (fault ≡ RunFault.Broken)
+        × BreaksAfter machine.old.view.program (parts machine.old) t taken.0.local)) }
+    ensures held { OnErr result ((parts machine.new ≡ parts machine.old)
+        × IsHeldUp machine.old.view.program (parts machine.old) t) }
+    ensures wants { IfErr result (λ obstacle. WantsIf machine.old.view.program (parts machine.old) t obstacle) }
+    ensures program { machine.new.view.program ≡ machine.old.view.program }
+{
+    let mut taken = Taken {
+        local: 0,
+        behind: Behind::Nothing,
+    };
+    match machine.step_as(t, next, event) {
+        Ok(()) => {
+            taken.behind = Behind::Stepped;
+            Ok((taken, Ok(())))
+        }
+        Err(StepFault::Broken) => Ok((taken, Err(RunFault::Broken))),
+        Err(StepFault::CannotMove) => Err(obstacle_of(machine, t, next)),
+    }
+}
+
+// The same of a thread that takes its local steps ahead of the machine first.
 fn take_ahead(
     machine: &mut PieceMachine,
     image: &Image,
@@ -185,33 +242,28 @@ fn take_ahead(
     ensures wants { IfErr result (λ obstacle. WantsIf machine.old.view.program (parts machine.old) t obstacle) }
     ensures program { machine.new.view.program ≡ machine.old.view.program }
 {
-    let (local, next) = look_ahead(machine.machine(), image, t, ahead);
-    if waits_for_bucket(machine, t, next) {
-        return Err(obstacle_of(machine, t, next));
-    }
-    catch_up(machine, t, local, ahead);
-    if let Some(access) = machine.access(t) {
+    let local = run_ahead(machine.machine(), image, t, ahead);
+    if let Some(access) = machine.access_from(t, ahead) {
         let behind = Behind::Accessed(access);
         return Ok((Taken { local, behind }, Ok(())));
     }
+    let next = machine.machine().next_step_at(t, ahead);
+    if waits_for_bucket(machine, t, next) {
+        return Err(obstacle_of(machine, t, next));
+    }
+    machine.copy_local(t, ahead);
     Ok(end_entry(machine, t, local, &next, event))
 }
 
-// How many local steps thread `t` takes in its turn, and what its next step is behind them. It takes them in `ahead`,
-// where there are any.
-fn look_ahead(machine: &Machine, image: &Image, t: u32, ahead: &mut Local) -> (u32, NextStep)
+// Lets thread `t` take the local steps of its turn ahead of the machine. Answers how many.
+fn run_ahead(machine: &Machine, image: &Image, t: u32, ahead: &mut Local) -> u32
     requires image { image.now ≡ machine.now.program }
     requires thread { (0 < t) × (t ≤ length machine.now.threads) }
     ensures { (origin : Thread) → thread_of (concrete machine.now) t ≡ Some origin
-        → LooksFrom machine.now.program t origin result.0 result.1 ahead.new }
+        → Turns machine.now.program t result origin ahead.new }
 {
-    let next = machine.next_step(t);
-    if !is_local(&next) {
-        return (0, next);
-    }
     ahead.copy_from(machine.local(t));
-    let local = ahead.run(image, t, MOST_LOCAL_STEPS);
-    (local, machine.next_step_at(t, ahead))
+    ahead.run(image, t, MOST_LOCAL_STEPS)
 }
 
 // Whether a held bucket is in the way of thread `t`, if its local steps led it to where its next step is `next`.
@@ -250,21 +302,6 @@ fn obstacle_of(machine: &PieceMachine, t: u32, next: NextStep) -> Obstacle
         return Obstacle::Other;
     }
     Obstacle::First(bucket)
-}
-
-// Puts thread `t` on the machine where its local steps led ahead of it, if it took any.
-fn catch_up(machine: &mut PieceMachine, t: u32, local: u32, ahead: &Local)
-    requires thread { can_move (concrete machine.old.view) t ≡ true }
-    requires goes { 0 < local → GoesTo machine.old.view t ahead.now }
-    ensures some { 0 < local → parts machine.new ≡ with_local (parts machine.old) t ahead.now }
-    ensures none { local ≡ 0 → machine.new ≡ machine.old }
-    ensures program { machine.new.view.program ≡ machine.old.view.program }
-    ensures room { machine.new.view.room ≡ machine.old.view.room }
-{
-    if local == 0 {
-        return;
-    }
-    machine.copy_local(t, ahead);
 }
 
 // Ends the entry of thread `t`, which stands behind its local steps, where its next step is `next`.

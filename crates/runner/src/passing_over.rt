@@ -81,7 +81,7 @@ impl Waiting {
     {
         self.check(machine);
         match attempt {
-            Attempt::Made => self.leave(t),
+            Attempt::Accessed | Attempt::Made => self.leave(t),
             Attempt::Took(bucket) => {
                 self.leave(t);
                 self.shut_taken(machine, bucket);

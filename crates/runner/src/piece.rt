@@ -1,12 +1,16 @@
 ghost use Rattle.words.specs.Limits.{most_local_steps};
-ghost use Rattle.std.specs.Prelude.{◌≡◌, ◌≤◌, ◌<◌, ◌+◌, Some, None};
+ghost use Rattle.std.specs.Prelude.{◌≡◌, ◌≤◌, ◌<◌, ◌+◌, true, MatchOption, Some, None};
 ghost use Rattle.locals.specs.Steps.{local_step, local_after};
 ghost use Rattle.locals.specs.Threads.{Exits};
+ghost use Rattle.machine.specs.ConcreteSteps.{can_move};
+ghost use Rattle.machine.specs.Views.{concrete};
+ghost use Rattle.piece_machine.specs.PieceViews.{DoneFrom, GoesTo};
 ghost use Rattle.robustexit.specs.declared.phase.ExitPhase.TheVariants.{Ended};
 
 use crate::naming::RunName;
 use isa::Image;
-use locals::Local;
+use locals::{Access, Local};
+use piece_machine::PieceMachine;
 use robustexit::ExitPhase;
 use std::marker::{Model, PhantomData};
 use words::MOST_LOCAL_STEPS;
@@ -106,5 +110,21 @@ impl<J: RunName> Piece<J> {
         self.origin.copy_from(local);
         self.here.copy_from(local);
         self.count = 0;
+    }
+
+    /// Makes the access to a word that is its next step on itself, where one is, and begins anew where that led, as its
+    /// thread does. Answers it. Else nothing has changed.
+    pub(crate) fn access(&mut self, machine: &mut PieceMachine) -> Option<Access>
+        requires thread { can_move (concrete machine.old.view) self.old.thread ≡ true }
+        requires goes { GoesTo machine.old.view self.old.thread self.old.here }
+        ensures made { MatchOption result ((self.new ≡ self.old) × (machine.new ≡ machine.old))
+            (λ told. DoneFrom told machine.old self.old.thread self.old.here machine.new self.new.here
+            × (self.new ≡ record { thread = self.old.thread; origin = self.new.here; here = self.new.here; count = 0 })) }
+        ensures program { machine.new.view.program ≡ machine.old.view.program }
+    {
+        let access = machine.access_from(self.thread, &mut self.here)?;
+        self.origin.copy_from(&self.here);
+        self.count = 0;
+        Some(access)
     }
 }

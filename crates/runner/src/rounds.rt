@@ -113,13 +113,12 @@ pub fn run_alone<J: RunName, G: Gate>(
     ensures given { shared.new.given ≡ shared.old.given }
     ensures err { IfErr result (λ fault. CanFail J.program J.outside J.limit fault) }
 {
-    while shared.machine().threads() == 1
-        && shared.machine().can_move(t)
-        && shared.is_free(t)
-        && shared.has_room()
-    {
+    let mut moves = shared.machine().can_move(t);
+    while moves && shared.machine().threads() == 1 && shared.is_free(t) && shared.has_room() {
         gate.pass(t);
-        shared.go_on(t, share)?;
+        // Who made an access can move still, as most entries end.
+        let attempt = shared.go_on(t, share)?;
+        moves = matches!(attempt, Attempt::Accessed) || shared.machine().can_move(t);
     }
     Ok(())
 }

@@ -14,6 +14,7 @@ ghost use Rattle.runner.specs.Entries.{Takes, TakesOutside, RefusesEntry, Refuse
 ghost use Rattle.runner.specs.Entries.{TakesKill, RefusesKill, Begins};
 ghost use Rattle.runner.specs.Nexts.{IsNext};
 ghost use Rattle.runner.specs.Afters.{IsAfter};
+ghost use Rattle.runner.specs.declared.next.After;
 ghost use Rattle.runner.specs.Reports.{CanFail, IsHeldUp, MeetsBroken};
 ghost use Rattle.runner.specs.declared.fault.RunFault;
 ghost use Rattle.machine.specs.Views.{concrete};
@@ -22,7 +23,7 @@ ghost use Rattle.runner.specs.Views.{log_state};
 use crate::attempt::Attempt;
 use crate::entering::{enter, enter_access, enter_kill, enter_outside, make_room};
 use crate::fault::RunFault;
-use crate::in_place::{attempt_of, is_shared, push_taken, take_entry, take_if_free};
+use crate::in_place::{attempt_of, end_walk, is_shared, push_taken, take_if_free, walk};
 use crate::naming::RunName;
 use crate::next::{After, Next};
 use crate::piece::Piece;
@@ -30,7 +31,7 @@ use crate::share::{PARTS, Share};
 use crate::stepping::is_local;
 use isa::Image;
 use locals::{Local, NextStep};
-use machine::{Event, EventName, Machine, StepFault};
+use machine::{Event, EventName, Machine, StepFault, access_name};
 use packed_log::PackedLog;
 use piece_machine::PieceMachine;
 use robustexit::ExitPhase;
@@ -281,8 +282,40 @@ impl<J: RunName> Shared<J> {
             (log_state self.new).concrete }
         ensures within { cost self.new.log ≤ J.limit }
     {
-        self.enter(t, piece, share)?;
+        // As most pieces do.
+        if self.hand_in_access(t, piece, share) {
+            return Ok(After::Goes);
+        }
+        self.enter_any(t, piece, share)?;
         Ok(self.next(t, piece))
+    }
+
+    /// The same where the piece's next step is an access to a word, in whose way nothing can be: the access is made on the
+    /// piece, which begins anew where that led, and its thread goes on. Answers whether it came in: else nothing has
+    /// changed, and `hand_in` says why, or takes it in.
+    pub fn hand_in_access(&mut self, t: u32, piece: &mut Piece<J>, share: &mut Share<J>) -> bool
+        ensures made { result ≡ true → Takes J.program J.limit (log_state self.old) t piece.old (log_state self.new)
+            × (share.new ≡ record share.old { count = share.old.count + 1 })
+            × IsAfter (log_state self.new).concrete t piece.new After.Goes }
+        ensures none { result ≡ false → (log_state self.new ≡ log_state self.old) × (piece.new ≡ piece.old)
+            × (share.new ≡ share.old) }
+        ensures given { self.new.given ≡ self.old.given }
+        ensures legal { Runs J.program (opening J.program) self.new.log
+            (log_state self.new).concrete }
+        ensures within { cost self.new.log ≤ J.limit }
+    {
+        if !self.may_enter(t, piece) || make_room(&mut self.machine, &mut self.log).is_err() {
+            return false;
+        }
+        let count = piece.count;
+        let Some(access) = piece.access(&mut self.machine) else {
+            return false;
+        };
+        self.log
+            .push_plain(t, count, access_name(access.kind), access.value);
+        self.steps += count + 1;
+        share.count_one(&mut self.book);
+        true
     }
 
     /// The same, and the piece stays as it is.
@@ -334,7 +367,18 @@ impl<J: RunName> Shared<J> {
         true
     }
 
-    // Whether the piece can come in, and its next step is an access to a word.
+    // Whether the piece can come in, if nothing is in the way of its next step.
+    fn may_enter(&self, t: u32, piece: &Piece<J>) -> bool
+        ensures { result ≡ true → Stands (log_state self.now) t piece.now
+            × (can_move (log_state self.now).concrete.concrete t ≡ true)
+            × (cost self.now.log + (piece.now.count + 1) ≤ J.limit) }
+    {
+        self.stands(t, piece)
+            && self.machine.machine().can_move(t)
+            && self.limit - self.steps > piece.count
+    }
+
+    // The same, and its next step is an access to a word.
     fn may_access(&self, t: u32, piece: &Piece<J>) -> bool
         ensures fine { result ≡ true → Stands (log_state self.now) t piece.now
             × (can_move (log_state self.now).concrete.concrete t ≡ true)
@@ -342,11 +386,7 @@ impl<J: RunName> Shared<J> {
         ensures access { result ≡ true
             → is_some (accessing (look J.program t piece.now.here) self.now.machine.view.words) ≡ true }
     {
-        let machine = self.machine.machine();
-        self.stands(t, piece)
-            && machine.can_move(t)
-            && self.limit - self.steps > piece.count
-            && machine.has_access_at(t, &piece.here)
+        self.may_enter(t, piece) && self.machine.machine().has_access_at(t, &piece.here)
     }
 
     // The same of a piece with any step.
@@ -516,15 +556,18 @@ impl<J: RunName> Shared<J> {
 
     /// Takes the next entry of thread `t`, which can move and isn't held up, in its place on the machine, so that nothing
     /// is copied: its local steps until another step comes or its turn is over, and the shared step that it stands
-    /// before, if any.
+    /// before, if any. Says what came of it.
     ///
     /// Refuses with `Memory`, and then nothing has changed; and with `Broken`, and then the local steps are an entry.
     #[inline(always)]
-    pub(crate) fn go_on(&mut self, t: u32, share: &mut Share<J>) -> Result<(), RunFault>
+    pub(crate) fn go_on(&mut self, t: u32, share: &mut Share<J>) -> Result<Attempt, RunFault>
         requires thread { can_move (log_state self.old).concrete.concrete t ≡ true }
         requires free { IsHeldUp J.program (log_state self.old).concrete t → ⊥ }
         requires room { cost self.old.log + suc most_local_steps ≤ J.limit }
         ensures ok { OnOk result (cost self.old.log < cost self.new.log) }
+        ensures made { IfOk result (λ a. is_made a ≡ true) }
+        ensures tried { IfOk result (λ a. TriedSo J.program (log_state self.old).concrete t a
+            (log_state self.new).concrete) }
         ensures given { self.new.given ≡ self.old.given }
         ensures err { IfErr result (λ fault. CanFail J.program J.outside J.limit fault) }
         ensures within { cost self.new.log ≤ J.limit }
@@ -532,17 +575,51 @@ impl<J: RunName> Shared<J> {
         if make_room(&mut self.machine, &mut self.log).is_err() {
             return Err(RunFault::Memory);
         }
-        let (taken, outcome) = take_entry(&mut self.machine, t, &mut self.event);
+        let (local, access) = walk(&mut self.machine, t);
+        if let Some(access) = access {
+            let name = access_name(access.kind);
+            self.log.push_plain(t, local, name, access.value);
+            self.steps += local + 1;
+            share.count_one(&mut self.book);
+            return Ok(Attempt::Accessed);
+        }
+        let (taken, outcome) = end_walk(&mut self.machine, t, local, &mut self.event);
         push_taken(&mut self.log, t, taken, &self.event);
         self.steps += taken.local + u32::from(is_shared(taken.behind));
         share.count_one(&mut self.book);
-        outcome
+        let attempt = attempt_of(taken, &self.event);
+        outcome.and(Ok(attempt))
     }
 
-    /// The same of a thread that may be held up, and what came of it: a thread that is held up makes no entry, and then
-    /// nothing has changed.
+    /// The same of a thread that may be held up: one that is makes no entry, and then nothing has changed.
     #[inline(always)]
     pub(crate) fn try_on(
+        &mut self,
+        image: &Image,
+        t: u32,
+        share: &mut Share<J>,
+    ) -> Result<Attempt, RunFault>
+        requires image { image.now ≡ J.program }
+        requires thread { can_move (log_state self.old).concrete.concrete t ≡ true }
+        requires fit { IsFit J.program (log_state self.old).concrete }
+        requires room { cost self.old.log + suc most_local_steps ≤ J.limit }
+        ensures made { IfOk result (λ a. is_made a ≡ true → cost self.old.log < cost self.new.log) }
+        ensures none { IfOk result (λ a. is_made a ≡ false → (log_state self.new ≡ log_state self.old)
+            × IsHeldUp J.program (log_state self.new).concrete t) }
+        ensures tried { IfOk result (λ a. TriedSo J.program (log_state self.old).concrete t a
+            (log_state self.new).concrete) }
+        ensures err { IfErr result (λ fault. CanFail J.program J.outside J.limit fault) }
+        ensures within { cost self.new.log ≤ J.limit }
+    {
+        if self.machine.holds_none() {
+            return self.go_on(t, share);
+        }
+        self.try_held(image, t, share)
+    }
+
+    // The same where some bucket is held.
+    #[inline(never)]
+    fn try_held(
         &mut self,
         image: &Image,
         t: u32,

@@ -1,9 +1,10 @@
-ghost use Rattle.std.specs.Prelude.{◌≡◌, ◌≤◌, ◌<◌, ◌+◌, length, take, true, is_some, Some, None, IfSome, IfNone};
+ghost use Rattle.std.specs.Prelude.{◌≡◌, ◌≤◌, ◌<◌, ◌+◌, length, take, true, false, is_some, Some, None, IfSome, IfNone};
 ghost use Rattle.std.specs.Prelude.{◌⊎◌, MatchBool, unwrap_or};
 ghost use Rattle.words.specs.Limits.{most_threads};
 ghost use Rattle.machine.specs.ConcreteSteps.{can_move};
 ghost use Rattle.machine.specs.ThreadSets.{IsLeastFrom, IsThread};
 ghost use Rattle.runner.specs.declared.fault.RunFault.TheVariants.{Memory};
+ghost use Rattle.runner.specs.declared.next.After.TheVariants.{Goes};
 ghost use Rattle.workers.specs.SharedRuns.{HasCause, KeepsWorkers, StartsWorker, is_able, state_of};
 ghost use Rattle.workers.specs.BucketWaiters.{nobody};
 ghost use Rattle.workers.specs.Handed.{ComesIn, StaysAway, ComeIn, StopsAt, IsNextOf, IsNextOfFirst};
@@ -194,11 +195,28 @@ impl<J: RunName> SharedRun<J> {
             ⊎ IsNextOfFirst self.new t turns.new.pieces.items result }
         ensures workers { KeepsWorkers self.old self.new }
     {
+        if self.hand_in_access(t, turns, share) {
+            return After::Goes;
+        }
         if let Some(after) = self.take_in(t, turns.taken(), share, parker) {
             return after;
         }
         self.go_on_alone(t, share, gate);
         self.next(t, &mut turns.pieces[0])
+    }
+
+    // Takes in one turn of thread `t` that led to an access to a word, as most do, where others were made. It gives no
+    // bucket up. Answers whether it came in: else nothing has changed.
+    fn hand_in_access(&mut self, t: u32, turns: &mut Turns<J>, share: &mut Share<J>) -> bool
+        ensures made { result ≡ true → IsNextOfFirst self.new t turns.new.pieces.items Goes }
+        ensures none { result ≡ false → (self.new ≡ self.old) × (share.new ≡ share.old) × (turns.new.taken ≡ turns.old.taken)
+            × (turns.new.pieces.items ≡ turns.old.pieces.items) }
+        ensures workers { KeepsWorkers self.old self.new }
+    {
+        self.fault.is_none()
+            && turns.taken == 1
+            && self.threads() > 1
+            && self.shared.hand_in_access(t, &mut turns.pieces[0], share)
     }
 
     // Takes in these pieces of thread `t`, up to one that is refused, and says how its worker goes on where one is.

@@ -17,12 +17,6 @@ use Rattle.runner.proofs.Waiting.{none_free}
 use Rattle.runner.proofs.Walking.{step_enters, walked_none}
 use Rattle.runner.proofs.in_place.take_if_free.Goals as goal
 
-pub take_entry-requires-clause-free : goal.take_entry-requires-clause-free
-take_entry-requires-clause-free c =
-    let m = c.args.machine.now in
-    none_free m.view.program m.view.program (parts m) c.args.t refl c.requires.fit
-    (c.holds_none.ensures c.if-holds_none.true)
-
 pub returns-in-Some-clause-enters : goal.returns-in-Some-clause-enters
 returns-in-Some-clause-enters c =
     let m = c.args.machine.now in

@@ -1,12 +1,13 @@
 -- What the thread did is done on the machine; what always holds is kept, and the bits are right.
 use Rattle.std.proofs.Common.{◌≡◌, ◌-◌, length, slice_set, true, Some, ap, ◌∙◌, subst}
 use Rattle.std.specs.Prelude.{MatchOption}
+use Rattle.locals.specs.Looks.{look}
 use Rattle.machine.specs.Accessing.{HasNoAccess, MakesAccess, told_access}
 use Rattle.machine.specs.States.{ConcreteState, thread_of}
 use Rattle.machine.specs.ConcreteSteps.{can_move}
 use Rattle.machine.specs.Views.{View, concrete, parts_of}
 use Rattle.machine.proofs.Ables.{mover_made}
-use Rattle.machine.proofs.Accessing.{access_keeps, access_returns}
+use Rattle.machine.proofs.Accessing.{access_keeps, access_moves, access_returns}
 use Rattle.machine.proofs.Whole.{stands_at}
 use Rattle.machine.proofs.machine.Machine.access.Goals as goal
 
@@ -25,8 +26,8 @@ invariant_of-self c =
     c.take_access.ensures.lives in
     (r.0, c.self.invariant.1, r.1)
 
-pub returns : goal.returns
-returns c =
+pub returns-clause-made : goal.returns-clause-made
+returns-clause-made c =
     let v : View = record {
       program = c.self.inside.image;
       words = c.self.inside.common.words;
@@ -60,3 +61,15 @@ returns c =
     (access_returns c.self.inside.image c.self.inside.common after v.threads c.args.t x c.take_access.new.local
     c.take_access.result made.0 stands c.take_access.ensures.access
     c.take_access.ensures.none)
+
+pub returns-clause-moves : goal.returns-clause-moves
+returns-clause-moves c =
+    let k : ConcreteState = parts_of c.self.inside.common c.self.inside.threads.items in
+    let moves : can_move k c.args.t ≡ true =
+    ap (λ (q : View). can_move (concrete q) c.args.t) c.self.view_is ∙ c.requires in
+    let made = mover_made c.self.inside.image k c.args.t c.self.invariant.0 moves in
+    let x = c.index_mut-local.result.now in
+    let stands : thread_of k c.args.t ≡ Some x =
+    stands_at k.threads c.args.t x x made.0 made.1 c.index_mut-local.ensures.value in
+    access_moves c.self.inside.common c.take_access.new.shared (look c.self.inside.image c.args.t x) k.threads c.args.t x
+    c.take_access.new.local c.take_access.result stands moves c.take_access.ensures.access c.take_access.ensures.lives

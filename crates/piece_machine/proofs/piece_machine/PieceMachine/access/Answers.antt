@@ -13,7 +13,7 @@ pub invariant_of-self : goal.invariant_of-self
 invariant_of-self c =
     let v = c.self.inside.machine in
     let can = subst (λ (q : PieceView). can_move (concrete q.view) c.args.t ≡ true) (sym c.self.view_is) c.requires in
-    access_kept v c.access.new.self c.self.inside.phases c.args.t c.access.result c.self.invariant can c.access.ensures
+    access_kept v c.access.new.self c.self.inside.phases c.args.t c.access.result c.self.invariant can c.access.ensures.made
 
 pub returns-clause-made : goal.returns-clause-made
 returns-clause-made c =
@@ -26,9 +26,9 @@ returns-clause-made c =
     (λ told. (piece_of q.view.program (parts q) c.args.t
     ≡ (let o : Outcome = Ok (parts (record { view = v'; phases = ph }), told_access told) in o))
     × HasNoLocal q.view c.args.t)) c.self.view_is
-    (access_done v v' ph c.args.t c.access.result can c.access.ensures)
+    (access_done v v' ph c.args.t c.access.result can c.access.ensures.made)
 
 pub returns-clause-program : goal.returns-clause-program
 returns-clause-program c =
-    access_program c.self.inside.machine c.access.new.self c.args.t c.access.result c.access.ensures
+    access_program c.self.inside.machine c.access.new.self c.args.t c.access.result c.access.ensures.made
     ∙ ap (λ (q : PieceView). q.view.program) c.self.view_is

@@ -3,7 +3,7 @@ use Rattle.std.specs.Prelude.{List, Option, ℕ, None, slice_set}
 use Rattle.piece_machine.specs.PieceViews.{parts}
 use Rattle.runner.specs.declared.attempt.Attempt.{Attempt}
 use Rattle.runner.specs.Attempts.{TriedSo, is_made}
-use Rattle.runner.proofs.Noting.{made_want, still_want, want_as}
+use Rattle.runner.proofs.Noting.{made_entered, made_want, still_want, want_as}
 use Rattle.runner.proofs.Shutting.{same_held}
 use Rattle.runner.proofs.passing_over.Waiting.follow.Goals as goal
 
@@ -11,8 +11,8 @@ pub shut_taken-requires-clause-held : goal.shut_taken-requires-clause-held
 shut_taken-requires-clause-held c =
     same_held (parts c.args.machine.now) c.check.new.self c.leave-in-Took.new.self c.leave-in-Took.ensures.shut c.check.ensures.held
 
-pub returns-in-Made : goal.returns-in-Made
-returns-in-Made c = λ p k fit want same tried.
+pub returns-in-Accessed : goal.returns-in-Accessed
+returns-in-Accessed c = λ p k fit want same tried.
     let new = parts c.args.machine.now in
     let xs = c.args.self.now.wants in
     let e = c.leave.ensures in
@@ -21,7 +21,7 @@ returns-in-Made c = λ p k fit want same tried.
           (e.wants
           ∙ ap (λ (ys : List (Option ℕ)). slice_set ys c.args.t None) c.check.ensures.wants)
           (made_want p k new c.args.t xs fit want
-          (subst (λ (a : Attempt). TriedSo p k c.args.t a new) c.in-Made.is tried));
+          (made_entered p k new c.args.t c.args.attempt c.in-Accessed.is tried));
       sound = e.sound;
       held = same_held (parts c.args.machine.now) c.check.new.self c.leave.new.self e.shut c.check.ensures.held;
     }

@@ -1,5 +1,5 @@
 use Rattle.std.proofs.Common.{◌-◌, ◌≡◌, ◌≤◌, ◌++◌, drop, replicate}
-use Rattle.locals.proofs.frame.Locals.clear.Given as goal
+use Rattle.locals.proofs.frame.Locals.clear_first.Given as goal
 
 abbrev pub invariant-loop-i : goal.invariant-loop-i
 invariant-loop-i l = record {

@@ -14,7 +14,7 @@ use Rattle.runner.proofs.Growing.{breaks_can, keeps_entry}
 use Rattle.runner.proofs.Noting.{made_so, wants_at}
 use Rattle.runner.proofs.Walking.{and_err}
 use Rattle.runner.proofs.Wanting.{and_ok, entered_so}
-use Rattle.runner.proofs.shared.Shared.try_on.Goals as goal
+use Rattle.runner.proofs.shared.Shared.try_held.Goals as goal
 
 pub invariant_of-self-in-Ok : goal.invariant_of-self-in-Ok
 invariant_of-self-in-Ok g c =
@@ -71,7 +71,7 @@ returns-in-Ok-clause-tried g c =
     and_ok (λ (a : Attempt). TriedSo p (log_state c.args.self.now).concrete c.args.t a (parts e.new.machine)) c.in-Ok.outcome
     c.attempt_of-attempt.result c.and.result c.and.ensures
     (made_so p (log_state c.args.self.now).concrete (parts e.new.machine) c.args.t c.attempt_of-attempt.result
-    c.attempt_of-attempt.ensures
+    c.attempt_of-attempt.ensures.made c.attempt_of-attempt.ensures.other
     (subst (λ (x : SharedView). HasEntered p (log_state x).concrete c.args.t (parts e.new.machine)) c.self.view_is
     (entered_so p s.machine.view.program m.new.machine.view.program (parts s.machine) (parts m.new.machine)
     (parts e.new.machine) c.args.t c.in-Ok.taken e.new.event c.self.invariant.0.program m.ensures.program m.ensures.same.0
