@@ -14,6 +14,12 @@ use machine::{Entry, Event, EventName, ThreadSet};
 use std::alloc::{AllocError, Global};
 use std::marker::Model;
 
+// For so many entries room is made at once.
+const GROWTH: usize = 16;
+
+// The most words of sets that an entry has: those of two sets of several threads.
+const SET_WORDS: usize = 32;
+
 /// The entries of a log, packed. Contracts see their list, and for how many more there is room.
 #[derive(Drop)]
 pub struct PackedLog {
@@ -22,10 +28,12 @@ pub struct PackedLog {
     wide: Vec<WideHead>,
     // The words of the sets beside all heads, in the order of the entries, of each entry those of the woken threads first.
     sets: Vec<u64>,
+    // For so many entries more there is room in all of them, so that nobody has to ask each of them at each entry.
+    spare: usize,
 }
 
 impl Model for PackedLog {
-    ghost use Rattle.std.specs.Prelude.{◌-◌, vec_len, vec_capacity};
+    ghost use Rattle.std.specs.Prelude.{◌≤◌, ◌-◌, vec_len, vec_capacity};
     ghost use Rattle.packed_log.specs.Packing.{entries_of, heads_of};
     ghost use Rattle.packed_log.specs.Views.{PackedView, room_for, IsPacked};
 
@@ -33,11 +41,12 @@ impl Model for PackedLog {
 
     ghost view = { λ l. record {
       items = entries_of (heads_of l.heads.items l.wide.items) l.sets.items;
-      room = room_for (vec_capacity l.heads - vec_len l.heads) (vec_capacity l.sets - vec_len l.sets)
-          (vec_capacity l.wide - vec_len l.wide);
+      room = l.spare;
     } };
 
-    ghost invariant = { λ l. IsPacked (heads_of l.heads.items l.wide.items) l.sets.items };
+    ghost invariant = { λ l. IsPacked (heads_of l.heads.items l.wide.items) l.sets.items
+        × (l.spare ≤ room_for (vec_capacity l.heads - vec_len l.heads) (vec_capacity l.sets - vec_len l.sets)
+        (vec_capacity l.wide - vec_len l.wide)) };
 }
 
 impl PackedLog {
@@ -49,6 +58,7 @@ impl PackedLog {
             heads: Vec::new(alloc),
             wide: Vec::new(alloc),
             sets: Vec::new(alloc),
+            spare: 0,
         }
     }
 
@@ -60,6 +70,7 @@ impl PackedLog {
             heads: Vec::with_capacity(alloc, count)?,
             wide: Vec::new(alloc),
             sets: Vec::new(alloc),
+            spare: 0,
         })
     }
 
@@ -109,9 +120,25 @@ impl PackedLog {
         ensures few { OnOk result (length self.new.items < 2 ^ 64) }
         ensures same { self.new.items ≡ self.old.items }
     {
-        self.heads.reserve(1)?;
-        self.sets.reserve(32)?;
-        self.wide.reserve(1)
+        if self.spare > 0 {
+            return Ok(());
+        }
+        self.grow()
+    }
+
+    // The same where none is known: for several entries, so that the vectors are asked seldom.
+    #[cold]
+    #[inline(never)]
+    fn grow(&mut self) -> Result<(), AllocError>
+        ensures room { OnOk result (1 ≤ self.new.room) }
+        ensures few { OnOk result (length self.new.items < 2 ^ 64) }
+        ensures same { self.new.items ≡ self.old.items }
+    {
+        self.heads.reserve(GROWTH)?;
+        self.sets.reserve(GROWTH * SET_WORDS)?;
+        self.wide.reserve(GROWTH)?;
+        self.spare = GROWTH;
+        Ok(())
     }
 
     /// Puts the entry of a thread, its local steps and its shared step, if it has one, for which there is room, at the end.
@@ -124,6 +151,7 @@ impl PackedLog {
         ensures room { self.old.room ≤ self.new.room + 1 }
     {
         push_sets(&mut self.sets, event);
+        self.spare -= 1;
         if self.wide.is_empty() && has_head(thread, local) {
             self.heads.push_reserved(head_of(thread, local, event));
         } else {
@@ -139,6 +167,7 @@ impl PackedLog {
             ++ record { thread = thread; local = local; event = Some (plain name value) } ∷ [] }
         ensures room { self.old.room ≤ self.new.room + 1 }
     {
+        self.spare -= 1;
         if self.wide.is_empty() && has_head(thread, local) {
             self.heads
                 .push_reserved(plain_head(thread, local, name, value));

@@ -1,13 +1,15 @@
 -- What comes of a thread that took the local steps of its turn, on the machine or ahead of it.
 use Rattle.std.proofs.Common.{◌≡◌, ◌≢◌, ◌≤◌, ◌<◌, ℕ, zero, suc, true, Option, Some, None, Ok, Err, Result}
 use Rattle.std.proofs.Common.{is_some, length, slice_set, false, ◌-◌, IfErr, refl, ap, sym, ◌∙◌, subst, arith}
-use Rattle.std.specs.Prelude.{IfNone, IfSome, MatchOption}
+use Rattle.std.specs.Prelude.{IfNone, IfSome, MatchOption, OnOk}
 use Rattle.std.specs.Result.{result_and}
 use Rattle.isa.specs.Programs.{Program}
 use Rattle.locals.specs.declared.request.NextStep.{NextStep}
-use Rattle.locals.specs.Looks.{Look, Goes, Asks, Leaves, Breaks, Rests, look}
+use Rattle.locals.specs.Looks.{Request, AskLoad, AskStore, AskSwap, AskCompareSwap, AskOr, AskAdd, AskFork, AskPrint}
+use Rattle.locals.specs.Looks.{AskWait, AskWake, AskRequeue, AskReturn, AskReturnValue, AskFault, Look, Goes, Asks}
+use Rattle.locals.specs.Looks.{Leaves, Breaks, Rests, look}
 use Rattle.locals.specs.declared.request.NextStep.TheVariants as kind
-use Rattle.locals.specs.Requests.{next_step_of}
+use Rattle.locals.specs.Requests.{next_step_of, request_step}
 use Rattle.locals.specs.Steps.{local_next, local_step, local_after}
 use Rattle.locals.specs.Threads.{Thread}
 use Rattle.machine.specs.ConcreteSteps.{can_move, fault_of}
@@ -222,7 +224,7 @@ free_ahead p k t here free waits =
     free (ap fault_of b.1)
 
 -- what was seen of the thread where it stands, and behind its local steps
-pub looks_here : (p : Program) (t : ℕ) (x ahead : Thread) (next : NextStep) → next ≡ next_step_of (look p t x)
+abbrev pub looks_here : (p : Program) (t : ℕ) (x ahead : Thread) (next : NextStep) → next ≡ next_step_of (look p t x)
     → is_some (local_step p t x) ≡ false → LooksFrom p t x 0 next ahead
 looks_here p t x ahead next is shared = record {
   here = x;
@@ -231,7 +233,7 @@ looks_here p t x ahead next is shared = record {
   ahead_is = λ less. absurd (omega (arith, less));
 }
 
-pub looks_on : (p q : Program) (t n : ℕ) (x y here : Thread) (next : NextStep) → q ≡ p → y ≡ x
+abbrev pub looks_on : (p q : Program) (t n : ℕ) (x y here : Thread) (next : NextStep) → q ≡ p → y ≡ x
     → local_after q t n y ≡ Some here → n ≤ 256 → (n < 256 → local_step q t here ≡ None)
     → next ≡ next_step_of (look p t here) → LooksFrom p t x n next here
 looks_on p q t n x y here next same from goes turn whole is = record {
@@ -366,10 +368,20 @@ ahead_of v w t n here shows moves turns =
     turns in
     record { origin = u.thread; stands = u.stands; turns = all u.thread u.stands }
 
+pub ahead_still : (old new : MachineView) (t n : ℕ) (here here' : Thread) → new ≡ old → here' ≡ here
+    → Ahead old.view t n here → Ahead new.view t n here'
+ahead_still old new t n here here' same there a =
+    subst (λ (x : Thread). Ahead new.view t n x) (sym there)
+    (subst (λ (m : MachineView). Ahead m.view t n here) (sym same) a)
+
+pub moves_still : (old new : MachineView) (t : ℕ) → new ≡ old → can_move (concrete old.view) t ≡ true
+    → can_move (concrete new.view) t ≡ true
+moves_still old new t same moves = subst (λ (m : MachineView). can_move (concrete m.view) t ≡ true) (sym same) moves
+
 pub goes_to : (v : View) (t n : ℕ) (here : Thread) → Ahead v t n here → GoesTo v t here
 goes_to v t n here a = record { origin = a.origin; count = n; stands = a.stands; goes = a.turns.goes }
 
-pub looks_to : (v : View) (t n : ℕ) (here : Thread) (next : NextStep) (a : Ahead v t n here)
+abbrev pub looks_to : (v : View) (t n : ℕ) (here : Thread) (next : NextStep) (a : Ahead v t n here)
     → next ≡ next_step_of (look v.program t here) → LooksFrom v.program t a.origin n next here
 looks_to v t n here next a is = record { here = here; turns = a.turns; next_is = is; ahead_is = λ some. refl }
 
@@ -397,3 +409,41 @@ from_enters old new t n here there told moves a d = record {
   goes = a.turns.goes;
   ends = (no_step (local_step old.view.program t here) d.shared, d.gives);
 }
+
+-- a step that is a thread's own alone
+asks_other : (request : Request) → request_step request ≡ kind.Local → ⊥
+asks_other (AskLoad a) h = cc
+asks_other (AskStore a v) h = cc
+asks_other (AskSwap a v) h = cc
+asks_other (AskCompareSwap a expected new) h = cc
+asks_other (AskOr a v) h = cc
+asks_other (AskAdd a v) h = cc
+asks_other (AskFork entry arguments has_room) h = cc
+asks_other (AskPrint number) h = cc
+asks_other (AskWait a expected) h = cc
+asks_other (AskWake a n) h = cc
+asks_other (AskRequeue a b n m expected) h = cc
+asks_other AskReturn h = cc
+asks_other (AskReturnValue v) h = cc
+asks_other (AskFault cause) h = cc
+
+pub is_own : (l : Look) → next_step_of l ≡ kind.Local → is_some (local_next l) ≡ true
+is_own (Goes y) h = refl
+is_own (Asks request go) h = absurd (asks_other request h)
+is_own (Leaves phase) h = absurd cc
+is_own Breaks h = absurd cc
+is_own Rests h = absurd cc
+
+-- what holds of what there is
+pub some_so : {A : Type 0} → (P : A → Type 0) (o : Option A) (x : A) → o ≡ Some x → IfSome o P → P x
+some_so P o x is h = subst (λ q. IfSome q P) is h
+
+-- what holds of a value, and so something else does of an outcome behind it
+pub and_on : {A B E : Type 0} → (P Q : Type 0) (r : Result A E) (b : B) (out : Result B E) → out ≡ result_and r (Ok b)
+    → OnOk r P → (P → Q) → OnOk out Q
+and_on P Q (Ok x) b out is h f = subst (λ o. OnOk o Q) (sym is) (f h)
+and_on P Q (Err e) b out is h f = subst (λ o. OnOk o Q) (sym is) tt
+
+pub none_so : {A P : Type 0} (o : Option A) → IfNone o P → ((x : A) → o ≡ Some x → ⊥) → P
+none_so None h other = h
+none_so (Some x) h other = absurd (other x refl)

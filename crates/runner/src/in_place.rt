@@ -3,7 +3,7 @@ ghost use Rattle.std.specs.Prelude.{◌≡◌, ◌≢◌, ◌≤◌, ◌<◌, �
 ghost use Rattle.std.specs.Prelude.{IfNone, IfSome, MatchBool, OnErr, OnOk};
 ghost use Rattle.locals.specs.Looks.{look};
 ghost use Rattle.locals.specs.Requests.{next_step_of};
-ghost use Rattle.locals.specs.declared.request.NextStep.TheVariants as next;
+ghost use Rattle.locals.specs.declared.request.NextStep.TheVariants.{Local as LocalStep};
 ghost use Rattle.locals.specs.Threads.{Thread};
 ghost use Rattle.machine.specs.Accessing.{told_access};
 ghost use Rattle.machine.specs.ConcreteSteps.{can_move};
@@ -19,7 +19,8 @@ ghost use Rattle.runner.specs.Entries.{BreaksAfter, entry_end, taken_entry, take
 ghost use Rattle.runner.specs.Logs.{EntersOwn, event_cost};
 ghost use Rattle.runner.specs.Reports.{IsHeldUp};
 ghost use Rattle.runner.specs.Walks.{Turns, Walked};
-ghost use Rattle.runner.specs.declared.attempt.{Attempt, Obstacle};
+ghost use Rattle.runner.specs.declared.attempt.Attempt;
+ghost use Rattle.runner.specs.declared.attempt.Obstacle;
 
 use crate::attempt::{Attempt, Obstacle};
 use crate::calling::call_in;
@@ -189,7 +190,7 @@ fn take_at_once(
     requires room { 1 ≤ machine.old.view.room }
     requires next { (x : Thread) → thread_of (concrete machine.old.view) t ≡ Some x
         → next ≡ next_step_of (look machine.old.view.program t x) }
-    requires shared { next ≢ next.Local }
+    requires shared { next ≢ LocalStep }
     ensures enters { IfOk result (λ taken. EntersOwn machine.old.view.program (parts machine.old)
         (taken_entry t taken.0 event.new) (parts machine.new)) }
     ensures turn { IfOk result (λ taken. taken.0.local ≤ most_local_steps) }

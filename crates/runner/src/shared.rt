@@ -304,7 +304,7 @@ impl<J: RunName> Shared<J> {
             (log_state self.new).concrete }
         ensures within { cost self.new.log ≤ J.limit }
     {
-        if !self.may_enter(t, piece) || make_room(&mut self.machine, &mut self.log).is_err() {
+        if !self.may_access(t, piece) || make_room(&mut self.machine, &mut self.log).is_err() {
             return false;
         }
         let count = piece.count;
@@ -367,18 +367,7 @@ impl<J: RunName> Shared<J> {
         true
     }
 
-    // Whether the piece can come in, if nothing is in the way of its next step.
-    fn may_enter(&self, t: u32, piece: &Piece<J>) -> bool
-        ensures { result ≡ true → Stands (log_state self.now) t piece.now
-            × (can_move (log_state self.now).concrete.concrete t ≡ true)
-            × (cost self.now.log + (piece.now.count + 1) ≤ J.limit) }
-    {
-        self.stands(t, piece)
-            && self.machine.machine().can_move(t)
-            && self.limit - self.steps > piece.count
-    }
-
-    // The same, and its next step is an access to a word.
+    // Whether the piece can come in, and its next step is an access to a word, which takes less to tell.
     fn may_access(&self, t: u32, piece: &Piece<J>) -> bool
         ensures fine { result ≡ true → Stands (log_state self.now) t piece.now
             × (can_move (log_state self.now).concrete.concrete t ≡ true)
@@ -386,7 +375,11 @@ impl<J: RunName> Shared<J> {
         ensures access { result ≡ true
             → is_some (accessing (look J.program t piece.now.here) self.now.machine.view.words) ≡ true }
     {
-        self.may_enter(t, piece) && self.machine.machine().has_access_at(t, &piece.here)
+        let machine = self.machine.machine();
+        machine.has_access_at(t, &piece.here)
+            && self.stands(t, piece)
+            && machine.can_move(t)
+            && self.limit - self.steps > piece.count
     }
 
     // The same of a piece with any step.
@@ -619,12 +612,7 @@ impl<J: RunName> Shared<J> {
 
     // The same where some bucket is held.
     #[inline(never)]
-    fn try_held(
-        &mut self,
-        image: &Image,
-        t: u32,
-        share: &mut Share<J>,
-    ) -> Result<Attempt, RunFault>
+    fn try_held(&mut self, image: &Image, t: u32, share: &mut Share<J>) -> Result<Attempt, RunFault>
         requires image { image.now ≡ J.program }
         requires thread { can_move (log_state self.old).concrete.concrete t ≡ true }
         requires fit { IsFit J.program (log_state self.old).concrete }

@@ -1,5 +1,4 @@
 -- The thread goes on in its place.
-use Rattle.std.proofs.Common.{◌≡◌}
 use Rattle.runner.proofs.Walking.{walk_accessed, walk_moves, walk_none}
 use Rattle.runner.proofs.in_place.walk.Goals as goal
 

@@ -1,9 +1,14 @@
-use Rattle.std.proofs.Common.{◌≡◌, ◌-◌}
+use Rattle.std.proofs.Common.{◌-◌, ◌≡◌, true}
+use Rattle.machine.specs.ConcreteSteps.{can_move}
 use Rattle.runner.specs.Logs.{cost}
+use Rattle.runner.specs.Views.{log_state}
 use Rattle.runner.proofs.rounds.run_alone.Given as goal
 
-abbrev pub invariant-loop-shared : goal.invariant-loop-shared
-invariant-loop-shared g l = l.shared.given ≡ l.initial.shared.given
+abbrev pub invariant-loop-moves : goal.invariant-loop-moves
+invariant-loop-moves g l = record {
+  given : l.shared.given ≡ l.initial.shared.given;
+  moves : l.moves ≡ true → can_move (log_state l.shared).concrete.concrete l.t ≡ true;
+}
 
-abbrev pub decreases-loop-shared : goal.decreases-loop-shared
-decreases-loop-shared g l = g.J.RunName.limit - cost l.shared.log
+abbrev pub decreases-loop-moves : goal.decreases-loop-moves
+decreases-loop-moves g l = g.J.RunName.limit - cost l.shared.log

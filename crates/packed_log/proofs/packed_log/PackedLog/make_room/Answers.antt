@@ -1,21 +1,18 @@
-use Rattle.std.proofs.Common.{◌<◌, ◌^◌, length, ap, arith, rules}
-use Rattle.packed_log.specs.Packing.{entries_of, heads_of}
+use Rattle.std.proofs.Common.{length, ap, arith}
+use Rattle.packed_log.specs.Views.{PackedView}
 use Rattle.packed_log.proofs.Entries.{items_length}
 use Rattle.packed_log.proofs.packed_log.PackedLog.make_room.Goals as goal
 
-pub returns-clause-few : goal.returns-clause-few
-returns-clause-few c =
+-- there is room for one more, so they are fewer
+pub returns-then-self-gt0-clause-few : goal.returns-then-self-gt0-clause-few
+returns-then-self-gt0-clause-few c =
     let s = c.self.inside in
-    let heads = c.reserve.new.self.items in
-    let sets = c.reserve-2.new.self.items in
-    let wide = c.reserve-3.new.self.items in
-    let few : length (entries_of (heads_of heads wide) sets) < 2 ^ 64 =
     omega (
       arith,
-      items_length heads wide sets,
-      ap length c.reserve.ensures.items,
-      ap length c.reserve-3.ensures.items,
+      items_length s.heads.items s.wide.items s.sets.items,
+      ap (λ (v : PackedView). length v.items) c.self.view_is,
+      c.self.invariant.1,
+      c.if-self-gt0.true,
       s.heads.ok.0,
       s.wide.ok.0,
-    ) in
-    search rules
+    )

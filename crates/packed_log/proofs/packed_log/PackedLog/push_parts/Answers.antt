@@ -12,10 +12,12 @@ invariant_of-self c =
     let s = c.self.inside in
     let entry : Entry = record { thread = c.args.thread; local = c.args.local; event = option_copied c.args.event } in
     let count = eqb-true _ 0 (sym c.if-is_empty.ensures) in
-    let none : s.wide.items ≡ [] = nil_from_length s.wide.items (omega (arith, count, s.wide.ok.0)) in
-    rw (c.push_reserved.ensures.items, c.push_sets.ensures.items)
-    (pushed_head entry s.heads.items s.wide.items s.sets.items c.head_of.result none
-    c.head_of.ensures c.self.invariant).1
+    let none : s.wide.items ≡ [] = nil_from_length s.wide.items (omega (arith, count, s.wide.ok.0)) in (
+      rw (c.push_reserved.ensures.items, c.push_sets.ensures.items)
+          (pushed_head entry s.heads.items s.wide.items s.sets.items c.head_of.result none
+          c.head_of.ensures c.self.invariant.0).1,
+      omega (arith, c.self.invariant.1, c.push_reserved.ensures.len, c.push_reserved.ensures.capacity, c.push_sets.ensures.room.0, c.push_sets.ensures.room.1),
+    )
 
 pub invariant_of-self-else-is_empty : goal.invariant_of-self-else-is_empty
 invariant_of-self-else-is_empty c =
@@ -24,8 +26,8 @@ invariant_of-self-else-is_empty c =
     let packed : IsPacked (heads_of s.heads.items c.push_reserved-else-is_empty.new.self.items) c.push_sets.new.sets.items =
     rw (c.push_reserved-else-is_empty.ensures.items, c.push_sets.ensures.items)
     (pushed_wide entry s.heads.items s.wide.items s.sets.items c.wide_head_of.result c.wide_head_of.ensures
-    c.self.invariant).1 in
-    packed
+    c.self.invariant.0).1 in
+    (packed, omega (arith, c.self.invariant.1, c.push_reserved-else-is_empty.ensures.len, c.push_reserved-else-is_empty.ensures.capacity, c.push_sets.ensures.room.0, c.push_sets.ensures.room.1))
 
 pub returns-then-has_head-clause-entries : goal.returns-then-has_head-clause-entries
 returns-then-has_head-clause-entries c =
@@ -37,7 +39,7 @@ returns-then-has_head-clause-entries c =
     ≡ entries_of (heads_of s.heads.items s.wide.items) s.sets.items ++ entry ∷ [] =
     rw (c.push_reserved.ensures.items, c.push_sets.ensures.items)
     (pushed_head entry s.heads.items s.wide.items s.sets.items c.head_of.result none
-    c.head_of.ensures c.self.invariant).0 in
+    c.head_of.ensures c.self.invariant.0).0 in
     more ∙ ap (λ (v : PackedView). v.items ++ entry ∷ []) c.self.view_is
 
 pub returns-else-is_empty-clause-entries : goal.returns-else-is_empty-clause-entries
@@ -48,5 +50,5 @@ returns-else-is_empty-clause-entries c =
     ≡ entries_of (heads_of s.heads.items s.wide.items) s.sets.items ++ entry ∷ [] =
     rw (c.push_reserved-else-is_empty.ensures.items, c.push_sets.ensures.items)
     (pushed_wide entry s.heads.items s.wide.items s.sets.items c.wide_head_of.result c.wide_head_of.ensures
-    c.self.invariant).0 in
+    c.self.invariant.0).0 in
     more ∙ ap (λ (v : PackedView). v.items ++ entry ∷ []) c.self.view_is

@@ -12,10 +12,12 @@ pub invariant_of-self : goal.invariant_of-self
 invariant_of-self c =
     let s = c.self.inside in
     let count = eqb-true _ 0 (sym c.if-is_empty.ensures) in
-    let none : s.wide.items ≡ [] = nil_from_length s.wide.items (omega (arith, count, s.wide.ok.0)) in
-    rw c.push_reserved.ensures.items
-    (pushed_plain c.args.thread c.args.local c.args.name c.args.value (heads_of s.heads.items s.wide.items) s.sets.items _
-    (pushed_head _ s.heads.items s.wide.items s.sets.items c.plain_head.result none c.plain_head.ensures c.self.invariant)).1
+    let none : s.wide.items ≡ [] = nil_from_length s.wide.items (omega (arith, count, s.wide.ok.0)) in (
+      rw c.push_reserved.ensures.items
+          (pushed_plain c.args.thread c.args.local c.args.name c.args.value (heads_of s.heads.items s.wide.items) s.sets.items _
+          (pushed_head _ s.heads.items s.wide.items s.sets.items c.plain_head.result none c.plain_head.ensures c.self.invariant.0)).1,
+      omega (arith, c.self.invariant.1, c.push_reserved.ensures.len, c.push_reserved.ensures.capacity),
+    )
 
 pub invariant_of-self-else-is_empty : goal.invariant_of-self-else-is_empty
 invariant_of-self-else-is_empty c =
@@ -24,8 +26,8 @@ invariant_of-self-else-is_empty c =
     rw c.push_reserved-else-is_empty.ensures.items
     (pushed_plain c.args.thread c.args.local c.args.name c.args.value (heads_of s.heads.items s.wide.items) s.sets.items _
     (pushed_wide _ s.heads.items s.wide.items s.sets.items c.wide_plain_head.result c.wide_plain_head.ensures
-    c.self.invariant)).1 in
-    packed
+    c.self.invariant.0)).1 in
+    (packed, omega (arith, c.self.invariant.1, c.push_reserved-else-is_empty.ensures.len, c.push_reserved-else-is_empty.ensures.capacity))
 
 pub returns-then-has_head-clause-entries : goal.returns-then-has_head-clause-entries
 returns-then-has_head-clause-entries c =
@@ -37,7 +39,7 @@ returns-then-has_head-clause-entries c =
     ≡ entries_of (heads_of s.heads.items s.wide.items) s.sets.items ++ entry ∷ [] =
     rw c.push_reserved.ensures.items
     (pushed_plain c.args.thread c.args.local c.args.name c.args.value (heads_of s.heads.items s.wide.items) s.sets.items _
-    (pushed_head _ s.heads.items s.wide.items s.sets.items c.plain_head.result none c.plain_head.ensures c.self.invariant)).0 in
+    (pushed_head _ s.heads.items s.wide.items s.sets.items c.plain_head.result none c.plain_head.ensures c.self.invariant.0)).0 in
     more ∙ ap (λ (v : PackedView). v.items ++ entry ∷ []) c.self.view_is
 
 pub returns-else-is_empty-clause-entries : goal.returns-else-is_empty-clause-entries
@@ -49,5 +51,5 @@ returns-else-is_empty-clause-entries c =
     rw c.push_reserved-else-is_empty.ensures.items
     (pushed_plain c.args.thread c.args.local c.args.name c.args.value (heads_of s.heads.items s.wide.items) s.sets.items _
     (pushed_wide _ s.heads.items s.wide.items s.sets.items c.wide_plain_head.result c.wide_plain_head.ensures
-    c.self.invariant)).0 in
+    c.self.invariant.0)).0 in
     more ∙ ap (λ (v : PackedView). v.items ++ entry ∷ []) c.self.view_is

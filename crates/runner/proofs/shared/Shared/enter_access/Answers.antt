@@ -1,5 +1,5 @@
 -- The log has one entry more, which is an access.
-use Rattle.std.proofs.Common.{◌≡◌, ◌+◌, ◌≤◌, [], ◌∷◌, length, length-append, true, Some, ap, sym, subst, ◌∙◌, arith}
+use Rattle.std.proofs.Common.{◌≡◌, ◌+◌, ◌≤◌, [], ◌∷◌, length, length-append, true, Some, ap, sym, subst, arith}
 use Rattle.machine.specs.ConcreteSteps.{can_move}
 use Rattle.piece_machine.specs.PieceViews.{parts}
 use Rattle.runner.specs.Entries.{Stands}
