@@ -1,5 +1,5 @@
 ghost use Rattle.std.specs.Prelude.{◌≡◌, ◌≢◌, ◌≤◌, ◌<◌, ◌+◌, ◌-◌, ◌^◌, ◌++◌, ◌∷◌, [], length, slice_get, Some};
-ghost use Rattle.std.specs.Prelude.{OnOk, IfOk, MatchBool, is_ok, if◌then◌else◌, option_copied, vec_len, vec_capacity};
+ghost use Rattle.std.specs.Prelude.{OnOk, IfOk, MatchBool, true, is_ok, if◌then◌else◌, option_copied, vec_len, vec_capacity};
 ghost use Rattle.machine.specs.ConcreteServing.{plain};
 ghost use Rattle.packed_log.specs.Packing.{entries_of, heads_of, kept, sets_of};
 ghost use Rattle.packed_log.specs.Views.{IsPacked as IsPackedIn, Woke, step_of};
@@ -126,7 +126,15 @@ impl PackedLog {
         self.grow()
     }
 
-    // The same where none is known: for several entries, so that the vectors are asked seldom.
+    /// Whether there is room for one entry more, which nobody has to make.
+    pub fn has_room(&self) -> bool
+        ensures value { MatchBool result (1 ≤ self.now.room) (self.now.room ≡ 0) }
+        ensures few { result ≡ true → length self.now.items < 2 ^ 64 }
+    {
+        self.spare > 0
+    }
+
+    // Makes room for several entries, so that the vectors are asked seldom.
     #[cold]
     #[inline(never)]
     fn grow(&mut self) -> Result<(), AllocError>

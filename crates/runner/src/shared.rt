@@ -291,20 +291,23 @@ impl<J: RunName> Shared<J> {
     }
 
     /// The same where the piece's next step is an access to a word, in whose way nothing can be: the access is made on the
-    /// piece, which begins anew where that led, and its thread goes on. Answers whether it came in: else nothing has
-    /// changed, and `hand_in` says why, or takes it in.
+    /// piece, which begins anew where that led, and its thread goes on. Answers whether it came in: it does where the log
+    /// has room for an entry without growing and nothing refuses the piece. Else nothing has changed, and `hand_in` says
+    /// why, or takes it in.
     pub fn hand_in_access(&mut self, t: u32, piece: &mut Piece<J>, share: &mut Share<J>) -> bool
         ensures made { result ≡ true → Takes J.program J.limit (log_state self.old) t piece.old (log_state self.new)
             × (share.new ≡ record share.old { count = share.old.count + 1 })
             × IsAfter (log_state self.new).concrete t piece.new After.Goes }
-        ensures none { result ≡ false → (log_state self.new ≡ log_state self.old) × (piece.new ≡ piece.old)
-            × (share.new ≡ share.old) }
+        ensures none { result ≡ false → (self.new ≡ self.old) × (piece.new ≡ piece.old) × (share.new ≡ share.old) }
         ensures given { self.new.given ≡ self.old.given }
         ensures legal { Runs J.program (opening J.program) self.new.log
             (log_state self.new).concrete }
         ensures within { cost self.new.log ≤ J.limit }
     {
-        if !self.may_access(t, piece) || make_room(&mut self.machine, &mut self.log).is_err() {
+        if !self.log.has_room() {
+            return false;
+        }
+        if !self.may_access(t, piece) {
             return false;
         }
         let count = piece.count;

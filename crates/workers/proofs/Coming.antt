@@ -1,6 +1,6 @@
 -- Pieces that come in one after the other.
 use Rattle.std.proofs.Common.{◌≡◌, ℕ, zero, suc, ◌++◌, Bool, false, List, [], ◌∷◌, take, Option, Some, None, is_some}
-use Rattle.std.proofs.Common.{IfNone, slice_get, refl, ap, subst}
+use Rattle.std.proofs.Common.{◌<◌, IfNone, arith, length, slice_get, slice_set, refl, ap, subst}
 use Rattle.runner.specs.declared.fault.RunFault.{RunFault}
 use Rattle.isa.specs.Programs.{Program}
 use Rattle.runner.specs.Views.{PieceView, ShareView}
@@ -43,3 +43,8 @@ pub one_more : (p : Program) (limit : ℕ) (old mid new : SharedRunView) (t : �
 one_more p limit old mid new t pieces at piece share counted share' is come last =
     rw (take_one pieces at piece is)
     (come_more p limit old mid new t (take at pieces) piece share counted share' come last)
+
+-- the first of what there is, written over
+pub set_first : {A : Type 0} → (xs : List A) (x : A) → 0 < length xs → slice_get (slice_set xs 0 x) 0 ≡ Some x
+set_first [] x some = absurd (omega (arith, some))
+set_first (y ∷ ys) x some = refl

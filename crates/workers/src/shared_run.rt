@@ -213,10 +213,13 @@ impl<J: RunName> SharedRun<J> {
             × (turns.new.pieces.items ≡ turns.old.pieces.items) }
         ensures workers { KeepsWorkers self.old self.new }
     {
-        self.fault.is_none()
-            && turns.taken == 1
-            && self.threads() > 1
-            && self.shared.hand_in_access(t, &mut turns.pieces[0], share)
+        if self.fault.is_some() {
+            return false;
+        }
+        if turns.taken != 1 || self.threads() == 1 {
+            return false;
+        }
+        self.shared.hand_in_access(t, &mut turns.pieces[0], share)
     }
 
     // Takes in these pieces of thread `t`, up to one that is refused, and says how its worker goes on where one is.

@@ -1,5 +1,5 @@
 -- The log has one entry more, which is an access.
-use Rattle.std.proofs.Common.{◌≡◌, ◌+◌, ◌≤◌, ℕ, [], ◌∷◌, ◌++◌, length, length-append, true, Some, ap, sym, subst, ◌∙◌, arith}
+use Rattle.std.proofs.Common.{◌≡◌, ◌+◌, ◌≤◌, ℕ, [], ◌∷◌, ◌++◌, length, length-append, refl, true, Some, ap, sym, subst, ◌∙◌, arith}
 use Rattle.machine.specs.Accessing.{told_access}
 use Rattle.machine.specs.ConcreteServing.{plain}
 use Rattle.machine.specs.ConcreteSteps.{can_move}
@@ -20,7 +20,6 @@ invariant_of-self-2 g c =
     let h : LogState = record { log = s.log.items; concrete = parts s.machine } in
     let i = c.piece.inside in
     let a : PieceView = record { thread = i.thread; origin = i.origin; here = i.here; count = i.count } in
-    let m = c.make_room in
     let new = c.access.new.machine in
     let told = c.in-Some.access in
     let Fine : PieceView → SharedView → Type 0 = λ x y. Stands (log_state y) t x
@@ -28,22 +27,22 @@ invariant_of-self-2 g c =
     let old : SharedView = record { log = s.log.items; machine = s.machine; given = s.given } in
     let fine : Fine a old = subst (λ (x : PieceView). Fine x old) (sym c.piece.view_is)
     (subst (λ (y : SharedView). Fine c.args.piece.now y) (sym c.self.view_is) (c.if-not-may_access.ensures.fine (λ i. true))) in
-    let done = subst (λ (u : ℕ). DoneFrom told m.new.machine u a.here new c.access.new.self.here) fine.0.0
-    (subst (λ (x : PieceView). DoneFrom told m.new.machine x.thread x.here new c.access.new.self.here) (sym c.piece.view_is)
+    let done = subst (λ (u : ℕ). DoneFrom told s.machine u a.here new c.access.new.self.here) fine.0.0
+    (subst (λ (x : PieceView). DoneFrom told s.machine x.thread x.here new c.access.new.self.here) (sym c.piece.view_is)
     c.in-Some.ensures.made.0) in
     let grows = c.push_plain.ensures.entries
-    ∙ ap (λ n. m.new.log.items ++ entry t a.count (Some (plain n told.value)) ∷ []) c.access_name.ensures in
-    let enters : EntersAccess m.new.machine.view.program (parts m.new.machine) t a.here a.count m.new.log.items (parts new)
+    ∙ ap (λ n. s.log.items ++ entry t a.count (Some (plain n told.value)) ∷ []) c.access_name.ensures in
+    let enters : EntersAccess s.machine.view.program (parts s.machine) t a.here a.count s.log.items (parts new)
     c.push_plain.new.self.items = record {
       event = told_access told;
-      gives = step_end m.new.machine.view.program (parts m.new.machine) t a.here (parts new) (told_access told)
+      gives = step_end s.machine.view.program (parts s.machine) t a.here (parts new) (told_access told)
           (sym done.shared) done.gives;
       grows = grows;
     } in
     let counted = c.self.invariant.1 in (
-      keeps_access p g.J.RunName.outside s.machine.view.program m.new.machine.view.program new.view.program limit h
-          (parts m.new.machine) m.new.log.items c.push_plain.new.self.items (parts new) a t s.steps s.limit s.kills
-          m.ensures.program m.ensures.same.0 m.ensures.same.1 c.access.ensures.program c.self.invariant.0 c.piece.invariant.0
+      keeps_access p g.J.RunName.outside s.machine.view.program s.machine.view.program new.view.program limit h
+          (parts s.machine) s.log.items c.push_plain.new.self.items (parts new) a t s.steps s.limit s.kills
+          refl refl refl c.access.ensures.program c.self.invariant.0 c.piece.invariant.0
           fine.0 fine.1 fine.2 enters,
       record {
         total = omega (
@@ -51,8 +50,7 @@ invariant_of-self-2 g c =
           c.count_one.ensures.total,
           counted.total,
           ap length grows,
-          ap length m.ensures.same.1,
-          length-append m.new.log.items (entry t a.count (Some (told_access told)) ∷ []),
+          length-append s.log.items (entry t a.count (Some (told_access told)) ∷ []),
         );
         whole = counted.whole;
         unused = counted.unused;
