@@ -10,7 +10,7 @@ use Rattle.locals.specs.Looks.{AskWait, AskWake, AskRequeue, AskReturn, AskRetur
 use Rattle.locals.specs.Looks.{Leaves, Breaks, Rests, look}
 use Rattle.locals.specs.declared.request.NextStep.TheVariants as kind
 use Rattle.locals.specs.Requests.{next_step_of, request_step}
-use Rattle.locals.specs.Steps.{local_next, local_step, local_after}
+use Rattle.locals.specs.Steps.{local_next, local_step}
 use Rattle.locals.specs.Threads.{Thread}
 use Rattle.machine.specs.ConcreteSteps.{can_move, fault_of}
 use Rattle.machine.specs.declared.event.Event.{Event}
@@ -27,10 +27,9 @@ use Rattle.piece_machine.specs.PieceViews.{PieceView as MachineView, DoneFrom, G
 use Rattle.runner.specs.Entries.{BreaksAfter, entry_end}
 use Rattle.runner.specs.Logs.{EntersOwn}
 use Rattle.runner.specs.Reports.{IsHeldUp}
-use Rattle.runner.specs.Walks.{LooksFrom, Turns, Walked}
+use Rattle.runner.specs.Walks.{Turns, Walked}
 use Rattle.runner.proofs.Growing.{entry}
 use Rattle.runner.proofs.Handing.{refused_at, refused_by, refused_end, up}
-use Rattle.runner.proofs.Lives.{moves_there}
 use Rattle.runner.proofs.Once.{still_made}
 use Rattle.runner.proofs.Unrolling.{put_back}
 
@@ -47,24 +46,6 @@ pub walked_there : (p : Program) (k mid : PieceConcrete) (t n : ℕ) (w : Walked
 walked_there p k mid t n w =
     ap (λ (m : PieceConcrete). thread_of m.concrete t) w.there
     ∙ thread_at-put k.concrete.threads t w.origin w.here w.stands
-
-pub walked_awake : (p : Program) (k mid : PieceConcrete) (t n : ℕ) → Walked p k t n mid
-    → mid.concrete.common.asleep t ≡ None
-walked_awake p k mid t n w =
-    ap (λ (m : PieceConcrete). m.concrete.common.asleep t) w.there ∙ (up k.concrete t w.moves).awake
-
-pub walked_made : (p : Program) (k mid : PieceConcrete) (t n : ℕ) → Walked p k t n mid
-    → (0 < t) × (t ≤ length mid.concrete.threads)
-walked_made p k mid t n w =
-    still_made k.concrete.threads mid.concrete.threads t w.origin w.here w.stands
-    (ap (λ (m : PieceConcrete). m.concrete.threads) w.there)
-
--- and can move there
-pub walked_moves : (p : Program) (k mid : PieceConcrete) (t n : ℕ) → Walked p k t n mid
-    → can_move mid.concrete t ≡ true
-walked_moves p k mid t n w =
-    subst (λ (m : PieceConcrete). can_move m.concrete t ≡ true) (sym w.there)
-    (moves_there p k.concrete t n w.origin w.here w.moves w.stands w.turns.goes)
 
 -- before a local step its turn is over
 over : (n : ℕ) (o : Option Thread) → is_some o ≡ true → (n < 256 → o ≡ None) → 1 ≤ n
@@ -190,29 +171,20 @@ walk_waits p k mid t n w waits = record {
   waits = waits;
 }
 
--- its next step is the one that was seen ahead
-pub next_there : (p q : Program) (k mid : PieceConcrete) (t n : ℕ) (x : Thread) (next : NextStep) → q ≡ p
-    → (w : Walked p k t n mid) → next ≡ next_step_of (look p t w.here) → thread_of mid.concrete t ≡ Some x
-    → next ≡ next_step_of (look q t x)
-next_there p q k mid t n x next same w is at =
-    let both : Some w.here ≡ Some x = sym (walked_there p k mid t n w) ∙ at in
-    let e : w.here ≡ x = cc in
-    is ∙ (λ i. next_step_of (look (sym same i) t (e i)))
-
--- what was seen ahead of a machine
-pub held_ahead : (p : Program) (k : PieceConcrete) (t n : ℕ) (origin ahead : Thread) (next : NextStep)
-    → thread_of k.concrete t ≡ Some origin → can_move k.concrete t ≡ true → (l : LooksFrom p t origin n next ahead)
-    → piece_fault_at p k t l.here ≡ Some CannotMove → IsHeldUp p k t
-held_ahead p k t n origin ahead next stands moves l waits = record {
+-- where a held bucket is in the way of the step that its local steps lead to, it is held up
+pub held_ahead : (p : Program) (k : PieceConcrete) (t n : ℕ) (origin here : Thread)
+    → thread_of k.concrete t ≡ Some origin → can_move k.concrete t ≡ true → Turns p t n origin here
+    → piece_fault_at p k t here ≡ Some CannotMove → IsHeldUp p k t
+held_ahead p k t n origin here stands moves turns waits = record {
   count = n;
   origin = origin;
-  here = l.here;
+  here = here;
   moves = moves;
   stands = stands;
-  goes = l.turns.goes;
-  turn = l.turns.turn;
-  whole = l.turns.whole;
-  waits = refused_at p p k t origin l.here CannotMove refl (up k.concrete t moves).awake stands (sym waits);
+  goes = turns.goes;
+  turn = turns.turn;
+  whole = turns.whole;
+  waits = refused_at p p k t origin here CannotMove refl (up k.concrete t moves).awake stands (sym waits);
 }
 
 -- where no bucket is in its way there, its entry doesn't wait for one
@@ -223,29 +195,10 @@ free_ahead p k t here free waits =
     let b = refused_by there (piece_of p there t) (local_step p t here) CannotMove waits in
     free (ap fault_of b.1)
 
--- what was seen of the thread where it stands, and behind its local steps
-abbrev pub looks_here : (p : Program) (t : ℕ) (x ahead : Thread) (next : NextStep) → next ≡ next_step_of (look p t x)
-    → is_some (local_step p t x) ≡ false → LooksFrom p t x 0 next ahead
-looks_here p t x ahead next is shared = record {
-  here = x;
-  turns = record { goes = refl; turn = omega arith; whole = λ less. no_step (local_step p t x) shared };
-  next_is = is;
-  ahead_is = λ less. absurd (omega (arith, less));
-}
-
-abbrev pub looks_on : (p q : Program) (t n : ℕ) (x y here : Thread) (next : NextStep) → q ≡ p → y ≡ x
-    → local_after q t n y ≡ Some here → n ≤ 256 → (n < 256 → local_step q t here ≡ None)
-    → next ≡ next_step_of (look p t here) → LooksFrom p t x n next here
-looks_on p q t n x y here next same from goes turn whole is = record {
-  here = here;
-  turns = record {
-    goes = (λ i. local_after (sym same i) t n (sym from i)) ∙ goes;
-    turn = turn;
-    whole = λ less. ap (λ z. local_step z t here) (sym same) ∙ whole less;
-  };
-  next_is = is;
-  ahead_is = λ less. refl;
-}
+-- a thread that stands before a shared step has none to take
+pub turns_none : (p : Program) (t : ℕ) (x : Thread) → is_some (local_step p t x) ≡ false → Turns p t 0 x x
+turns_none p t x shared =
+    record { goes = refl; turn = omega arith; whole = λ less. no_step (local_step p t x) shared }
 
 -- a thread that was put where its local steps led
 abbrev pub IsPut : MachineView → ℕ → Thread → MachineView → Type 0
@@ -380,10 +333,6 @@ moves_still old new t same moves = subst (λ (m : MachineView). can_move (concre
 
 pub goes_to : (v : View) (t n : ℕ) (here : Thread) → Ahead v t n here → GoesTo v t here
 goes_to v t n here a = record { origin = a.origin; count = n; stands = a.stands; goes = a.turns.goes }
-
-abbrev pub looks_to : (v : View) (t n : ℕ) (here : Thread) (next : NextStep) (a : Ahead v t n here)
-    → next ≡ next_step_of (look v.program t here) → LooksFrom v.program t a.origin n next here
-looks_to v t n here next a is = record { here = here; turns = a.turns; next_is = is; ahead_is = λ some. refl }
 
 -- it was put there
 abbrev pub walked_put : (old new : MachineView) (t n : ℕ) (here : Thread) → can_move (concrete old.view) t ≡ true

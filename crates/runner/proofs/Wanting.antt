@@ -42,7 +42,7 @@ use Rattle.runner.specs.Attempts.{AsksFirst, HasEntered, WantsBucket}
 use Rattle.runner.specs.Entries.{taken_entry}
 use Rattle.runner.specs.Logs.{EntersOwn}
 use Rattle.runner.specs.Reports.{IsHeldUp}
-use Rattle.runner.specs.Walks.{LooksFrom}
+use Rattle.runner.specs.Walks.{Turns}
 use Rattle.runner.proofs.Handing.{piece_there, refused_end, up}
 use Rattle.runner.proofs.Passing.{Apart, entered_apart, moves_stay}
 use Rattle.runner.proofs.Waiting.{stays_there}
@@ -140,20 +140,20 @@ lies_there p k t o here call moves stands calls waits = elim (cases_Bool (lies_i
       ∙ outside_look p (with_local k t here) t (look p t here) call calls out) waits)
 ]
 
-pub wants_so : (p : Program) (k : PieceConcrete) (t b n : ℕ) (o ahead : Thread) (next : NextStep)
-    → thread_of k.concrete t ≡ Some o → can_move k.concrete t ≡ true → (l : LooksFrom p t o n next ahead)
-    → piece_fault_at p k t l.here ≡ Some CannotMove → AsksFirst p k t b l.here → WantsBucket p k t b
-wants_so p k t b n o ahead next stands moves l waits asks = record {
+pub wants_so : (p : Program) (k : PieceConcrete) (t b n : ℕ) (o here : Thread) → thread_of k.concrete t ≡ Some o
+    → can_move k.concrete t ≡ true → Turns p t n o here → piece_fault_at p k t here ≡ Some CannotMove
+    → AsksFirst p k t b here → WantsBucket p k t b
+wants_so p k t b n o here stands moves turns waits asks = record {
   count = n;
   origin = o;
-  here = l.here;
+  here = here;
   moves = moves;
   stands = stands;
-  goes = l.turns.goes;
-  turn = l.turns.turn;
-  whole = l.turns.whole;
+  goes = turns.goes;
+  turn = turns.turn;
+  whole = turns.whole;
   asks = asks;
-  lies = lies_there p k t o l.here asks.call moves stands asks.calls waits;
+  lies = lies_there p k t o here asks.call moves stands asks.calls waits;
 }
 
 -- who is within a call holds the bucket that it takes first

@@ -1,10 +1,7 @@
--- A thread that went on by the local steps of its turn, on the machine or ahead of it.
+-- A thread that went on by the local steps of its turn.
 use Rattle.std.specs.Prelude.{ℕ, ◌≡◌, ◌<◌, ◌≤◌, true, Some, None}
 use Rattle.words.specs.Limits.{most_local_steps}
 use Rattle.isa.specs.Programs.{Program}
-use Rattle.locals.specs.declared.request.NextStep.{NextStep}
-use Rattle.locals.specs.Looks.{look}
-use Rattle.locals.specs.Requests.{next_step_of}
 use Rattle.locals.specs.Steps.{local_step, local_after}
 use Rattle.locals.specs.Threads.{Thread}
 use Rattle.machine.specs.ConcreteSteps.{can_move}
@@ -25,10 +22,3 @@ pub record Walked (p : Program) (k : PieceConcrete) (t count : ℕ) (mid : Piece
   pub moves : can_move k.concrete t ≡ true
   pub turns : Turns p t count origin here
   pub there : mid ≡ with_local k t here
-
--- they lead to where this is the next step; where there are any, to this state
-pub record LooksFrom (p : Program) (t : ℕ) (origin : Thread) (count : ℕ) (next : NextStep) (ahead : Thread) : Type 0 where
-  pub here : Thread
-  pub turns : Turns p t count origin here
-  pub next_is : next ≡ next_step_of (look p t here)
-  pub ahead_is : 0 < count → ahead ≡ here

@@ -10,7 +10,7 @@ use Rattle.runner.specs.Entries.{BreaksAfter, entry_end, taken_entry}
 use Rattle.runner.specs.Logs.{EntersOwn}
 use Rattle.runner.specs.Reports.{IsHeldUp}
 use Rattle.runner.proofs.Noting.{wants_if}
-use Rattle.runner.proofs.Walking.{ahead_of, ahead_still, free_ahead, from_enters, goes_to, held_ahead, if_err, looks_to}
+use Rattle.runner.proofs.Walking.{ahead_of, ahead_still, free_ahead, from_enters, goes_to, held_ahead, if_err}
 use Rattle.runner.proofs.Walking.{moves_still, put_awake, put_made, put_next, walked_as, walked_put}
 use Rattle.runner.proofs.Wanting.{wants_so}
 use Rattle.runner.proofs.in_place.take_ahead.Goals as goal
@@ -59,8 +59,7 @@ returns-then-waits_for_bucket-clause-held c =
     c.next_step_at-next.ensures in (
       ap (λ (v : MachineView). parts v) still.0,
       subst (λ (v : MachineView). IsHeldUp v.view.program (parts v) t) still.0
-          (held_ahead mid.view.program (parts mid) t n b.origin there c.next_step_at-next.result b.stands moves
-          (looks_to mid.view t n there c.next_step_at-next.result b next_is)
+          (held_ahead mid.view.program (parts mid) t n b.origin there b.stands moves b.turns
           (c.if-waits_for_bucket.ensures there (goes_to mid.view t n there b) next_is)),
     )
 
@@ -80,8 +79,7 @@ returns-then-waits_for_bucket-clause-wants c =
     c.next_step_at-next.ensures in
     subst (λ (v : MachineView). WantsIf v.view.program (parts v) t c.obstacle_of.result) still.0
     (wants_if mid.view.program (parts mid) t c.obstacle_of.result
-    (λ bucket is. wants_so mid.view.program (parts mid) t bucket n b.origin there c.next_step_at-next.result b.stands moves
-    (looks_to mid.view t n there c.next_step_at-next.result b next_is)
+    (λ bucket is. wants_so mid.view.program (parts mid) t bucket n b.origin there b.stands moves b.turns
     (c.if-waits_for_bucket.ensures there (goes_to mid.view t n there b) next_is)
     (c.obstacle_of.ensures bucket there is (goes_to mid.view t n there b) next_is)))
 

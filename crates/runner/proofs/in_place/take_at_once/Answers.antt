@@ -9,7 +9,7 @@ use Rattle.runner.specs.Attempts.{AsksFirst}
 use Rattle.runner.specs.declared.attempt.Obstacle.TheVariants.{First}
 use Rattle.runner.proofs.Handing.{up}
 use Rattle.runner.proofs.Noting.{wants_if}
-use Rattle.runner.proofs.Walking.{breaks_there, fault_here, is_shared, looks_here, step_enters, waits_there, walk_enters}
+use Rattle.runner.proofs.Walking.{breaks_there, fault_here, is_shared, turns_none, step_enters, waits_there, walk_enters}
 use Rattle.runner.proofs.Walking.{walked_none}
 use Rattle.runner.proofs.Wanting.{wants_so}
 use Rattle.runner.proofs.in_place.take_at_once.Goals as goal
@@ -70,6 +70,6 @@ returns-in-Err-CannotMove-clause-wants c =
     → GoesTo v.view t here → c.args.next ≡ next_step_of (look v.view.program t here)
     → AsksFirst v.view.program (parts v) t bucket here) c.in-Err-CannotMove.ensures.err.1 c.obstacle_of.ensures in
     wants_if p (parts m) t c.obstacle_of.result
-    (λ bucket is. wants_so p (parts m) t bucket 0 u.thread u.thread c.args.next u.stands c.requires.thread
-    (looks_here p t u.thread u.thread c.args.next next_is shared) (fault_here p (parts m) t u.thread u.stands fails)
+    (λ bucket is. wants_so p (parts m) t bucket 0 u.thread u.thread u.stands c.requires.thread
+    (turns_none p t u.thread shared) (fault_here p (parts m) t u.thread u.stands fails)
     (asks bucket u.thread is (record { origin = u.thread; count = 0; stands = u.stands; goes = refl }) next_is))
