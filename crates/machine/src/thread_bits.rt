@@ -46,8 +46,20 @@ impl ThreadBits {
         ensures { IsLeastFrom (has_bit self.now.words) t result }
     {
         if last <= 64 {
-            return self.next_of_few(t);
+            self.next_of_few(t)
+        } else {
+            self.next_of_many(t, last)
         }
+    }
+
+    // The same by as many words as have a thread. Apart, so that nothing of it is worked out where there is one word.
+    #[inline(never)]
+    fn next_of_many(&self, t: u32, last: u32) -> Option<u32>
+        requires from { (1 ≤ t) × (t ≤ last) }
+        requires last { last ≤ most_members }
+        requires none { (u : ℕ) → last < u → has_bit self.now.words u ≡ false }
+        ensures { IsLeastFrom (has_bit self.now.words) t result }
+    {
         let words = (last as usize).div_ceil(64);
         least_from(&self.words[..words], t)
     }

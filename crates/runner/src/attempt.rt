@@ -1,7 +1,8 @@
-ghost use Rattle.std.specs.Prelude.{◌≡◌, ℕ, false};
+ghost use Rattle.std.specs.Prelude.{◌≡◌, ◌≢◌, ℕ, MatchBool, false};
 ghost use Rattle.isa.specs.Programs.{Program};
 ghost use Rattle.piece_machine.specs.PieceConcrete.{PieceConcrete};
 ghost use Rattle.runner.specs.Attempts.{TriedSo, WantsIf, is_made};
+ghost use Rattle.runner.specs.declared.attempt.Attempt;
 
 /// The held bucket that is in the way of a thread's next entry.
 #[derive(Clone, Copy)]
@@ -30,6 +31,13 @@ pub enum Attempt {
 }
 
 impl Attempt {
+    /// Whether the entry was made, and ended with an access to a word.
+    pub fn is_access(self) -> bool
+        ensures { MatchBool result (self ≡ Attempt.Accessed) (self ≢ Attempt.Accessed) }
+    {
+        matches!(self, Attempt::Accessed)
+    }
+
     /// Whether the entry was made.
     pub fn is_made(self) -> bool
         ensures { result ≡ is_made self }

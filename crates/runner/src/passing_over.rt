@@ -80,6 +80,11 @@ impl Waiting {
             → AllWait p (parts machine.now) self.new }
     {
         self.check(machine);
+        // As most are: it is told by a comparison, and not by a jump through a table.
+        if attempt.is_access() {
+            self.leave(t);
+            return;
+        }
         match attempt {
             Attempt::Accessed | Attempt::Made => self.leave(t),
             Attempt::Took(bucket) => {

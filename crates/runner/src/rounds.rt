@@ -118,7 +118,7 @@ pub fn run_alone<J: RunName, G: Gate>(
         gate.pass(t);
         // Who made an access can move still, as most entries end.
         let attempt = shared.go_on(t, share)?;
-        moves = matches!(attempt, Attempt::Accessed) || shared.machine().can_move(t);
+        moves = attempt.is_access() || shared.machine().can_move(t);
     }
     Ok(())
 }

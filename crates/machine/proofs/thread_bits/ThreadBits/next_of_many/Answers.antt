@@ -1,7 +1,7 @@
 -- The words up to that of the last one tell as much as all.
 use Rattle.std.proofs.Common.{arith}
 use Rattle.machine.proofs.Leasts.{within}
-use Rattle.machine.proofs.thread_bits.ThreadBits.next_within.Goals as goal
+use Rattle.machine.proofs.thread_bits.ThreadBits.next_of_many.Goals as goal
 
 pub returns : goal.returns
 returns c =
