@@ -59,7 +59,7 @@ abbrev pub placed : View → ℕ → Thread → View
 placed v t x = record v { threads = slice_set v.threads (t - 1) x }
 
 -- thread t, if it could go to this state and can move there, made the access to a word that was its next step there, and
--- stands where that led, as the state does; or nothing has changed
+-- stands where that led, as the state does; or its next step there is none, and nothing has changed
 pub record MadeFrom (told : Access) (old : View) (t : ℕ) (here : Thread) (new : View) (there : Thread) : Type 0 where
   pub moved : can_move (concrete (placed old t here)) t ≡ true
   pub made : MakesAccess (placed old t here) t (told_access told) new
@@ -67,5 +67,6 @@ pub record MadeFrom (told : Access) (old : View) (t : ℕ) (here : Thread) (new 
   pub moves : can_move (concrete new) t ≡ true
 
 abbrev pub AccessesFrom : Option Access → View → ℕ → Thread → View → Thread → Type 0
-AccessesFrom None old t here new there = (new ≡ old) × (there ≡ here)
+AccessesFrom None old t here new there =
+    (new ≡ old) × (there ≡ here) × (accessing (look old.program t here) old.words ≡ None)
 AccessesFrom (Some told) old t here new there = MadeFrom told old t here new there

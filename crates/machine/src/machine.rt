@@ -297,7 +297,7 @@ impl Machine {
     }
 
     /// The same of thread `t` as if its local steps had led it to this state: the access is made in this state, of which
-    /// the thread becomes a copy. Else nothing has changed, this state neither.
+    /// the thread becomes a copy. Where its next step there is none nothing has changed, this state neither.
     pub fn access_from(&mut self, t: u32, local: &mut Local) -> Option<Access>
         requires { can_move (concrete self.old) t ≡ true }
         ensures { AccessesFrom result self.old t local.old self.new local.new }

@@ -137,7 +137,7 @@ pub from_done : (v v' : View) (phases : List FutexPhase) (t : ℕ) (here there :
     → GoesTo v t here → AccessesFrom made v t here v' there
     → MatchOption made
     (((let w : PieceView = record { view = v'; phases = phases } in w) ≡ record { view = v; phases = phases })
-    × (there ≡ here))
+    × (there ≡ here) × (accessing (look v.program t here) v.words ≡ None))
     (λ told. DoneFrom told (record { view = v; phases = phases }) t here (record { view = v'; phases = phases }) there)
 from_done v v' phases t here there (Some told) goes m =
     let mid = placed v t here in
@@ -147,7 +147,7 @@ from_done v v' phases t here there (Some told) goes m =
       stands = m.stands;
       moves = m.moves;
     }
-from_done v v' phases t here there None goes m = ((λ i. record { view = m.0 i; phases = phases }), m.1)
+from_done v v' phases t here there None goes m = ((λ i. record { view = m.0 i; phases = phases }), m.1, m.2)
 
 pub from_program : (v v' : View) (t : ℕ) (here there : Thread) (made : Option Access) → AccessesFrom made v t here v' there
     → v'.program ≡ v.program

@@ -1,5 +1,7 @@
 //! What threads of a machine in pieces do in their place: their local steps, and accesses to words.
-ghost use Rattle.std.specs.Prelude.{◌≡◌, ◌-◌, true, Ok, IfSome, MatchOption, slice_set};
+ghost use Rattle.std.specs.Prelude.{◌≡◌, ◌-◌, true, Ok, None, IfSome, MatchOption, slice_set};
+ghost use Rattle.locals.specs.Accesses.{accessing};
+ghost use Rattle.locals.specs.Looks.{look};
 ghost use Rattle.machine.specs.Accessing.{HasNoAccess, told_access};
 ghost use Rattle.machine.specs.ConcreteSteps.{can_move};
 ghost use Rattle.machine.specs.LocalRuns.{RunsOn};
@@ -53,11 +55,12 @@ impl PieceMachine {
     }
 
     /// The same of thread `t` as if its local steps had led it to this state: the access is made in this state, of which
-    /// the thread becomes a copy. Else nothing has changed, this state neither.
+    /// the thread becomes a copy. Where its next step there is none nothing has changed, this state neither.
     pub fn access_from(&mut self, t: u32, local: &mut Local) -> Option<Access>
         requires can_move { can_move (concrete self.old.view) t ≡ true }
         requires goes { GoesTo self.old.view t local.old }
-        ensures made { MatchOption result ((self.new ≡ self.old) × (local.new ≡ local.old))
+        ensures made { MatchOption result ((self.new ≡ self.old) × (local.new ≡ local.old)
+            × (accessing (look self.old.view.program t local.old) self.old.view.words ≡ None))
             (λ told. DoneFrom told self.old t local.old self.new local.new) }
         ensures program { self.new.view.program ≡ self.old.view.program }
     {

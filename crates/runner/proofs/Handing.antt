@@ -1,10 +1,11 @@
 -- What comes of a piece.
-use Rattle.std.proofs.Common.{◌≡◌, ℕ, ◌-◌, ◌+◌, ◌<◌, ◌≤◌, Bool, true, false, not, Option, Some, None, Result, Ok}
+use Rattle.std.proofs.Common.{◌≡◌, ℕ, ◌-◌, ◌+◌, ◌<◌, ◌≤◌, Bool, true, false, not, List, Option, Some, None, Result, Ok}
 use Rattle.std.proofs.Common.{Err, is_some, length, refl, ap, sym, ◌∙◌, arith, length-set}
 use Rattle.std.specs.Prelude.{if◌then◌else◌, IsOk}
 use mir.Val.{bool_byte}
 use Rattle.isa.specs.Programs.{Program}
 use Rattle.locals.specs.Threads.{Thread}
+use Rattle.locals.specs.Accesses.{Accessing, accessing}
 use Rattle.locals.specs.Looks.{Look, Goes, Asks, Leaves, Breaks, Rests, look}
 use Rattle.locals.specs.Steps.{local_step, local_after, local_next}
 use Rattle.machine.specs.declared.event.Event.{Event}
@@ -21,9 +22,9 @@ use Rattle.piece_machine.specs.PieceConcrete.{PieceConcrete, Outcome, look_step,
 use Rattle.piece_machine.specs.PieceConcrete.{thread_step as piece_at_thread, piece_of, with_local, piece_fault_at}
 use Rattle.piece_machine.specs.PieceViews.{GoesTo}
 use Rattle.runner.specs.declared.fault.RunFault.TheVariants.{Limit}
-use Rattle.runner.specs.Views.{PieceView, LogState}
+use Rattle.runner.specs.Views.{PieceView, LogState, SharedView, log_state}
 use Rattle.runner.specs.Logs.{event_cost, cost}
-use Rattle.runner.specs.Entries.{entry_end, entry_end_by, Stands, IsFine, RefusesEntry}
+use Rattle.runner.specs.Entries.{entry_end, entry_end_by, BringsNoAccess, Stands, IsFine, RefusesEntry}
 use Rattle.runner.specs.Rounds.{step_cost}
 use Rattle.runner.proofs.Growing.{inside}
 
@@ -246,3 +247,35 @@ not_refused p k t here f fine shared fails =
     ok_or_not (entry_end p k t here) f fine
     (refused_end (with_local k t here) (piece_of p (with_local k t here) t) (local_step p t here) f
     (no_step (local_step p t here) shared) fails)
+
+-- who stands before an access takes no local step, and so its entry has one step more than its piece counts
+access_shared : (l : Look) (ws : List ℕ) (a : Accessing) → accessing l ws ≡ Some a → local_next l ≡ None
+access_shared (Asks request go) ws a h = refl
+access_shared (Goes x) ws a h = absurd cc
+access_shared (Leaves phase) ws a h = refl
+access_shared Breaks ws a h = refl
+access_shared Rests ws a h = refl
+
+access_costs : (p : Program) (k k' : PieceConcrete) (t : ℕ) (here : Thread) (ws : List ℕ) (a : Accessing)
+    (event : Option Event) → accessing (look p t here) ws ≡ Some a → entry_end p k t here ≡ Ok (k', event)
+    → event_cost event ≡ 1
+access_costs p k k' t here ws a event h gives =
+    costs_so (with_local k t here) k' (piece_of p (with_local k t here) t) (local_step p t here) event gives
+    ∙ ap step_cost (access_shared (look p t here) ws a h)
+
+-- a piece that doesn't come in with an access can't come in, or has none
+brings_by : (p : Program) (limit : ℕ) (s : SharedView) (t : ℕ) (a : PieceView) (o : Option Accessing)
+    → accessing (look p t a.here) s.machine.view.words ≡ o
+    → (is_some o ≡ true → Stands (log_state s) t a → can_move (log_state s).concrete.concrete t ≡ true
+    → cost s.log + (a.count + 1) ≤ limit → ⊥)
+    → BringsNoAccess p limit s t a
+brings_by p limit s t a None is none = λ fine. is
+brings_by p limit s t a (Some x) is none = λ fine.
+    let one = access_costs p (log_state s).concrete fine.concrete t a.here s.machine.view.words x fine.event is fine.gives in
+    absurd (none refl fine.stands fine.moves (omega (arith, one, fine.within)))
+
+pub brings_none : (p : Program) (limit : ℕ) (s : SharedView) (t : ℕ) (a : PieceView)
+    → (is_some (accessing (look p t a.here) s.machine.view.words) ≡ true → Stands (log_state s) t a
+    → can_move (log_state s).concrete.concrete t ≡ true → cost s.log + (a.count + 1) ≤ limit → ⊥)
+    → BringsNoAccess p limit s t a
+brings_none p limit s t a none = brings_by p limit s t a (accessing (look p t a.here) s.machine.view.words) refl none

@@ -8,6 +8,8 @@ pub mod OneByOne
 pub mod Passing
 pub mod Lives
 pub mod Waiting
+pub mod CalmNotes
+pub mod Calm
 pub mod Wanting
 pub mod Noting
 pub mod Joining

@@ -48,22 +48,28 @@ other_test true true is both = refl
 other_test true false is both = absurd cc
 other_test false b is both = absurd cc
 
--- where it waits a bucket is held
+-- where it waits a held bucket is in its way
 waits_for : (p : Program) (k : PieceConcrete) (t : ℕ) → IsFit p k → can_move k.concrete t ≡ true
-    → piece_of p k t ≡ Err CannotMove → IsTaken k
+    → piece_of p k t ≡ Err CannotMove → is_blocked p k t (thread_of k.concrete t) ≡ true
 waits_for p k t fit moves fails = elim (cases_Bool (can_take p k t)) [
   | inl takes ↦ absurd ((piece_refuses_so p k t fit).0 fails ((takes_so p k t).0 takes))
-  | inr not ↦ blocked_so p k t (thread_of k.concrete t)
-      (other_test (can_move k.concrete t) (is_blocked p k t (thread_of k.concrete t)) moves not)
+  | inr not ↦ other_test (can_move k.concrete t) (is_blocked p k t (thread_of k.concrete t)) moves not
 ]
+
+-- so it is where the local steps of a thread lead that is held up
+pub held_up_blocked : (p : Program) (k : PieceConcrete) (t : ℕ) → IsFit p k → (w : IsHeldUp p k t)
+    → (let there = with_local k t w.here in is_blocked p there t (thread_of there.concrete t)) ≡ true
+held_up_blocked p k t fit w =
+    let there = with_local k t w.here in
+    let b = refused_by there (piece_of p there t) (local_step p t w.here) CannotMove w.waits in
+    let awake = (up k.concrete t w.moves).awake in
+    waits_for p there t (kept_put p k t w.count w.origin w.here fit awake w.stands w.goes)
+    (moves_there p k.concrete t w.count w.origin w.here w.moves w.stands w.goes) b.1
 
 pub held_up_taken : (p : Program) (k : PieceConcrete) (t : ℕ) → IsFit p k → IsHeldUp p k t → IsTaken k
 held_up_taken p k t fit w =
     let there = with_local k t w.here in
-    let b = refused_by there (piece_of p there t) (local_step p t w.here) CannotMove w.waits in
-    let awake = (up k.concrete t w.moves).awake in
-    let taken = waits_for p there t (kept_put p k t w.count w.origin w.here fit awake w.stands w.goes)
-    (moves_there p k.concrete t w.count w.origin w.here w.moves w.stands w.goes) b.1 in
+    let taken = blocked_so p there t (thread_of there.concrete t) (held_up_blocked p k t fit w) in
     record { bucket = taken.bucket; holder = taken.holder; holds = taken.holds }
 
 -- who stands before a shared step goes nowhere by local steps

@@ -2,6 +2,8 @@
 use Rattle.std.specs.Prelude.{ℕ, List, ◌≡◌, ◌≢◌, ◌+◌, ◌++◌, ◌≤◌, ◌<◌, ◌⊎◌, [], ◌∷◌, Bool, true, false, Option, Some, None}
 use Rattle.std.specs.Prelude.{Result, Ok, Err}
 use Rattle.isa.specs.Programs.{Program}
+use Rattle.locals.specs.Accesses.{accessing}
+use Rattle.locals.specs.Looks.{look}
 use Rattle.locals.specs.Threads.{Thread}
 use Rattle.locals.specs.Steps.{local_step, local_after}
 use Rattle.machine.specs.declared.event.Entry.{Entry}
@@ -17,7 +19,7 @@ use Rattle.runner.specs.declared.in_place.Behind.{Behind}
 use Rattle.runner.specs.declared.in_place.Behind.TheVariants.{Nothing, Accessed, Stepped}
 use Rattle.runner.specs.declared.in_place.Taken.{Taken}
 use Rattle.runner.specs.declared.fault.RunFault.TheVariants.{Stray, Limit, CannotMove, Broken, Memory}
-use Rattle.runner.specs.Views.{PieceView, LogState}
+use Rattle.runner.specs.Views.{PieceView, LogState, SharedView, log_state}
 use Rattle.runner.specs.Logs.{cost, event_cost}
 
 -- the event of an entry, if it has a shared step
@@ -75,6 +77,11 @@ pub record IsFine (p : Program) (limit : ℕ) (h : LogState) (t : ℕ) (a : Piec
   pub event : Option Event
   pub gives : entry_end p h.concrete t a.here ≡ Ok (concrete, event)
   pub within : cost h.log + (a.count + event_cost event) ≤ limit
+
+-- the piece can't come in, or its next step is no access to a word of the memory
+abbrev pub BringsNoAccess : Program → ℕ → SharedView → ℕ → PieceView → Type 0
+BringsNoAccess p limit s t a =
+    IsFine p limit (log_state s) t a → accessing (look p t a.here) s.machine.view.words ≡ None
 
 -- a piece came in: exactly one entry is new, with the piece's count and what came of it
 pub record Takes (p : Program) (limit : ℕ) (old : LogState) (t : ℕ) (a : PieceView) (new : LogState) : Type 0 where

@@ -5,6 +5,7 @@ pub mod Entries
 pub mod Nexts
 pub mod Afters
 pub mod Attempts
+pub mod CalmCode
 pub mod Reports
 pub mod Walks
 pub mod Waits

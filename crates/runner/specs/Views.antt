@@ -17,9 +17,11 @@ pub record LogState : Type 0 where
   pub log : List Entry
   pub concrete : PieceConcrete
 
--- the log beside the machine, as a value of the code, and how many parts of the count of entries were given out
+-- the log beside the machine, as a value of the code, for how many more entries it has room, and how many parts of the
+-- count of entries were given out
 pub record SharedView : Type 0 where
   pub log : List Entry
+  pub room : ℕ
   pub machine : MachineView
   pub given : ℕ
 

@@ -162,14 +162,6 @@ pub fn take_if_free(
     ensures wants { IfErr result (λ obstacle. WantsIf machine.old.view.program (parts machine.old) t obstacle) }
     ensures program { machine.new.view.program ≡ machine.old.view.program }
 {
-    // No held bucket is in the way of an access to a word.
-    if let Some(access) = machine.access(t) {
-        let taken = Taken {
-            local: 0,
-            behind: Behind::Accessed(access),
-        };
-        return Ok((taken, Ok(())));
-    }
     let next = machine.machine().next_step(t);
     if is_local(&next) {
         take_ahead(machine, image, t, ahead, event)

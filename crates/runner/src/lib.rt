@@ -3,6 +3,7 @@
 
 mod attempt;
 mod calling;
+mod calm_places;
 mod drawing;
 mod entering;
 mod fault;

@@ -1,5 +1,7 @@
 ghost use Rattle.words.specs.Limits.{most_local_steps};
 ghost use Rattle.std.specs.Prelude.{◌≡◌, ◌≤◌, ◌<◌, ◌+◌, true, MatchOption, Some, None};
+ghost use Rattle.locals.specs.Accesses.{accessing};
+ghost use Rattle.locals.specs.Looks.{look};
 ghost use Rattle.locals.specs.Steps.{local_step, local_after};
 ghost use Rattle.locals.specs.Threads.{Exits};
 ghost use Rattle.machine.specs.ConcreteSteps.{can_move};
@@ -113,11 +115,12 @@ impl<J: RunName> Piece<J> {
     }
 
     /// Makes the access to a word that is its next step on itself, where one is, and begins anew where that led, as its
-    /// thread does. Answers it. Else nothing has changed.
+    /// thread does. Answers it. Where its next step is none nothing has changed.
     pub(crate) fn access(&mut self, machine: &mut PieceMachine) -> Option<Access>
         requires thread { can_move (concrete machine.old.view) self.old.thread ≡ true }
         requires goes { GoesTo machine.old.view self.old.thread self.old.here }
-        ensures made { MatchOption result ((self.new ≡ self.old) × (machine.new ≡ machine.old))
+        ensures made { MatchOption result ((self.new ≡ self.old) × (machine.new ≡ machine.old)
+            × (accessing (look machine.old.view.program self.old.thread self.old.here) machine.old.view.words ≡ None))
             (λ told. DoneFrom told machine.old self.old.thread self.old.here machine.new self.new.here
             × (self.new ≡ record { thread = self.old.thread; origin = self.new.here; here = self.new.here; count = 0 })) }
         ensures program { machine.new.view.program ≡ machine.old.view.program }

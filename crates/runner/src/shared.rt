@@ -1,5 +1,5 @@
 ghost use Rattle.words.specs.Limits.{most_local_steps};
-ghost use Rattle.std.specs.Prelude.{suc, ◌≡◌, ◌≢◌, ◌≤◌, ◌<◌, ◌+◌, [], length, true, false, Some, None, Ok, IfOk};
+ghost use Rattle.std.specs.Prelude.{suc, ◌≡◌, ◌≢◌, ◌≤◌, ◌<◌, ◌+◌, ◌⊎◌, [], length, true, false, Some, None, Ok, IfOk};
 ghost use Rattle.std.specs.Prelude.{IfErr, OnOk, IfSome, IfNone, MatchBool, MatchOption, is_some};
 ghost use Rattle.locals.specs.Accesses.{accessing};
 ghost use Rattle.locals.specs.Looks.{look};
@@ -11,7 +11,7 @@ ghost use Rattle.piece_machine.specs.PieceViews.{parts};
 ghost use Rattle.runner.specs.Attempts.{TriedSo, is_made};
 ghost use Rattle.runner.specs.Logs.{HasOnly, Runs, cost, kills_in, opening};
 ghost use Rattle.runner.specs.Entries.{Takes, TakesOutside, RefusesEntry, RefusesOutside, IsFine, Stands};
-ghost use Rattle.runner.specs.Entries.{TakesKill, RefusesKill, Begins};
+ghost use Rattle.runner.specs.Entries.{TakesKill, RefusesKill, Begins, BringsNoAccess};
 ghost use Rattle.runner.specs.Nexts.{IsNext};
 ghost use Rattle.runner.specs.Afters.{IsAfter};
 ghost use Rattle.runner.specs.declared.next.After;
@@ -21,6 +21,7 @@ ghost use Rattle.machine.specs.Views.{concrete};
 ghost use Rattle.runner.specs.Views.{log_state};
 
 use crate::attempt::Attempt;
+use crate::calm_places::CalmPlaces;
 use crate::entering::{enter, enter_access, enter_kill, enter_outside, make_room};
 use crate::fault::RunFault;
 use crate::in_place::{attempt_of, end_walk, is_shared, push_taken, take_if_free, walk};
@@ -60,6 +61,8 @@ pub struct Shared<J: RunName> {
     ahead: Local,
     // The event of the last step, in which each step puts its own.
     event: Event,
+    // Where no held bucket can be in a thread's way.
+    calm: CalmPlaces<J>,
 }
 
 impl<J: RunName> Model for Shared<J> {
@@ -69,7 +72,7 @@ impl<J: RunName> Model for Shared<J> {
 
     ghost Value = { SharedView };
 
-    ghost view = { λ s. record { log = s.log.items; machine = s.machine; given = s.given } };
+    ghost view = { λ s. record { log = s.log.items; room = s.log.room; machine = s.machine; given = s.given } };
 
     ghost invariant = { λ s. IsLegal J.program J.outside J.limit s.machine.view.program
         (parts s.machine) s.log.items s.steps s.limit s.kills
@@ -104,6 +107,7 @@ impl<J: RunName> Shared<J> {
             given: 0,
             ahead: Local::exiting(ExitPhase::Ended),
             event: Event::new(EventName::Local, 0),
+            calm: CalmPlaces::new(alloc, image)?,
         })
     }
 
@@ -292,13 +296,15 @@ impl<J: RunName> Shared<J> {
 
     /// The same where the piece's next step is an access to a word, in whose way nothing can be: the access is made on the
     /// piece, which begins anew where that led, and its thread goes on. Answers whether it came in: it does where the log
-    /// has room for an entry without growing and nothing refuses the piece. Else nothing has changed, and `hand_in` says
+    /// has room for an entry without growing, and nothing refuses the piece. Else nothing has changed, and `hand_in` says
     /// why, or takes it in.
     pub fn hand_in_access(&mut self, t: u32, piece: &mut Piece<J>, share: &mut Share<J>) -> bool
         ensures made { result ≡ true → Takes J.program J.limit (log_state self.old) t piece.old (log_state self.new)
             × (share.new ≡ record share.old { count = share.old.count + 1 })
             × IsAfter (log_state self.new).concrete t piece.new After.Goes }
         ensures none { result ≡ false → (self.new ≡ self.old) × (piece.new ≡ piece.old) × (share.new ≡ share.old) }
+        ensures why { result ≡ false → (self.old.room ≡ 0)
+            ⊎ BringsNoAccess J.program J.limit self.old t piece.old }
         ensures given { self.new.given ≡ self.old.given }
         ensures legal { Runs J.program (opening J.program) self.new.log
             (log_state self.new).concrete }
@@ -377,12 +383,16 @@ impl<J: RunName> Shared<J> {
             × (cost self.now.log + (piece.now.count + 1) ≤ J.limit) }
         ensures access { result ≡ true
             → is_some (accessing (look J.program t piece.now.here) self.now.machine.view.words) ≡ true }
+        ensures none { result ≡ false → BringsNoAccess J.program J.limit self.now t piece.now }
     {
         let machine = self.machine.machine();
-        machine.has_access_at(t, &piece.here)
-            && self.stands(t, piece)
-            && machine.can_move(t)
-            && self.limit - self.steps > piece.count
+        if !machine.has_access_at(t, &piece.here) {
+            return false;
+        }
+        if !self.stands(t, piece) || !machine.can_move(t) {
+            return false;
+        }
+        self.limit - self.steps > piece.count
     }
 
     // The same of a piece with any step.
@@ -607,10 +617,26 @@ impl<J: RunName> Shared<J> {
         ensures err { IfErr result (λ fault. CanFail J.program J.outside J.limit fault) }
         ensures within { cost self.new.log ≤ J.limit }
     {
-        if self.machine.holds_none() {
+        if self.goes_freely(t) {
             return self.go_on(t, share);
         }
         self.try_held(image, t, share)
+    }
+
+    // Whether nobody holds a bucket, or thread `t` stands where none can be in the way of its next entry.
+    #[inline(always)]
+    fn goes_freely(&self, t: u32) -> bool
+        requires { can_move (log_state self.now).concrete.concrete t ≡ true }
+        ensures { result ≡ true → IsHeldUp J.program (log_state self.now).concrete t → ⊥ }
+    {
+        let machine = self.machine.machine();
+        if self.machine.holds_none() {
+            return true;
+        }
+        match machine.local(t).place() {
+            Some(place) => self.calm.contains(place),
+            None => false,
+        }
     }
 
     // The same where some bucket is held.

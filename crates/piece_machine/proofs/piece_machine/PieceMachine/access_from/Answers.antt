@@ -1,6 +1,8 @@
 -- An access from where local steps led is a step in pieces, and what is kept is kept.
-use Rattle.std.proofs.Common.{◌≡◌, true, ap, sym, subst, ◌∙◌}
+use Rattle.std.proofs.Common.{◌≡◌, true, None, ap, sym, subst, ◌∙◌}
 use Rattle.std.specs.Prelude.{MatchOption}
+use Rattle.locals.specs.Accesses.{accessing}
+use Rattle.locals.specs.Looks.{look}
 use Rattle.machine.specs.ConcreteSteps.{can_move}
 use Rattle.machine.specs.Views.{concrete}
 use Rattle.piece_machine.specs.PieceViews.{PieceView, DoneFrom, GoesTo}
@@ -23,7 +25,8 @@ returns-clause-made c =
     let ph = c.self.inside.phases in
     let goes = subst (λ (q : PieceView). GoesTo q.view c.args.t c.args.local.now) (sym c.self.view_is) c.requires.goes in
     subst (λ (q : PieceView). MatchOption c.access_from.result
-    (((let w : PieceView = record { view = v'; phases = ph } in w) ≡ q) × (c.access_from.new.local ≡ c.args.local.now))
+    (((let w : PieceView = record { view = v'; phases = ph } in w) ≡ q) × (c.access_from.new.local ≡ c.args.local.now)
+    × (accessing (look q.view.program c.args.t c.args.local.now) q.view.words ≡ None))
     (λ told. DoneFrom told q c.args.t c.args.local.now (record { view = v'; phases = ph }) c.access_from.new.local))
     c.self.view_is
     (from_done v v' ph c.args.t c.args.local.now c.access_from.new.local c.access_from.result goes c.access_from.ensures)

@@ -20,8 +20,8 @@ invariant_of-self-2 g c =
     let e = c.enter_access in
     let Fine : PieceView → SharedView → Type 0 = λ x y. Stands (log_state y) c.args.t x
     × (can_move (log_state y).concrete.concrete c.args.t ≡ true) × (cost y.log + (x.count + 1) ≤ limit) in
-    let fine : Fine a (record { log = s.log.items; machine = s.machine; given = s.given }) =
-    subst (λ (x : PieceView). Fine x (record { log = s.log.items; machine = s.machine; given = s.given })) (sym c.piece.view_is)
+    let fine : Fine a (record { log = s.log.items; room = s.log.room; machine = s.machine; given = s.given }) =
+    subst (λ (x : PieceView). Fine x (record { log = s.log.items; room = s.log.room; machine = s.machine; given = s.given })) (sym c.piece.view_is)
     (subst (λ (y : SharedView). Fine c.args.piece.now y) (sym c.self.view_is) (c.if-not-may_access.ensures.fine (λ i. true))) in
     let counted = c.self.invariant.1 in
     let grows = ap length e.ensures.enters.grows in (

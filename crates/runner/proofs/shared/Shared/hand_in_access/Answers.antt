@@ -24,7 +24,7 @@ invariant_of-self-2 g c =
     let told = c.in-Some.access in
     let Fine : PieceView → SharedView → Type 0 = λ x y. Stands (log_state y) t x
     × (can_move (log_state y).concrete.concrete t ≡ true) × (cost y.log + (x.count + 1) ≤ limit) in
-    let old : SharedView = record { log = s.log.items; machine = s.machine; given = s.given } in
+    let old : SharedView = record { log = s.log.items; room = s.log.room; machine = s.machine; given = s.given } in
     let fine : Fine a old = subst (λ (x : PieceView). Fine x old) (sym c.piece.view_is)
     (subst (λ (y : SharedView). Fine c.args.piece.now y) (sym c.self.view_is) (c.if-not-may_access.ensures.fine (λ i. true))) in
     let done = subst (λ (u : ℕ). DoneFrom told s.machine u a.here new c.access.new.self.here) fine.0.0
