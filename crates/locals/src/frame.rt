@@ -1,7 +1,7 @@
-ghost use Rattle.std.specs.Prelude.{◌≡◌, ◌≢◌, ◌≤◌, ℕ, MatchBool, length, max, take};
+ghost use Rattle.std.specs.Prelude.{◌≡◌, ◌≢◌, ◌≤◌, MatchBool, length, take};
 ghost use Rattle.isa.specs.Limits.{most_locals};
-ghost use Rattle.locals.specs.Threads.{fresh, local_at, with_local};
-ghost use Rattle.locals.specs.Uses.{AreBlank, IsBlank, bound_of};
+ghost use Rattle.locals.specs.Threads.{fresh, local_at};
+ghost use Rattle.locals.specs.Uses.{AreBlank, IsBlank};
 
 use isa::Slot;
 
@@ -42,35 +42,6 @@ impl Locals {
         }
     }
 
-    /// Puts a word into a local. One past the last takes none.
-    pub fn set(&mut self, slot: Slot, word: u32)
-        ensures value { self.new ≡ with_local self.old slot word }
-        ensures blank { (used : ℕ) → used ≤ most_locals → IsBlank used self.old
-            → IsBlank (max used (bound_of slot)) self.new }
-    {
-        match slot {
-            Slot::Local(i) => {
-                if (i as usize) < LOCALS {
-                    self.values[i as usize] = word;
-                }
-            }
-            Slot::Template => self.scratch = word,
-        }
-    }
-}
-
-/// The number behind that of a local, if it is the procedure's own and there is one of that number; else 0.
-pub fn bound_of(slot: Slot) -> usize
-    ensures value { result ≡ bound_of slot }
-    ensures within { result ≤ most_locals }
-{
-    match slot {
-        Slot::Local(i) if (i as usize) < LOCALS => i as usize + 1,
-        Slot::Local(_) | Slot::Template => 0,
-    }
-}
-
-impl Locals {
     /// Become those of a new frame, in their place. None from this number on is in use.
     pub fn clear(&mut self, used: usize)
         requires within { used ≤ most_locals }
