@@ -182,7 +182,8 @@ impl Frame {
     }
 }
 
-/// Puts a frame on top of others, where there is room for it. No local from this number on is in use.
+/// Puts a frame on top of others, where there is room for it. No local from this number on is in use. The frame is filled in
+/// its place: one that is made elsewhere is copied whole, and twice.
 pub fn keep_frame(frames: &mut Stack<Frame, MOST_CALLERS>, back: u32, locals: &Locals, used: usize)
     requires room { length frames.old < most_callers }
     requires within { used ≤ most_locals }
