@@ -132,9 +132,9 @@ impl Activation {
         if !has(words, a) {
             return None;
         }
-        words.store(a, value);
         self.operands.drop_top(2);
         self.place += 1;
+        words.store(a, value);
         Some(Access {
             kind: AccessKind::Store,
             value,

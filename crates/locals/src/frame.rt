@@ -1,8 +1,11 @@
-ghost use Rattle.std.specs.Prelude.{◌≡◌, ◌≢◌, ◌≤◌, ℕ, MatchBool, length, max, take};
+ghost use Rattle.std.specs.Prelude.{◌≡◌, ◌≢◌, ◌<◌, ◌≤◌, ◌-◌, ◌∷◌, MatchBool, length, slice_set, take};
+ghost use Rattle.locals.specs.Limits.{most_callers};
 ghost use Rattle.isa.specs.Limits.{most_locals};
-ghost use Rattle.locals.specs.Threads.{fresh, local_at, with_local};
-ghost use Rattle.locals.specs.Uses.{AreBlank, IsBlank, bound_of};
+ghost use Rattle.locals.specs.Threads.{fresh, local_at};
+ghost use Rattle.locals.specs.Uses.{AreBlank, IsBlank};
 
+use crate::activation::MOST_CALLERS;
+use crate::stack::Stack;
 use isa::Slot;
 
 // As many locals are copied without a call where no more are in use.
@@ -42,35 +45,6 @@ impl Locals {
         }
     }
 
-    /// Puts a word into a local. One past the last takes none.
-    pub fn set(&mut self, slot: Slot, word: u32)
-        ensures value { self.new ≡ with_local self.old slot word }
-        ensures blank { (used : ℕ) → used ≤ most_locals → IsBlank used self.old
-            → IsBlank (max used (bound_of slot)) self.new }
-    {
-        match slot {
-            Slot::Local(i) => {
-                if (i as usize) < LOCALS {
-                    self.values[i as usize] = word;
-                }
-            }
-            Slot::Template => self.scratch = word,
-        }
-    }
-}
-
-/// The number behind that of a local, if it is the procedure's own and there is one of that number; else 0.
-pub fn bound_of(slot: Slot) -> usize
-    ensures value { result ≡ bound_of slot }
-    ensures within { result ≤ most_locals }
-{
-    match slot {
-        Slot::Local(i) if (i as usize) < LOCALS => i as usize + 1,
-        Slot::Local(_) | Slot::Template => 0,
-    }
-}
-
-impl Locals {
     /// Become those of a new frame, in their place. None from this number on is in use.
     pub fn clear(&mut self, used: usize)
         requires within { used ≤ most_locals }
@@ -81,8 +55,18 @@ impl Locals {
         if used <= FEW {
             self.clear_first(FEW);
         } else {
-            self.clear_first(used);
+            self.clear_many(used);
         }
+    }
+
+    // The same of any number.
+    #[inline(never)]
+    fn clear_many(&mut self, used: usize)
+        requires within { used ≤ most_locals }
+        requires blank { IsBlank used self.old }
+        ensures { self.new ≡ fresh }
+    {
+        self.clear_first(used);
     }
 
     #[inline(always)]
@@ -176,6 +160,17 @@ pub struct Frame {
 }
 
 impl Frame {
+    // Becomes this one, in its place. No local from this number on is in use.
+    #[inline(always)]
+    fn fill(&mut self, back: u32, locals: &Locals, used: usize)
+        requires within { used ≤ most_locals }
+        requires blank { IsBlank used self.old.locals × IsBlank used locals.now }
+        ensures { self.new ≡ record { back = back; locals = locals.now } }
+    {
+        self.back = back;
+        self.locals.copy_from(locals, used);
+    }
+
     /// Becomes a copy of another, in its place. No local from this number on is in use.
     pub fn copy_from(&mut self, other: &Frame, used: usize)
         requires within { used ≤ most_locals }
@@ -185,6 +180,33 @@ impl Frame {
         self.back = other.back;
         self.locals.copy_from(&other.locals, used);
     }
+}
+
+/// Puts a frame on top of others, where there is room for it. No local from this number on is in use. The frame is filled in
+/// its place: one that is made elsewhere is copied whole, and twice.
+pub fn keep_frame(frames: &mut Stack<Frame, MOST_CALLERS>, back: u32, locals: &Locals, used: usize)
+    requires room { length frames.old < most_callers }
+    requires within { used ≤ most_locals }
+    requires blank { AreBlank used frames.old × IsBlank used locals.now }
+    ensures { frames.new ≡ record { back = back; locals = locals.now } ∷ frames.old }
+{
+    frames.push(Frame {
+        back: 0,
+        locals: Locals::fresh(),
+    });
+    fill_last(frames.items.as_mut_slice(), back, locals, used);
+}
+
+// Makes the last of frames this one, in its place: only what is in use is copied.
+#[inline(always)]
+fn fill_last(frames: &mut [Frame], back: u32, locals: &Locals, used: usize)
+    requires some { 0 < length frames.old }
+    requires within { used ≤ most_locals }
+    requires blank { AreBlank used frames.old × IsBlank used locals.now }
+    ensures { frames.new ≡ slice_set frames.old (length frames.old - 1) (record { back = back; locals = locals.now }) }
+{
+    let last = frames.len() - 1;
+    frames[last].fill(back, locals, used);
 }
 
 /// Makes frames copies of others, as many, in their place. No local from this number on is in use.

@@ -67,7 +67,7 @@ impl<T: Copy + Default + Drop, const N: usize> Stack<T, N> {
         ensures value { result ≡ length self.now }
         ensures within { result ≤ N }
     {
-        self.items.as_slice().len()
+        self.items.len()
     }
 
     /// Whether one more item fits.
