@@ -4,6 +4,7 @@ use Rattle.std.specs.Prelude.{Result, Ok, Err}
 use Rattle.isa.specs.Programs.{Program}
 use Rattle.locals.specs.Accesses.{accessing}
 use Rattle.locals.specs.Looks.{look}
+use Rattle.locals.specs.declared.access.Access.{Access}
 use Rattle.locals.specs.Threads.{Thread}
 use Rattle.locals.specs.Steps.{local_step, local_after}
 use Rattle.machine.specs.declared.event.Entry.{Entry}
@@ -105,6 +106,11 @@ RefusesEntry p limit h t a Limit =
     × (concrete : PieceConcrete) × (event : Option Event) × (entry_end p h.concrete t a.here ≡ Ok (concrete, event))
     × (limit < cost h.log + (a.count + event_cost event))
 RefusesEntry p limit h t a Memory = IsFine p limit h t a
+
+-- exactly one entry is new: an access of thread t after so many local steps
+abbrev pub TellsAccess : List Entry → ℕ → ℕ → List Entry → Type 0
+TellsAccess old t count new =
+    (access : Access) × (new ≡ old ++ record { thread = t; local = count; event = Some (told_access access) } ∷ [])
 
 -- thread t was woken from outside: exactly one entry is new, with no local step and the event of the wake
 pub record TakesOutside (limit : ℕ) (old : LogState) (t : ℕ) (new : LogState) : Type 0 where

@@ -11,7 +11,7 @@ ghost use Rattle.piece_machine.specs.PieceViews.{parts};
 ghost use Rattle.runner.specs.Attempts.{TriedSo, is_made};
 ghost use Rattle.runner.specs.Logs.{HasOnly, Runs, cost, kills_in, opening};
 ghost use Rattle.runner.specs.Entries.{Takes, TakesOutside, RefusesEntry, RefusesOutside, IsFine, Stands};
-ghost use Rattle.runner.specs.Entries.{TakesKill, RefusesKill, Begins, BringsNoAccess};
+ghost use Rattle.runner.specs.Entries.{TakesKill, RefusesKill, Begins, BringsNoAccess, TellsAccess};
 ghost use Rattle.runner.specs.Nexts.{IsNext};
 ghost use Rattle.runner.specs.Afters.{IsAfter};
 ghost use Rattle.runner.specs.declared.next.After;
@@ -302,6 +302,7 @@ impl<J: RunName> Shared<J> {
         ensures made { result ≡ true → Takes J.program J.limit (log_state self.old) t piece.old (log_state self.new)
             × (share.new ≡ record share.old { count = share.old.count + 1 })
             × IsAfter (log_state self.new).concrete t piece.new After.Goes }
+        ensures told { result ≡ true → TellsAccess self.old.log t piece.old.count self.new.log }
         ensures none { result ≡ false → (self.new ≡ self.old) × (piece.new ≡ piece.old) × (share.new ≡ share.old) }
         ensures why { result ≡ false → (self.old.room ≡ 0)
             ⊎ BringsNoAccess J.program J.limit self.old t piece.old }

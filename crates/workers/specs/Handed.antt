@@ -29,6 +29,11 @@ pub record ComesIn (p : Program) (limit : ℕ) (old : SharedRunView) (t : ℕ) (
   pub counted : share' ≡ record share { count = share.count + 1 }
   pub frees : Frees (gives_up (last_event new.shared.log)) old new
 
+-- the first of the pieces came in so
+abbrev pub FirstComesIn : Program → ℕ → SharedRunView → ℕ → List PieceView → SharedRunView → ShareView → ShareView → Type 0
+FirstComesIn p limit old t pieces new share share' =
+    (piece : PieceView) × (slice_get pieces 0 ≡ Some piece) × ComesIn p limit old t piece new share share'
+
 -- why the run ends before its time is as it was, or that this piece was refused
 abbrev pub IsFaultAfter : Program → ℕ → LogState → ℕ → PieceView → Option RunFault → Option RunFault → Type 0
 IsFaultAfter p limit h t piece old new =

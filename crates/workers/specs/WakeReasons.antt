@@ -30,6 +30,10 @@ Concerns (Some event) wake_reason =
     (wake_reason.woken ≡ event.woken) × MatchBool wake_reason.forked (event.name ≡ Fork) (event.name ≢ Fork)
     × (wake_reason.released ≡ gives_up_by event.name)
 
+-- that of an event which concerns nobody
+abbrev pub nobody_concerned : WakeReason
+nobody_concerned = record { woken = set_of []; forked = false; released = false }
+
 -- the event of the last entry
 abbrev pub last_event : List Entry → Option Event
 last_event log = step_of (slice_get log (length log - 1))

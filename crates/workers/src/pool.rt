@@ -237,12 +237,35 @@ impl<J: RunName> Pool<J> {
     ) -> After
         ensures { IsAfresh t turns.new.pieces.items result }
     {
+        let few = turns.are_few();
+        self.precedence.take(&self.lookout, t);
+        let mut shared_run = self.lock(rt);
+        // As most turns are. It concerns nobody.
+        if shared_run.hand_in_access(t, turns, share) {
+            drop(shared_run);
+            self.precedence.pass_on(t, few, &mut turns.entries);
+            return After::Goes;
+        }
+        self.hand_in_any(gate, t, turns, share, shared_run)
+    }
+
+    // The same of any turns, under the lock.
+    #[inline(never)]
+    fn hand_in_any<G: Gate>(
+        &self,
+        gate: &G,
+        t: u32,
+        turns: &mut Turns<J>,
+        share: &mut Share<J>,
+        shared_run: MutexGuard<'_, CachePadded<SharedRun<J>>>,
+    ) -> After
+        ensures { IsAfresh t turns.new.pieces.items result }
+    {
         let Some(parker) = self.parkers.get(t as usize) else {
             return After::Ends;
         };
         let few = turns.are_few();
-        self.precedence.take(&self.lookout, t);
-        let mut shared_run = self.lock(rt);
+        let mut shared_run = shared_run;
         let calls = parker.calls();
         let after = shared_run.hand_in(t, turns, share, parker, gate);
         // Nobody is forgotten. Of the entries that were made now only the last one may have woken threads or made one: a
@@ -253,7 +276,8 @@ impl<J: RunName> Pool<J> {
         shared_run.take_freed(&mut turns.freed);
         let is_over = after != After::Goes && self.is_over(&shared_run);
         drop(shared_run);
-        self.precedence.pass_on(t, few && after == After::Goes);
+        self.precedence
+            .pass_on(t, few && after == After::Goes, &mut turns.entries);
         if turns.concern_others() {
             self.tell_others(turns);
         }

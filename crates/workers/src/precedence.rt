@@ -7,7 +7,7 @@ use std::sync::atomic::{AtomicU64, Ordering};
 const LOOKS: u32 = 4000;
 
 // How many entries a worker makes before it gives precedence up, so that others have their turn.
-const MOST_ENTRIES: u64 = 256;
+const MOST_ENTRIES: u32 = 256;
 
 /// Which worker has precedence: the others leave the lock to it, for a while. So it makes entry after entry, and what
 /// the lock keeps stays in its processor's memory. It is a courtesy: nothing rests on it but speed.
@@ -15,8 +15,6 @@ const MOST_ENTRIES: u64 = 256;
 pub struct Precedence {
     // The thread whose worker has it, or 0.
     holder: CachePadded<AtomicU64>,
-    // How many entries that worker has made since.
-    entries: CachePadded<AtomicU64>,
 }
 
 impl Precedence {
@@ -24,7 +22,6 @@ impl Precedence {
     pub fn new() -> Precedence {
         Precedence {
             holder: CachePadded::new(AtomicU64::new(0)),
-            entries: CachePadded::new(AtomicU64::new(0)),
         }
     }
 
@@ -49,18 +46,16 @@ impl Precedence {
     }
 
     /// Gives it up, if the worker of thread `t` has it. One that goes on with few steps between its entries keeps it,
-    /// up to a number of entries.
-    pub fn pass_on(&self, t: u32, goes_on: bool) {
-        if self.holder.load(Ordering::SeqCst) != u64::from(t) {
+    /// up to a number of entries. The worker counts them itself, so that nothing shared is written at an entry.
+    pub fn pass_on(&self, t: u32, goes_on: bool, entries: &mut u32) {
+        if goes_on && *entries < MOST_ENTRIES {
+            *entries += 1;
             return;
         }
-        let entries = self.entries.load(Ordering::SeqCst);
-        if goes_on && entries < MOST_ENTRIES {
-            self.entries.store(entries + 1, Ordering::SeqCst);
-            return;
+        *entries = 0;
+        if self.holder.load(Ordering::SeqCst) == u64::from(t) {
+            self.holder.store(0, Ordering::SeqCst);
         }
-        self.entries.store(0, Ordering::SeqCst);
-        self.holder.store(0, Ordering::SeqCst);
     }
 
     // Takes it where nobody has it.

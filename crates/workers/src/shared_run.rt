@@ -8,8 +8,8 @@ ghost use Rattle.runner.specs.declared.next.After.TheVariants.{Goes};
 ghost use Rattle.workers.specs.SharedRuns.{HasCause, KeepsWorkers, StartsWorker, is_able, state_of};
 ghost use Rattle.workers.specs.BucketWaiters.{nobody};
 ghost use Rattle.workers.specs.Handed.{ComesIn, StaysAway, ComeIn, StopsAt, IsNextOf, IsNextOfFirst};
-ghost use Rattle.workers.specs.Handed.{Frees, noted};
-ghost use Rattle.workers.specs.WakeReasons.{Concerns, gives_up, gives_up_by, last_event};
+ghost use Rattle.workers.specs.Handed.{FirstComesIn, Frees, noted};
+ghost use Rattle.workers.specs.WakeReasons.{Concerns, gives_up, gives_up_by, last_event, nobody_concerned};
 
 use crate::bucket_waiters::BucketWaiters;
 use crate::parker::Parker;
@@ -62,7 +62,9 @@ pub struct WakeReason {
 
 impl WakeReason {
     /// That of an entry which concerns nobody.
-    pub fn new() -> WakeReason {
+    pub fn new() -> WakeReason
+        ensures { result ≡ nobody_concerned }
+    {
         WakeReason {
             woken: ThreadSet::new(),
             forked: false,
@@ -195,9 +197,6 @@ impl<J: RunName> SharedRun<J> {
             ⊎ IsNextOfFirst self.new t turns.new.pieces.items result }
         ensures workers { KeepsWorkers self.old self.new }
     {
-        if self.hand_in_access(t, turns, share) {
-            return After::Goes;
-        }
         if let Some(after) = self.take_in(t, turns.taken(), share, parker) {
             return after;
         }
@@ -205,10 +204,13 @@ impl<J: RunName> SharedRun<J> {
         self.next(t, &mut turns.pieces[0])
     }
 
-    // Takes in one turn of thread `t` that led to an access to a word, as most do, where others were made. It gives no
-    // bucket up. Answers whether it came in: else nothing has changed.
-    fn hand_in_access(&mut self, t: u32, turns: &mut Turns<J>, share: &mut Share<J>) -> bool
-        ensures made { result ≡ true → IsNextOfFirst self.new t turns.new.pieces.items Goes }
+    /// Takes in one turn of thread `t` that led to an access to a word, as most do, where others were made. It concerns
+    /// nobody, and who waits for a bucket still does. Answers whether it came in: else nothing has changed.
+    pub fn hand_in_access(&mut self, t: u32, turns: &mut Turns<J>, share: &mut Share<J>) -> bool
+        ensures made { result ≡ true → FirstComesIn J.program J.limit self.old t turns.old.pieces.items self.new
+            share.old share.new }
+        ensures goes_on { result ≡ true → IsNextOfFirst self.new t turns.new.pieces.items Goes }
+        ensures told { result ≡ true → Concerns (last_event self.new.shared.log) nobody_concerned }
         ensures none { result ≡ false → (self.new ≡ self.old) × (share.new ≡ share.old) × (turns.new.taken ≡ turns.old.taken)
             × (turns.new.pieces.items ≡ turns.old.pieces.items) }
         ensures workers { KeepsWorkers self.old self.new }
@@ -249,6 +251,10 @@ impl<J: RunName> SharedRun<J> {
     fn go_on_alone<G: Gate>(&mut self, t: u32, share: &mut Share<J>, gate: &G)
         ensures { KeepsWorkers self.old self.new }
     {
+        // Mostly others were, and then nothing is asked of the run.
+        if self.threads() > 1 {
+            return;
+        }
         if let Err(fault) = run_alone(&mut self.shared, share, gate, t) {
             self.fault = Some(fault);
         }

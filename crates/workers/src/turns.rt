@@ -28,6 +28,8 @@ pub struct Turns<J: RunName> {
     pub wake_reason: WakeReason,
     /// Who waited for a bucket until one was given up.
     pub freed: BucketWaiters,
+    /// How many entries were made since its worker gave precedence up.
+    pub entries: u32,
     ghost some: { 0 < vec_len pieces },
     ghost within: { taken ≤ vec_len pieces },
 }
@@ -44,6 +46,7 @@ impl<J: RunName> Turns<J> {
             taken: 0,
             wake_reason: WakeReason::new(),
             freed: BucketWaiters::new(),
+            entries: 0,
         })
     }
 

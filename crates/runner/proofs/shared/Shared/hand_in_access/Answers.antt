@@ -4,7 +4,7 @@ use Rattle.machine.specs.Accessing.{told_access}
 use Rattle.machine.specs.ConcreteServing.{plain}
 use Rattle.machine.specs.ConcreteSteps.{can_move}
 use Rattle.piece_machine.specs.PieceViews.{DoneFrom, parts}
-use Rattle.runner.specs.Entries.{EntersAccess, Stands}
+use Rattle.runner.specs.Entries.{EntersAccess, Stands, TellsAccess}
 use Rattle.runner.specs.Logs.{cost}
 use Rattle.runner.specs.Views.{PieceView, LogState, SharedView, log_state}
 use Rattle.runner.proofs.Growing.{entry, keeps_access}
@@ -57,6 +57,22 @@ invariant_of-self-2 g c =
         parts = counted.parts;
       },
     )
+
+pub returns-clause-told : goal.returns-clause-told
+returns-clause-told g c = λ came.
+    let s = c.self.inside in
+    let i = c.piece.inside in
+    let t = c.args.t in
+    let a : PieceView = record { thread = i.thread; origin = i.origin; here = i.here; count = i.count } in
+    let old : SharedView = record { log = s.log.items; machine = s.machine; given = s.given } in
+    let told = c.in-Some.access in
+    let Told : PieceView → SharedView → Type 0 = λ x y. TellsAccess y.log t x.count c.push_plain.new.self.items in
+    subst (λ (x : PieceView). Told x c.args.self.now) c.piece.view_is
+    (subst (λ (y : SharedView). Told a y) c.self.view_is (
+      told,
+      c.push_plain.ensures.entries
+      ∙ ap (λ n. s.log.items ++ entry t a.count (Some (plain n told.value)) ∷ []) c.access_name.ensures,
+    ))
 
 pub returns-clause-legal : goal.returns-clause-legal
 returns-clause-legal g c = (invariant_of-self-2 g c).0.legal
