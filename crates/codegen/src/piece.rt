@@ -22,8 +22,8 @@ use program::{Procedure, Program, Role, Statement, ValueType};
 use scanner::Refusal;
 use std::alloc::{AllocError, Global};
 
-// For so many instructions of each statement of a procedure there is room before its code is made, so that the code seldom
-// moves as it grows. What is left is given back.
+// For so many instructions of each statement of a procedure's own block there is room before its code is made, so that the
+// code seldom moves as it grows. What is left is given back.
 const FOR_A_STATEMENT: usize = 32;
 
 // The lock is taken at the beginning of an ENTRY procedure.
@@ -80,11 +80,11 @@ fn text_end(site: &Site, code: &mut Vec<Marked>) -> Result<(), Refusal>
     Ok(())
 }
 
-// Room for the instructions of these statements, as they mostly are.
+// How many instructions there is to be room for: at most those of an image, and as many for the statement that is too much.
 fn room_for(body: &[Statement]) -> usize {
     body.len()
         .saturating_mul(FOR_A_STATEMENT)
-        .min(MOST_INSTRUCTIONS)
+        .min(2 * MOST_INSTRUCTIONS)
 }
 
 /// The code of a procedure of this program, before it is linked, for an image of the layout's version. Places count from its first instruction, and calls name
