@@ -13,16 +13,19 @@ ghost use Rattle.backend.specs.Refusals.{CodeFits, RefusesCode};
 use crate::marking::collect_marks;
 use codegen::{CodePiece, generate};
 use codegen_workers::generate_with;
-use isa::Image;
+use isa::{Image, MOST_INSTRUCTIONS};
 use layout::{Layout, place_as};
 use linker::link;
-use lowering::Mark;
+use lowering::{Mark, Marked};
 use program::Checked;
 use scanner::Refusal;
-use std::alloc::Global;
+use std::alloc::{AllocError, Global};
 use std::sync::Wait;
 use std::thread::Threads;
 use words::{Gate, ImageVersion};
+
+// Room for the code of the pieces, and for that of the image, which takes half as much.
+const ROOM: usize = MOST_INSTRUCTIONS + MOST_INSTRUCTIONS / 2;
 
 /// What a checked program is lowered to.
 #[derive(Drop)]
@@ -33,6 +36,14 @@ pub struct Lowered {
     pub layout: Layout,
     /// The source action that stands at each place of its code.
     pub marks: Vec<Mark>,
+}
+
+// Asks for as much memory as the code of an image may take, and gives it back. The C library's allocator gets its memory from
+// the system as it's asked for, and keeps it: so it gets it at once, and not for each piece. Where there isn't so much,
+// nothing is lost.
+fn make_room(alloc: Global) {
+    let room: Result<Vec<Marked>, AllocError> = Vec::with_capacity(alloc, ROOM);
+    drop(room);
 }
 
 // A checked program is well formed. Nothing is done when it runs.
@@ -99,6 +110,7 @@ pub fn lower(alloc: Global, checked: &Checked, version: ImageVersion) -> Result<
     ensures { let p = as_version version (said_by checked.now) in
         MatchResult result (λ lowered. IsLowered p lowered) (λ e. RefusesCode p e) }
 {
+    make_room(alloc);
     let layout = place_as(alloc, checked, version)?;
     let pieces = generate(alloc, checked, &layout)?;
     assemble(alloc, checked, layout, pieces)
@@ -115,6 +127,7 @@ pub fn lower_image(
     ensures { let p = as_version version (said_by checked.now) in
         MatchResult result (λ image. (image ≡ code_of p) × CodeFits p) (λ e. RefusesCode p e) }
 {
+    make_room(alloc);
     let layout = place_as(alloc, checked, version)?;
     let pieces = generate(alloc, checked, &layout)?;
     assemble_image(alloc, checked, &layout, pieces)
@@ -136,6 +149,7 @@ pub fn lower_image_with<R: Threads + Wait + Sync, G: Gate>(
     ensures { let p = as_version version (said_by checked.now) in
         MatchResult result (λ image. (image ≡ code_of p) × CodeFits p) (λ e. RefusesCode p e) }
 {
+    make_room(alloc);
     let layout = place_as(alloc, checked, version)?;
     let pieces = generate_with(rt, alloc, checked, &layout, workers, gate)?;
     assemble_image(alloc, checked, &layout, pieces)

@@ -13,14 +13,18 @@ use crate::room::{count, room};
 use crate::simple::ending;
 use crate::site::Site;
 use crate::statement::block;
-use isa::Instr;
+use isa::{Instr, MOST_INSTRUCTIONS};
 use layout::Layout;
 use locklower::enter;
 use lowering::{Mark, Marked, append};
 use proclower::parameters;
-use program::{Procedure, Program, Role, ValueType};
+use program::{Procedure, Program, Role, Statement, ValueType};
 use scanner::Refusal;
 use std::alloc::{AllocError, Global};
+
+// For so many instructions of each statement of a procedure's own block there is room before its code is made, so that the
+// code seldom moves as it grows. What is left is given back.
+const FOR_A_STATEMENT: usize = 32;
 
 // The lock is taken at the beginning of an ENTRY procedure.
 fn entering(site: &Site, code: &mut Vec<Marked>) -> Result<(), AllocError>
@@ -76,6 +80,13 @@ fn text_end(site: &Site, code: &mut Vec<Marked>) -> Result<(), Refusal>
     Ok(())
 }
 
+// How many instructions there is to be room for: at most those of an image, and as many for the statement that is too much.
+fn room_for(body: &[Statement]) -> usize {
+    body.len()
+        .saturating_mul(FOR_A_STATEMENT)
+        .min(2 * MOST_INSTRUCTIONS)
+}
+
 /// The code of a procedure of this program, before it is linked, for an image of the layout's version. Places count from its first instruction, and calls name
 /// pieces by their numbers.
 ///
@@ -97,9 +108,11 @@ pub fn procedure_code(
         role: procedure.role,
         outcome: procedure.result,
     };
-    let mut code = Vec::new(alloc);
+    let body = procedure.body.as_slice();
+    let mut code = Vec::with_capacity(alloc, room_for(body))?;
     beginning(procedure, &site, &mut code)?;
-    block(&procedure.body, &site, &mut code)?;
+    block(body, &site, &mut code)?;
     text_end(&site, &mut code)?;
+    code.shrink_to_fit();
     Ok(code)
 }

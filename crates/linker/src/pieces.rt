@@ -69,11 +69,12 @@ fn link_piece(
         × (all_fit total made ≡ true))
         (λ e. FailsWhere (all_fit total made ≡ false) e) }
 {
+    image.reserve(code.len())?;
     for marked in code {
         let Some(instruction) = link_instruction(marked.instruction, base, starts, total) else {
             return Err(refuse_long());
         };
-        image.push(instruction)?;
+        image.push_reserved(instruction);
     }
     Ok(())
 }

@@ -1,1 +1,2 @@
 pub mod RecoveryLaws
+pub mod Extended

@@ -1,25 +1,117 @@
 ghost use Rattle.std.specs.Prelude.{◌≡◌, ◌<◌, ◌≤◌, ◌+◌, ◌^◌, ◌++◌, OnOk, length};
-ghost use Rattle.lowering.specs.Marks.{rebase_all};
+ghost use Rattle.lowering.specs.Marks.{plain, rebase_all};
 ghost use Rattle.lowering.specs.Locks as locks;
 
 use isa::{Instr, Operator, Slot};
-use lowering::{Mark, Marked, append, append_plain};
+use lowering::{Mark, Marked};
 use std::alloc::AllocError;
 use words::{Fault, OWNER_DIED, ProcessWord, TID_MASK, WAITERS};
 
-const GET: Instr = Instr::GetLocal(Slot::Template);
+const GET: Marked = Marked {
+    instruction: Instr::GetLocal(Slot::Template),
+    mark: Mark::Plain,
+};
 
-const KEEP: Instr = Instr::SetLocal(Slot::Template);
+const KEEP: Marked = Marked {
+    instruction: Instr::SetLocal(Slot::Template),
+    mark: Mark::Plain,
+};
 
-const AND: Instr = Instr::Operate(Operator::BitAnd);
+const AND: Marked = Marked {
+    instruction: Instr::Operate(Operator::BitAnd),
+    mark: Mark::Plain,
+};
 
-const OR: Instr = Instr::Operate(Operator::BitOr);
+const OR: Marked = Marked {
+    instruction: Instr::Operate(Operator::BitOr),
+    mark: Mark::Plain,
+};
 
-const EQUAL: Instr = Instr::Operate(Operator::Eq);
+const EQUAL: Marked = Marked {
+    instruction: Instr::Operate(Operator::Eq),
+    mark: Mark::Plain,
+};
 
-const HEAD: Instr = Instr::ProcessAddress(ProcessWord::Head);
+const HEAD: Marked = Marked {
+    instruction: Instr::ProcessAddress(ProcessWord::Head),
+    mark: Mark::Plain,
+};
 
-const PENDING: Instr = Instr::ProcessAddress(ProcessWord::Pending);
+const PENDING: Marked = Marked {
+    instruction: Instr::ProcessAddress(ProcessWord::Pending),
+    mark: Mark::Plain,
+};
+
+const OWN: Marked = Marked {
+    instruction: Instr::OwnNumber,
+    mark: Mark::Plain,
+};
+
+const LOAD: Marked = Marked {
+    instruction: Instr::Load,
+    mark: Mark::Plain,
+};
+
+const STORE: Marked = Marked {
+    instruction: Instr::Store,
+    mark: Mark::Plain,
+};
+
+const POP: Marked = Marked {
+    instruction: Instr::Pop,
+    mark: Mark::Plain,
+};
+
+const ZERO: Marked = Marked {
+    instruction: Instr::Push(0),
+    mark: Mark::Plain,
+};
+
+const WAITERS_BIT: Marked = Marked {
+    instruction: Instr::Push(WAITERS),
+    mark: Mark::Plain,
+};
+
+const ONE: Marked = Marked {
+    instruction: Instr::Push(1),
+    mark: Mark::Plain,
+};
+
+const OWNER: Marked = Marked {
+    instruction: Instr::Push(TID_MASK),
+    mark: Mark::Plain,
+};
+
+const DIED: Marked = Marked {
+    instruction: Instr::Push(OWNER_DIED),
+    mark: Mark::Plain,
+};
+
+const COMPARE_SWAP: Marked = Marked {
+    instruction: Instr::CompareSwap,
+    mark: Mark::Plain,
+};
+
+const SLEEP: Marked = Marked {
+    instruction: Instr::FutexWait,
+    mark: Mark::Plain,
+};
+
+const WAKE: Marked = Marked {
+    instruction: Instr::FutexWake,
+    mark: Mark::Plain,
+};
+
+// An instruction at which no action stands.
+#[inline]
+fn plain(instruction: Instr) -> Marked
+    ensures { result ≡ plain instruction }
+{
+    Marked {
+        instruction,
+        mark: Mark::Plain,
+    }
+}
 
 /// What is done in an abandoned monitor: the call of its RECOVER part at this place, or the fault where it has none.
 pub fn recovery(place: Option<u32>) -> Instr
@@ -43,44 +135,48 @@ pub fn take_from(
     ensures { OnOk result (code.new.items
         ≡ code.old.items ++ rebase_all start (locks.take_at mark link a)) }
 {
-    let lock = Instr::Push(link + 1);
-    let waiters = Instr::Push(WAITERS);
-    let again = start + a;
-    append_plain(
-        code,
-        &[
-            lock,
-            Instr::Load,
-            KEEP,
-            GET,
-            Instr::Push(TID_MASK),
-            AND,
-            Instr::JumpIfZero(start + (a + 23)),
-            lock,
-            GET,
-            GET,
-            waiters,
-            OR,
-            Instr::CompareSwap,
-            GET,
-            EQUAL,
-            Instr::JumpIfZero(again),
-            lock,
-            GET,
-            waiters,
-            OR,
-            Instr::FutexWait,
-            Instr::Pop,
-            Instr::Jump(again),
-            lock,
-            GET,
-            Instr::OwnNumber,
-            waiters,
-            OR,
-        ],
-    )?;
-    append(code, mark, Instr::CompareSwap)?;
-    append_plain(code, &[GET, EQUAL, Instr::JumpIfZero(again)])
+    let lock = plain(Instr::Push(link + 1));
+    let again = plain(Instr::JumpIfZero(start + a));
+    let free = plain(Instr::JumpIfZero(start + (a + 23)));
+    let read = plain(Instr::Jump(start + a));
+    let swap = Marked {
+        instruction: Instr::CompareSwap,
+        mark,
+    };
+    code.extend_from_slice(&[
+        lock,
+        LOAD,
+        KEEP,
+        GET,
+        OWNER,
+        AND,
+        free,
+        lock,
+        GET,
+        GET,
+        WAITERS_BIT,
+        OR,
+        COMPARE_SWAP,
+        GET,
+        EQUAL,
+        again,
+        lock,
+        GET,
+        WAITERS_BIT,
+        OR,
+        SLEEP,
+        POP,
+        read,
+        lock,
+        GET,
+        OWN,
+        WAITERS_BIT,
+        OR,
+        swap,
+        GET,
+        EQUAL,
+        again,
+    ])
 }
 
 /// The monitor with this link word comes first in the robust list and is recovered, in a template that begins at
@@ -96,30 +192,13 @@ pub fn got_from(
     ensures { OnOk result (code.new.items
         ≡ code.old.items ++ rebase_all start (locks.got_at link (locks.recovery recover) a)) }
 {
-    append_plain(
-        code,
-        &[
-            Instr::Push(link),
-            Instr::OwnNumber,
-            HEAD,
-            Instr::Load,
-            Instr::Store,
-            Instr::OwnNumber,
-            HEAD,
-            Instr::Push(link),
-            Instr::Store,
-            Instr::OwnNumber,
-            PENDING,
-            Instr::Push(0),
-            Instr::Store,
-            GET,
-            Instr::Push(OWNER_DIED),
-            AND,
-            Instr::JumpIfZero(start + (a + 18)),
-        ],
-    )?;
-    append(code, Mark::Plain, recovery(recover))?;
-    Ok(())
+    let link = plain(Instr::Push(link));
+    let passed = plain(Instr::JumpIfZero(start + (a + 18)));
+    let recovered = plain(recovery(recover));
+    code.extend_from_slice(&[
+        link, OWN, HEAD, LOAD, STORE, OWN, HEAD, link, STORE, OWN, PENDING, ZERO, STORE, GET, DIED,
+        AND, passed, recovered,
+    ])
 }
 
 /// The lock of the monitor with this link word is given up, in a template that begins at `start`, from its place `a`
@@ -135,35 +214,34 @@ pub fn leave_from(
     ensures { OnOk result (code.new.items
         ≡ code.old.items ++ rebase_all start (locks.leave_at mark link a)) }
 {
-    append_plain(
-        code,
-        &[
-            Instr::OwnNumber,
-            PENDING,
-            Instr::Push(link),
-            Instr::Store,
-            Instr::OwnNumber,
-            HEAD,
-            Instr::Push(link),
-            Instr::Load,
-            Instr::Store,
-            Instr::Push(link + 1),
-            Instr::Push(0),
-        ],
-    )?;
-    append(code, mark, Instr::Swap)?;
-    append_plain(
-        code,
-        &[
-            Instr::Push(WAITERS),
-            AND,
-            Instr::JumpIfZero(start + (a + 19)),
-            Instr::Push(link + 1),
-            Instr::Push(1),
-            Instr::FutexWake,
-            Instr::Pop,
-        ],
-    )
+    let lock = plain(Instr::Push(link + 1));
+    let link = plain(Instr::Push(link));
+    let unwanted = plain(Instr::JumpIfZero(start + (a + 19)));
+    let swap = Marked {
+        instruction: Instr::Swap,
+        mark,
+    };
+    code.extend_from_slice(&[
+        OWN,
+        PENDING,
+        link,
+        STORE,
+        OWN,
+        HEAD,
+        link,
+        LOAD,
+        STORE,
+        lock,
+        ZERO,
+        swap,
+        WAITERS_BIT,
+        AND,
+        unwanted,
+        lock,
+        ONE,
+        WAKE,
+        POP,
+    ])
 }
 
 /// The lock is taken in the form that tells of waiters; the mark stands where it is taken.
@@ -203,20 +281,16 @@ fn try_lock(code: &mut Vec<Marked>, monitor: u32, link: u32, start: u32) -> Resu
     ensures { OnOk result (code.new.items
         ≡ code.old.items ++ rebase_all start (locks.try_code monitor link)) }
 {
-    append_plain(
-        code,
-        &[
-            Instr::OwnNumber,
-            PENDING,
-            Instr::Push(link),
-            Instr::Store,
-            Instr::Push(link + 1),
-            Instr::Push(0),
-            Instr::OwnNumber,
-        ],
-    )?;
-    append(code, Mark::Enter(monitor), Instr::CompareSwap)?;
-    append_plain(code, &[KEEP, GET, Instr::JumpIfZero(start + 43)])
+    let lock = plain(Instr::Push(link + 1));
+    let link = plain(Instr::Push(link));
+    let taken = plain(Instr::JumpIfZero(start + 43));
+    let swap = Marked {
+        instruction: Instr::CompareSwap,
+        mark: Mark::Enter(monitor),
+    };
+    code.extend_from_slice(&[
+        OWN, PENDING, link, STORE, lock, ZERO, OWN, swap, KEEP, GET, taken,
+    ])
 }
 
 // The same as `enter`, at this place.
@@ -261,8 +335,5 @@ pub fn exit(code: &mut Vec<Marked>, monitor: u32, link: u32) -> Result<(), Alloc
 {
     let start = code.len() as u32;
     leave_from(code, Mark::Exit(monitor), link, start, 0)?;
-    append_plain(
-        code,
-        &[Instr::OwnNumber, PENDING, Instr::Push(0), Instr::Store],
-    )
+    code.extend_from_slice(&[OWN, PENDING, ZERO, STORE])
 }

@@ -6,6 +6,7 @@ use isa::Instr;
 use std::alloc::AllocError;
 
 /// One more instruction, with its mark.
+#[inline]
 pub fn append(code: &mut Vec<Marked>, mark: Mark, instruction: Instr) -> Result<(), AllocError>
     ensures { OnOk result (code.new.items ≡ code.old.items ++ with_mark mark instruction ∷ []) }
 {
@@ -17,8 +18,13 @@ pub fn append(code: &mut Vec<Marked>, mark: Mark, instruction: Instr) -> Result<
 pub fn append_plain(code: &mut Vec<Marked>, instructions: &[Instr]) -> Result<(), AllocError>
     ensures { OnOk result (code.new.items ≡ code.old.items ++ plainly instructions.now) }
 {
+    // Room is asked for once, and not for each of them.
+    code.reserve(instructions.len())?;
     for instruction in instructions {
-        append(code, Mark::Plain, *instruction)?;
+        code.push_reserved(Marked {
+            instruction: *instruction,
+            mark: Mark::Plain,
+        });
     }
     Ok(())
 }

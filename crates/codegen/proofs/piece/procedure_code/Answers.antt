@@ -15,8 +15,9 @@ returns c =
     let set = setting_of p (λ piece. piece) q in
     let first = c.beginning.new.code.items in
     let body =
-    c.in_ok-block.ensures ∙ ap (λ ss. first ++ block_code set (block_in ss) (length first)) c.deref.ensures.value in
-    whole (beginning_code set (length q.parameters)) (block_code set q.body) (end_code set) _ first _ _
-    c.new-code.ensures.items c.in_ok-beginning.ensures body c.in_ok-text_end.ensures
+    c.in_ok-block.ensures ∙ ap (λ ss. first ++ block_code set (block_in ss) (length first)) c.as_slice-body.ensures.value in
+    c.shrink_to_fit.ensures.items
+    ∙ whole (beginning_code set (length q.parameters)) (block_code set q.body) (end_code set) _ first _ _
+    c.in_ok-code.ensures.items c.in_ok-beginning.ensures body c.in_ok-text_end.ensures
     ∙ sequence-assoc (λ _. parameters_code (length q.parameters)) (entering_code set q.role)
     (sequence (block_code set q.body) (end_code set)) 0

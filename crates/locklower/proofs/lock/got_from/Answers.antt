@@ -1,9 +1,18 @@
-use Rattle.std.proofs.Common.{sym}
-use Rattle.lowering.proofs.Joins.{joined}
+use Rattle.lowering.specs.Marks.{rebase_all}
+use Rattle.lowering.specs.Locks.{got_at, recovery}
+use Rattle.locklower.proofs.Extended.{extended}
 use Rattle.locklower.proofs.RecoveryLaws.{moved_recovery}
 use Rattle.locklower.proofs.lock.got_from.Goals as goal
 
 pub returns : goal.returns
 returns c =
-    rw (moved_recovery c.args.start c.args.recover, sym c.recovery.ensures)
-    (joined _ _ _ c.in_ok-append_plain.ensures c.in_ok-append.ensures)
+    let a = c.args in
+    extended c.extend_from_slice.result c.extend_from_slice.new.self.items a.code.now.items _
+    (rebase_all a.start (got_at a.link (recovery a.recover) a.a)) c.extend_from_slice.ensures.items
+    (rw (
+      moved_recovery a.start a.recover,
+      c.plain-link.ensures,
+      c.plain-passed.ensures,
+      c.plain-recovered.ensures,
+      c.recovery.ensures,
+    ))
