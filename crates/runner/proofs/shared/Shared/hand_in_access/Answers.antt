@@ -64,7 +64,7 @@ returns-clause-told g c = λ came.
     let i = c.piece.inside in
     let t = c.args.t in
     let a : PieceView = record { thread = i.thread; origin = i.origin; here = i.here; count = i.count } in
-    let old : SharedView = record { log = s.log.items; machine = s.machine; given = s.given } in
+    let old : SharedView = record { log = s.log.items; room = s.log.room; machine = s.machine; given = s.given } in
     let told = c.in-Some.access in
     let Told : PieceView → SharedView → Type 0 = λ x y. TellsAccess y.log t x.count c.push_plain.new.self.items in
     subst (λ (x : PieceView). Told x c.args.self.now) c.piece.view_is
