@@ -94,6 +94,7 @@ impl<J: RunName> Shared<J> {
             × ((log_state s).concrete ≡ opening J.program)
             × (s.given ≡ 0)) }
     {
+        let calm = CalmPlaces::new(alloc, image)?;
         let machine = PieceMachine::new(alloc, image, BUCKETS)?;
         let (book, rest) = blank.open::<J>();
         Ok(Shared {
@@ -107,7 +108,7 @@ impl<J: RunName> Shared<J> {
             given: 0,
             ahead: Local::exiting(ExitPhase::Ended),
             event: Event::new(EventName::Local, 0),
-            calm: CalmPlaces::new(alloc, image)?,
+            calm,
         })
     }
 
