@@ -71,7 +71,7 @@ returns-clause-told g c = λ came.
     (subst (λ (y : SharedView). Told a y) c.self.view_is (
       told,
       c.push_plain.ensures.entries
-      ∙ ap (λ n. s.log.items ++ entry t a.count (Some (plain n told.value)) ∷ []) c.access_name.ensures,
+          ∙ ap (λ n. s.log.items ++ entry t a.count (Some (plain n told.value)) ∷ []) c.access_name.ensures,
     ))
 
 pub returns-clause-legal : goal.returns-clause-legal
