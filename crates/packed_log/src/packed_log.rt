@@ -15,7 +15,7 @@ use std::alloc::{AllocError, Global};
 use std::marker::Model;
 
 // For so many entries room is made at once.
-const GROWTH: usize = 16;
+const GROWTH: usize = 64;
 
 // The most words of sets that an entry has: those of two sets of several threads.
 const SET_WORDS: usize = 32;
