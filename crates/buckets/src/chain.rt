@@ -12,14 +12,18 @@ use crate::node::{Chain, Node, NodeKey, Spot};
 use crate::sleeper::Sleeper;
 use crate::thread_list::ThreadList;
 use slab::Slab;
-use words::{Addr, MOST_THREADS};
+use words::{Addr, BUCKETS, MOST_THREADS};
 
-/// The bucket of an address, of `buckets` many.
+/// The bucket of an address, of `buckets` many. Of as many as a run has it takes no division.
 pub fn bucket_of(a: Addr, buckets: usize) -> usize
     requires { 0 < buckets }
     ensures { result ≡ a.0 % buckets }
 {
-    a.0 as usize % buckets
+    if buckets == BUCKETS as usize {
+        a.0 as usize % BUCKETS as usize
+    } else {
+        a.0 as usize % buckets
+    }
 }
 
 /// The node under a key, where there is one.

@@ -2,3 +2,4 @@ pub mod Blanks
 pub mod Reverses
 pub mod Running
 pub mod Uppermost
+pub mod Trying

@@ -7,5 +7,6 @@ pub mod InstructionEffects
 pub mod Looks
 pub mod Steps
 pub mod Requests
+pub mod Walks
 pub mod Results
 pub mod Views

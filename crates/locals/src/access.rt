@@ -36,8 +36,8 @@ pub struct Access {
     pub value: u32,
 }
 
-// Whether an address lies in the memory.
-fn has(words: &Mem, a: Addr) -> bool
+/// Whether an address lies in the memory.
+pub fn has(words: &Mem, a: Addr) -> bool
     ensures { MatchBool result (a.0 < length words.now) (length words.now ≤ a.0) }
 {
     (a.0 as usize) < words.len()

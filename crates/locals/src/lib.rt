@@ -15,6 +15,7 @@ mod progress;
 mod request;
 mod stack;
 mod stepping;
+mod walking;
 
 pub use access::{Access, AccessKind};
 pub use local::{Local, opening_local};

@@ -25,3 +25,4 @@ pub mod Orders
 pub mod Bits
 pub mod Ables
 pub mod Accessing
+pub mod Walking

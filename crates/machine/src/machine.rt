@@ -20,7 +20,7 @@ ghost use Rattle.machine.specs.Runs.{has_ended};
 ghost use Rattle.machine.specs.ConcreteSteps.{step_of, can_move, fault_at};
 ghost use Rattle.machine.specs.ConcreteOutside.{kill_of, stray_of};
 ghost use Rattle.machine.specs.Accessing.{AccessesFrom, HasNoAccess, MakesAccess, told_access};
-ghost use Rattle.machine.specs.LocalRuns.{RunsOn};
+ghost use Rattle.machine.specs.LocalRuns.{RunsOn, WalksOn};
 ghost use Rattle.machine.specs.ThreadSets.{IsLeastFrom};
 ghost use Rattle.machine.specs.Views.{concrete, AllEnded, IsQuiet, variable_address, address_of, printed_by};
 ghost use Rattle.machine.specs.Views.{IsWellFormed};
@@ -31,7 +31,7 @@ use crate::common::Common;
 use crate::event::{Event, EventName, StepFault};
 use crate::parts::{opening_threads, step_parts, variable};
 use crate::thread_bits::ThreadBits;
-use crate::thread_step::take_access;
+use crate::thread_step::{take_access, take_walk};
 use futexcalls::{FutexCall, FutexPhase};
 use isa::Image;
 use locals::{Access, Local, NextStep};
@@ -294,6 +294,19 @@ impl Machine {
     {
         let local = &mut self.threads[t as usize - 1];
         take_access(&self.image, &mut self.common, t, local)
+    }
+
+    /// Both in one go: local steps of thread `t`, which can move, in its place, until another step comes or the budget is
+    /// used, and the access to a word behind them, if that is its next step then and the word lies in the memory. Answers how
+    /// many local steps they were, and the access.
+    #[inline(always)]
+    pub fn walk(&mut self, t: u32, budget: u32) -> (u32, Option<Access>)
+        requires { can_move (concrete self.old) t ≡ true }
+        ensures walks { WalksOn self.old t budget result.0 result.1 self.new }
+        ensures moves { can_move (concrete self.new) t ≡ true }
+    {
+        let local = &mut self.threads[t as usize - 1];
+        take_walk(&self.image, &mut self.common, t, local, budget)
     }
 
     /// The same of thread `t` as if its local steps had led it to this state: the access is made in this state, of which

@@ -6,6 +6,7 @@ ghost use Rattle.locals.specs.Requests.{next_step_of};
 ghost use Rattle.locals.specs.declared.request.NextStep.TheVariants as next;
 ghost use Rattle.locals.specs.Threads.{Exits};
 ghost use Rattle.machine.specs.Accessing.{AccessedSo};
+ghost use Rattle.machine.specs.LocalRuns.{WalkedSo};
 ghost use Rattle.machine.specs.ConcreteSteps.{thread_step};
 ghost use Rattle.machine.specs.RequestMeanings.{AsksFork};
 ghost use Rattle.machine.specs.States.{Common as CommonOf};
@@ -57,6 +58,23 @@ pub fn take_access(image: &Image, shared: &mut Common, t: u32, local: &mut Local
 {
     let Common { words, .. } = shared;
     local.access(image, t, words)
+}
+
+/// Local steps of thread `t`, which it takes in its place until another step comes or the budget is used, and the access to
+/// a word behind them, if that is its next step then and the word lies in the memory. Answers how many they were, and the
+/// access.
+#[inline(always)]
+pub fn take_walk(
+    image: &Image,
+    shared: &mut Common,
+    t: u32,
+    local: &mut Local,
+    budget: u32,
+) -> (u32, Option<Access>)
+    ensures { WalkedSo image.now t budget shared.old shared.new local.old local.new result.0 result.1 }
+{
+    let Common { words, .. } = shared;
+    local.walk(image, t, budget, words)
 }
 
 /// A request of thread `t`, which is awake.

@@ -12,13 +12,14 @@ use Rattle.locals.specs.Looks.{Leaves, Breaks, Rests, look}
 use Rattle.machine.specs.declared.event.Event.{Event}
 use Rattle.machine.specs.Accessing.{AccessesFrom, HasNoAccess, MakesAccess, placed, told_access}
 use Rattle.machine.specs.ConcreteSteps.{can_move}
+use Rattle.machine.specs.LocalRuns.{WalksOn}
 use Rattle.machine.specs.PieceStates.{PieceState, call_at, call_of}
 use Rattle.machine.specs.PieceSteps.{BlocksAt, BlocksCall}
 use Rattle.machine.specs.Views.{View, concrete}
 use Rattle.machine.proofs.Accessing.{access_steps, awake}
 use Rattle.machine.proofs.Placing.{thread_at-put}
 use Rattle.piece_machine.specs.PieceConcrete.{piece_of}
-use Rattle.piece_machine.specs.PieceViews.{PieceView, DoneFrom, GoesTo, HasNoLocal, IsApart, IsKept, parts, pieces}
+use Rattle.piece_machine.specs.PieceViews.{PieceView, DoneFrom, GoesTo, HasNoLocal, IsApart, IsKept, WalksFrom, parts, pieces}
 use Rattle.piece_machine.proofs.Locally.{local_put}
 use Rattle.piece_machine.proofs.OwnCalls.{one_thread}
 use Rattle.piece_machine.proofs.Taken.{kept_step, whole_gives}
@@ -122,6 +123,30 @@ pub access_program : (v v' : View) (t : ℕ) (made : Option Access)
     → v'.program ≡ v.program
 access_program v v' t (Some told) m = ap (λ (q : View). q.program) m.after
 access_program v v' t None m = ap (λ (q : View). q.program) m.0
+
+-- local steps and the access behind them
+pub walk_kept : (v v' : View) (phases : List FutexPhase) (t budget count : ℕ) (made : Option Access) → IsKept v phases
+    → can_move (concrete v) t ≡ true → WalksOn v t budget count made v' → IsKept v' phases
+walk_kept v v' phases t budget count made kept can w =
+    let r = w.runs in
+    access_kept w.mid v' phases t made (local_put v w.mid phases t r.here kept can
+    (record { origin = r.origin; count = count; stands = r.stands; goes = r.goes }) r.after) w.moves w.made
+
+pub walk_done : (v v' : View) (phases : List FutexPhase) (t budget count : ℕ) (made : Option Access)
+    → WalksOn v t budget count made v'
+    → WalksFrom (record { view = v; phases = phases }) t budget count made (record { view = v'; phases = phases })
+walk_done v v' phases t budget count made w = record {
+  mid = record { view = w.mid; phases = phases };
+  runs = w.runs;
+  moves = w.moves;
+  phases = refl;
+  made = access_done w.mid v' phases t made w.moves w.made;
+}
+
+pub walk_program : (v v' : View) (t budget count : ℕ) (made : Option Access) → WalksOn v t budget count made v'
+    → v'.program ≡ v.program
+walk_program v v' t budget count made w =
+    access_program w.mid v' t made w.made ∙ ap (λ (q : View). q.program) w.runs.after
 
 -- the same from where its local steps led the thread
 pub from_kept : (v v' : View) (phases : List FutexPhase) (t : ℕ) (here there : Thread) (made : Option Access)

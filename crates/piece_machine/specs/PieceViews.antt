@@ -1,5 +1,6 @@
 -- A machine whose threads take futex calls in pieces, as contracts see it, and its steps.
 use Rattle.std.specs.Prelude.{ℕ, ◌≡◌, ◌<◌, ◌==◌, Bool, List, [], ◌∷◌, Option, Some, None, Ok, true, false, is_some, length, slice_index_or}
+use Rattle.std.specs.Prelude.{MatchOption}
 use Rattle.std.specs.List.{sum_by}
 use Rattle.words.specs.Limits.{most_threads}
 use Rattle.buckets.specs.Sleepers.{bucket_count, holder_of}
@@ -13,8 +14,9 @@ use Rattle.locals.specs.Threads.{Thread}
 use Rattle.locals.specs.Looks.{look}
 use Rattle.locals.specs.Steps.{local_step, local_after}
 use Rattle.locals.specs.declared.access.Access.{Access}
-use Rattle.machine.specs.Accessing.{told_access}
+use Rattle.machine.specs.Accessing.{HasNoAccess, told_access}
 use Rattle.machine.specs.ConcreteSteps.{can_move}
+use Rattle.machine.specs.LocalRuns.{RunsOn}
 use Rattle.machine.specs.States.{thread_of}
 use Rattle.machine.specs.Views.{View, concrete, IsWellFormed}
 use Rattle.machine.specs.ConcretePieces.{pieces_of}
@@ -185,3 +187,13 @@ pub record DoneFrom (told : Access) (old : PieceView) (t : ℕ) (here : Thread) 
   pub shared : is_some (local_step old.view.program t here) ≡ false
   pub stands : thread_of (concrete new.view) t ≡ Some there
   pub moves : can_move (concrete new.view) t ≡ true
+
+-- thread t took so many local steps in its place, and then made the access to a word that came next, as its step is, or none
+-- did, and nothing else changed
+pub record WalksFrom (old : PieceView) (t budget count : ℕ) (access : Option Access) (new : PieceView) : Type 0 where
+  pub mid : PieceView
+  pub runs : RunsOn old.view t budget count mid.view
+  pub moves : can_move (concrete mid.view) t ≡ true
+  pub phases : mid.phases ≡ old.phases
+  pub made : MatchOption access ((new ≡ mid) × HasNoAccess mid.view t)
+      (λ told. (piece_of mid.view.program (parts mid) t ≡ Ok (parts new, told_access told)) × HasNoLocal mid.view t)

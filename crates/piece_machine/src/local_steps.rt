@@ -7,7 +7,7 @@ ghost use Rattle.machine.specs.ConcreteSteps.{can_move};
 ghost use Rattle.machine.specs.LocalRuns.{RunsOn};
 ghost use Rattle.machine.specs.Views.{concrete};
 ghost use Rattle.piece_machine.specs.PieceConcrete.{piece_of};
-ghost use Rattle.piece_machine.specs.PieceViews.{DoneFrom, GoesTo, HasNoLocal, parts};
+ghost use Rattle.piece_machine.specs.PieceViews.{DoneFrom, GoesTo, HasNoLocal, WalksFrom, parts};
 
 use crate::piece_machine::PieceMachine;
 use locals::{Access, Local};
@@ -52,6 +52,19 @@ impl PieceMachine {
         ensures program { self.new.view.program ≡ self.old.view.program }
     {
         self.machine.access(t)
+    }
+
+    /// Both in one go: local steps of thread `t`, which can move, in its place, until another step comes or the budget is
+    /// used, and the access to a word behind them, if that is its next step then and the word lies in the memory. Answers how
+    /// many local steps they were, and the access.
+    #[inline(always)]
+    pub fn walk(&mut self, t: u32, budget: u32) -> (u32, Option<Access>)
+        requires { can_move (concrete self.old.view) t ≡ true }
+        ensures walks { WalksFrom self.old t budget result.0 result.1 self.new }
+        ensures moves { can_move (concrete self.new.view) t ≡ true }
+        ensures program { self.new.view.program ≡ self.old.view.program }
+    {
+        self.machine.walk(t, budget)
     }
 
     /// The same of thread `t` as if its local steps had led it to this state: the access is made in this state, of which

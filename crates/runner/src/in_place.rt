@@ -105,8 +105,7 @@ pub fn walk(machine: &mut PieceMachine, t: u32) -> (u32, Option<Access>)
     ensures moves { can_move (concrete machine.new.view) t ≡ true }
     ensures program { machine.new.view.program ≡ machine.old.view.program }
 {
-    let local = machine.run_local(t, MOST_LOCAL_STEPS);
-    (local, machine.access(t))
+    machine.walk(t, MOST_LOCAL_STEPS)
 }
 
 /// Ends the entry of thread `t`, which has taken the local steps of its turn in its place, so many, and stands before no
