@@ -1,4 +1,5 @@
 pub mod Blanks
+pub mod Covering
 pub mod Reverses
 pub mod Running
 pub mod Uppermost
