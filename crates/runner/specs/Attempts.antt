@@ -1,5 +1,5 @@
 -- What comes of a try to make a thread's next entry.
-use Rattle.std.specs.Prelude.{ℕ, ◌≡◌, ◌≤◌, ◌<◌, Bool, true, false, length, Some, None}
+use Rattle.std.specs.Prelude.{ℕ, ◌≡◌, ◌≤◌, ◌<◌, Bool, true, false, length, Some, None, Result, Ok}
 use Rattle.words.specs.Limits.{most_local_steps}
 use Rattle.isa.specs.Programs.{Program}
 use Rattle.futexcalls.specs.declared.pieces.FutexCall.{FutexCall}
@@ -17,6 +17,7 @@ use Rattle.runner.specs.declared.attempt.Attempt.{Attempt}
 use Rattle.runner.specs.declared.attempt.Attempt.TheVariants.{Accessed, Made, Took, Wants, HeldUp, Refused}
 use Rattle.runner.specs.declared.attempt.Obstacle.{Obstacle}
 use Rattle.runner.specs.declared.attempt.Obstacle.TheVariants.{First, Other}
+use Rattle.runner.specs.declared.fault.RunFault.{RunFault}
 use Rattle.runner.specs.Logs.{EntersOwn}
 
 -- whether the entry was made
@@ -27,6 +28,11 @@ is_made (Took bucket) = true
 is_made (Wants bucket) = false
 is_made HeldUp = false
 is_made Refused = false
+
+-- what came of a try: an entry that ended with an access where that was answered, and else what was told beside it
+abbrev pub came : Bool → Result Attempt RunFault → Result Attempt RunFault
+came true told = Ok Accessed
+came false told = told
 
 -- a thread that stands here makes a call that takes this bucket first, which it is still to take
 pub record AsksFirst (p : Program) (k : PieceConcrete) (t bucket : ℕ) (here : Thread) : Type 0 where

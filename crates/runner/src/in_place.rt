@@ -209,7 +209,9 @@ fn take_at_once(
     }
 }
 
-// The same of a thread that takes its local steps ahead of the machine first.
+// The same of a thread that takes its local steps ahead of the machine first. Apart, since most steps that are tried behind a
+// held bucket have none before them, and needn't pay for its loops.
+#[inline(never)]
 fn take_ahead(
     machine: &mut PieceMachine,
     image: &Image,

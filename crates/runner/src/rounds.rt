@@ -2,7 +2,7 @@ ghost use Rattle.words.specs.Limits.{most_threads};
 ghost use Rattle.std.specs.Prelude.{suc, ◌≡◌, ◌≤◌, ◌<◌, length, true, false, IfOk, IfErr, OnOk};
 ghost use Rattle.machine.specs.ConcreteSteps.{can_move};
 ghost use Rattle.piece_machine.specs.PieceDetermined.{IsFit};
-ghost use Rattle.runner.specs.Attempts.{TriedSo, is_made};
+ghost use Rattle.runner.specs.Attempts.{TriedSo, came, is_made};
 ghost use Rattle.runner.specs.Logs.{cost};
 ghost use Rattle.runner.specs.Reports.{CanFail, IsStopped};
 ghost use Rattle.runner.specs.Rounds.{AllPast, Idle};
@@ -114,11 +114,14 @@ pub fn run_alone<J: RunName, G: Gate>(
     ensures err { IfErr result (λ fault. CanFail J.program J.outside J.limit fault) }
 {
     let mut moves = shared.machine().can_move(t);
+    let mut told = Ok(Attempt::Refused);
     while moves && shared.machine().threads() == 1 && shared.is_free(t) && shared.has_room() {
         gate.pass(t);
         // Who made an access can move still, as most entries end.
-        let attempt = shared.go_on(t, share)?;
-        moves = attempt.is_access() || shared.machine().can_move(t);
+        if !shared.go_on(t, share, &mut told) {
+            told?;
+            moves = shared.machine().can_move(t);
+        }
     }
     Ok(())
 }
@@ -186,7 +189,12 @@ fn take_turn<J: RunName, G: Gate>(
         → IsStopped J.program J.limit shared.new.log (log_state shared.new).concrete t)) }
     ensures err { IfErr result (λ fault. CanFail J.program J.outside J.limit fault) }
 {
-    let attempt = attempt_entry(shared, refused, image, share, gate, t, piece)?;
+    let mut told = Ok(Attempt::Refused);
+    if attempt_entry(shared, refused, image, share, gate, t, piece, &mut told) {
+        waiting.follow(shared.piece_machine(), t, Attempt::Accessed);
+        return Ok(true);
+    }
+    let attempt = told?;
     waiting.follow(shared.piece_machine(), t, attempt);
     Ok(attempt.is_made())
 }
@@ -219,11 +227,15 @@ pub(crate) fn make_entry<J: RunName, G: Gate>(
     if !shared.machine().can_move(t) {
         return Ok(false);
     }
-    let attempt = attempt_entry(shared, refused, image, share, gate, t, piece)?;
-    Ok(attempt.is_made())
+    let mut told = Ok(Attempt::Refused);
+    if attempt_entry(shared, refused, image, share, gate, t, piece, &mut told) {
+        return Ok(true);
+    }
+    Ok(told?.is_made())
 }
 
-// The same of a thread that can move, and what came of it.
+// The same of a thread that can move. Answers whether the entry ended with an access; what came of any other try is told
+// beside it.
 #[inline(always)]
 fn attempt_entry<J: RunName, G: Gate>(
     shared: &mut Shared<J>,
@@ -233,28 +245,30 @@ fn attempt_entry<J: RunName, G: Gate>(
     gate: &G,
     t: u32,
     piece: &mut Piece<J>,
-) -> Result<Attempt, RunFault>
+    told: &mut Result<Attempt, RunFault>,
+) -> bool
     requires image { image.now ≡ J.program }
     requires room { length refused.old ≡ suc most_threads }
     requires thread { (0 < t) × (t ≤ most_threads) }
     requires moves { can_move (log_state shared.old).concrete.concrete t ≡ true }
     requires kept { IsFit J.program (log_state shared.old).concrete }
     requires past { AllPast J.program J.limit (log_state shared.old) refused.old }
-    ensures past { OnOk result (AllPast J.program J.limit (log_state shared.new) refused.new) }
-    ensures made { IfOk result (λ a. is_made a ≡ true → (cost shared.old.log < cost shared.new.log)
+    ensures past { OnOk (came result told.new) (AllPast J.program J.limit (log_state shared.new) refused.new) }
+    ensures made { IfOk (came result told.new) (λ a. is_made a ≡ true → (cost shared.old.log < cost shared.new.log)
         × (cost shared.new.log ≤ J.limit)) }
-    ensures none { IfOk result (λ a. is_made a ≡ false → (log_state shared.new ≡ log_state shared.old)
+    ensures none { IfOk (came result told.new) (λ a. is_made a ≡ false → (log_state shared.new ≡ log_state shared.old)
         × (can_move (log_state shared.new).concrete.concrete t ≡ true
         → IsStopped J.program J.limit shared.new.log (log_state shared.new).concrete t)) }
-    ensures tried { IfOk result (λ a. TriedSo J.program (log_state shared.old).concrete t a
+    ensures tried { IfOk (came result told.new) (λ a. TriedSo J.program (log_state shared.old).concrete t a
         (log_state shared.new).concrete) }
-    ensures err { IfErr result (λ fault. CanFail J.program J.outside J.limit fault) }
+    ensures err { IfErr (came result told.new) (λ fault. CanFail J.program J.outside J.limit fault) }
 {
     if !shared.has_room() {
-        return try_entry(shared, refused, image, share, gate, t, piece);
+        *told = try_entry(shared, refused, image, share, gate, t, piece);
+        return false;
     }
     gate.pass(t);
-    shared.try_on(image, t, share)
+    shared.try_on(image, t, share, told)
 }
 
 // The same near the limit: the thread goes on away from the machine, in this piece, since its entry may be refused.

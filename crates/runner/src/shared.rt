@@ -8,7 +8,7 @@ ghost use Rattle.machine.specs.States.{thread_of};
 ghost use Rattle.machine.specs.ConcreteSteps.{can_move};
 ghost use Rattle.piece_machine.specs.PieceDetermined.{IsFit};
 ghost use Rattle.piece_machine.specs.PieceViews.{parts};
-ghost use Rattle.runner.specs.Attempts.{TriedSo, is_made};
+ghost use Rattle.runner.specs.Attempts.{TriedSo, came, is_made};
 ghost use Rattle.runner.specs.Logs.{HasOnly, Runs, cost, kills_in, opening};
 ghost use Rattle.runner.specs.Entries.{Takes, TakesOutside, RefusesEntry, RefusesOutside, IsFine, Stands};
 ghost use Rattle.runner.specs.Entries.{TakesKill, RefusesKill, Begins, BringsNoAccess, TellsAccess};
@@ -564,24 +564,31 @@ impl<J: RunName> Shared<J> {
 
     /// Takes the next entry of thread `t`, which can move and isn't held up, in its place on the machine, so that nothing
     /// is copied: its local steps until another step comes or its turn is over, and the shared step that it stands
-    /// before, if any. Says what came of it.
+    /// before, if any. Answers whether it ended with an access, as most do: so these have a way of their own. What came of
+    /// any other is told beside it.
     ///
     /// Refuses with `Memory`, and then nothing has changed; and with `Broken`, and then the local steps are an entry.
     #[inline(always)]
-    pub(crate) fn go_on(&mut self, t: u32, share: &mut Share<J>) -> Result<Attempt, RunFault>
+    pub(crate) fn go_on(
+        &mut self,
+        t: u32,
+        share: &mut Share<J>,
+        told: &mut Result<Attempt, RunFault>,
+    ) -> bool
         requires thread { can_move (log_state self.old).concrete.concrete t ≡ true }
         requires free { IsHeldUp J.program (log_state self.old).concrete t → ⊥ }
         requires room { cost self.old.log + suc most_local_steps ≤ J.limit }
-        ensures ok { OnOk result (cost self.old.log < cost self.new.log) }
-        ensures made { IfOk result (λ a. is_made a ≡ true) }
-        ensures tried { IfOk result (λ a. TriedSo J.program (log_state self.old).concrete t a
+        ensures ok { OnOk (came result told.new) (cost self.old.log < cost self.new.log) }
+        ensures made { IfOk (came result told.new) (λ a. is_made a ≡ true) }
+        ensures tried { IfOk (came result told.new) (λ a. TriedSo J.program (log_state self.old).concrete t a
             (log_state self.new).concrete) }
         ensures given { self.new.given ≡ self.old.given }
-        ensures err { IfErr result (λ fault. CanFail J.program J.outside J.limit fault) }
+        ensures err { IfErr (came result told.new) (λ fault. CanFail J.program J.outside J.limit fault) }
         ensures within { cost self.new.log ≤ J.limit }
     {
         if make_room(&mut self.machine, &mut self.log).is_err() {
-            return Err(RunFault::Memory);
+            *told = Err(RunFault::Memory);
+            return false;
         }
         let (local, access) = walk(&mut self.machine, t);
         if let Some(access) = access {
@@ -589,14 +596,15 @@ impl<J: RunName> Shared<J> {
             self.log.push_plain(t, local, name, access.value);
             self.steps += local + 1;
             share.count_one(&mut self.book);
-            return Ok(Attempt::Accessed);
+            return true;
         }
         let (taken, outcome) = end_walk(&mut self.machine, t, local, &mut self.event);
         push_taken(&mut self.log, t, taken, &self.event);
         self.steps += taken.local + u32::from(is_shared(taken.behind));
         share.count_one(&mut self.book);
         let attempt = attempt_of(taken, &self.event);
-        outcome.and(Ok(attempt))
+        *told = outcome.and(Ok(attempt));
+        false
     }
 
     /// The same of a thread that may be held up: one that is makes no entry, and then nothing has changed.
@@ -606,23 +614,25 @@ impl<J: RunName> Shared<J> {
         image: &Image,
         t: u32,
         share: &mut Share<J>,
-    ) -> Result<Attempt, RunFault>
+        told: &mut Result<Attempt, RunFault>,
+    ) -> bool
         requires image { image.now ≡ J.program }
         requires thread { can_move (log_state self.old).concrete.concrete t ≡ true }
         requires fit { IsFit J.program (log_state self.old).concrete }
         requires room { cost self.old.log + suc most_local_steps ≤ J.limit }
-        ensures made { IfOk result (λ a. is_made a ≡ true → cost self.old.log < cost self.new.log) }
-        ensures none { IfOk result (λ a. is_made a ≡ false → (log_state self.new ≡ log_state self.old)
+        ensures made { IfOk (came result told.new) (λ a. is_made a ≡ true → cost self.old.log < cost self.new.log) }
+        ensures none { IfOk (came result told.new) (λ a. is_made a ≡ false → (log_state self.new ≡ log_state self.old)
             × IsHeldUp J.program (log_state self.new).concrete t) }
-        ensures tried { IfOk result (λ a. TriedSo J.program (log_state self.old).concrete t a
+        ensures tried { IfOk (came result told.new) (λ a. TriedSo J.program (log_state self.old).concrete t a
             (log_state self.new).concrete) }
-        ensures err { IfErr result (λ fault. CanFail J.program J.outside J.limit fault) }
+        ensures err { IfErr (came result told.new) (λ fault. CanFail J.program J.outside J.limit fault) }
         ensures within { cost self.new.log ≤ J.limit }
     {
         if self.goes_freely(t) {
-            return self.go_on(t, share);
+            return self.go_on(t, share, told);
         }
-        self.try_held(image, t, share)
+        *told = self.try_held(image, t, share);
+        false
     }
 
     // Whether nobody holds a bucket, or thread `t` stands where none can be in the way of its next entry.

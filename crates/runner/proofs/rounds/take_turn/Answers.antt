@@ -1,8 +1,9 @@
 use Rattle.std.proofs.Common.{◌∙◌, ap, sym, subst}
 use Rattle.piece_machine.specs.PieceConcrete.{PieceConcrete}
 use Rattle.runner.specs.Attempts.{TriedSo}
-use Rattle.runner.specs.Views.{LogState, log_state}
+use Rattle.runner.specs.Views.{log_state}
 use Rattle.runner.specs.Waits.{AllWait}
+use Rattle.runner.specs.declared.attempt.Attempt.TheVariants.{Accessed}
 use Rattle.runner.proofs.Noting.{legal_buckets}
 use Rattle.runner.proofs.rounds.take_turn.Goals as goal
 
@@ -12,14 +13,18 @@ follow-requires-clause-buckets g c =
     ∙ legal_buckets g.J.RunName.program c.attempt_entry.new.shared.log (log_state c.attempt_entry.new.shared).concrete
     c.piece_machine.ensures.legal
 
-pub returns-clause-waits : goal.returns-clause-waits
-returns-clause-waits g c =
+pub follow-requires-2-clause-buckets : goal.follow-requires-2-clause-buckets
+follow-requires-2-clause-buckets g c =
+    ap (λ (k : PieceConcrete). k.buckets) c.piece_machine-2.ensures.parts
+    ∙ legal_buckets g.J.RunName.program c.attempt_entry.new.shared.log (log_state c.attempt_entry.new.shared).concrete
+    c.piece_machine-2.ensures.legal
+
+-- an entry that ended with an access
+pub returns-then-attempt_entry-clause-waits : goal.returns-then-attempt_entry-clause-waits
+returns-then-attempt_entry-clause-waits g c =
     let p = g.J.RunName.program in
-    let e = c.in_ok-attempt.ensures in
     let old = (log_state c.args.shared.now).concrete in
-    let new = (log_state c.attempt_entry.new.shared).concrete in
     let here = c.piece_machine.ensures.parts in
     subst (λ (k : PieceConcrete). AllWait p k c.follow.new.self) here
-    (c.follow.ensures p old c.requires.kept c.requires.waits.want
-    (λ stays. here ∙ ap (λ (h : LogState). h.concrete) (e.none stays).0)
-    (subst (λ (k : PieceConcrete). TriedSo p old c.args.t c.in_ok-attempt.attempt k) (sym here) e.tried))
+    (c.follow.ensures p old c.requires.kept c.requires.waits.want (λ stays. absurd cc)
+    (subst (λ (k : PieceConcrete). TriedSo p old c.args.t Accessed k) (sym here) c.if-attempt_entry.ensures.tried))
