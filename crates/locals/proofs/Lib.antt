@@ -4,3 +4,4 @@ pub mod Reverses
 pub mod Running
 pub mod Uppermost
 pub mod Trying
+pub mod OwnSteps

@@ -8,5 +8,6 @@ pub mod Looks
 pub mod Steps
 pub mod Requests
 pub mod Walks
+pub mod Sequences
 pub mod Results
 pub mod Views

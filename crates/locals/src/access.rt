@@ -123,7 +123,7 @@ impl Activation {
     }
 
     #[inline(always)]
-    fn store(&mut self, words: &mut Mem) -> Option<Access>
+    pub(crate) fn store(&mut self, words: &mut Mem) -> Option<Access>
         requires { self.old.place < most_instructions }
         ensures { Accessed result (looks 0 0 (Some Store) self.old) words.old self.old words.new self.new }
     {

@@ -13,11 +13,15 @@ mod local;
 mod local_run;
 mod progress;
 mod request;
+mod sequence;
+mod sequences;
 mod stack;
 mod stepping;
+mod taking;
 mod walking;
 
 pub use access::{Access, AccessKind};
 pub use local::{Local, opening_local};
 pub use local_run::run_local;
 pub use request::{NextStep, Request};
+pub use sequences::Sequences;

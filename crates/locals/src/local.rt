@@ -8,12 +8,14 @@ ghost use Rattle.locals.specs.Threads.{Dies, Exits, is_dying, opening_thread, pl
 ghost use Rattle.locals.specs.Looks.{look};
 ghost use Rattle.locals.specs.Steps.{local_after, local_step};
 ghost use Rattle.locals.specs.Requests.{next_step_of, after_answer, fork_child, CanBeAnswered};
+ghost use Rattle.locals.specs.Sequences.{AreSequences};
 ghost use Rattle.locals.specs.Walks.{Walks};
 
 use crate::access::Access;
 use crate::activation::Activation;
 use crate::progress::Answered;
 use crate::request::{NextStep, Request};
+use crate::sequences::Sequences;
 use crate::walking::Walked;
 use isa::Image;
 use robustexit::{ExitPhase, phase_at};
@@ -239,21 +241,23 @@ impl Local {
 
     /// Takes local steps of thread `t` in place until the next one isn't local or the budget is used, and behind them the
     /// access to a word that comes next, where one does and its address lies in the memory. Answers how many local steps
-    /// these were, and the access.
+    /// these were, and the access. The sequences are those of the image.
     #[inline(always)]
     pub fn walk(
         &mut self,
         image: &Image,
+        sequences: &Sequences,
         t: u32,
         budget: u32,
         words: &mut Mem,
     ) -> (u32, Option<Access>)
+        requires noted { AreSequences image.now.code sequences.now }
         ensures walks { Walks image.now t budget words.old words.new self.old self.new result.0 result.1 }
         ensures lives { IfSome result.1 (λ told. self.new ≢ Exits Ended) }
     {
         match &mut self.stage {
             Stage::Running(activation) => {
-                let (count, end) = activation.walk(image, t, budget, words);
+                let (count, end) = activation.walk(image, sequences, t, budget, words);
                 match end {
                     Walked::Made(access) => (count, Some(access)),
                     Walked::Failed(fault) => {

@@ -34,7 +34,7 @@ use crate::thread_bits::ThreadBits;
 use crate::thread_step::{take_access, take_walk};
 use futexcalls::{FutexCall, FutexPhase};
 use isa::Image;
-use locals::{Access, Local, NextStep};
+use locals::{Access, Local, NextStep, Sequences};
 use robustexit::ExitPhase;
 use std::alloc::{AllocError, Global};
 use std::marker::Model;
@@ -50,11 +50,14 @@ pub struct Machine {
     threads: Vec<Local>,
     // Who can move, so that nobody has to ask each thread.
     able: ThreadBits,
+    // The frequent sequences of the image's code.
+    sequences: Sequences,
 }
 
 impl Model for Machine {
     ghost use Rattle.std.specs.Prelude.{◌≤◌, ◌-◌, length, vec_capacity};
     ghost use Rattle.words.specs.Versions.{most_of};
+    ghost use Rattle.locals.specs.Sequences.{AreSequences};
     ghost use Rattle.machine.specs.Views.{View, IsWellFormed, ShowsAble, parts_of};
 
     ghost Value = { View };
@@ -69,7 +72,7 @@ impl Model for Machine {
     } };
 
     ghost invariant = { λ m. IsWellFormed m.image (parts_of m.common m.threads.items)
-        × (most_of m.image.version ≤ vec_capacity m.threads)
+        × ((most_of m.image.version ≤ vec_capacity m.threads) × AreSequences m.image.code m.sequences)
         × ShowsAble m.able.words (parts_of m.common m.threads.items) };
 }
 
@@ -91,6 +94,7 @@ impl Machine {
             common: Common::new(alloc, image, buckets)?,
             threads: opening_threads(alloc, image)?,
             able,
+            sequences: Sequences::new(alloc, image)?,
         })
     }
 
@@ -306,7 +310,14 @@ impl Machine {
         ensures moves { can_move (concrete self.new) t ≡ true }
     {
         let local = &mut self.threads[t as usize - 1];
-        take_walk(&self.image, &mut self.common, t, local, budget)
+        take_walk(
+            &self.image,
+            &self.sequences,
+            &mut self.common,
+            t,
+            local,
+            budget,
+        )
     }
 
     /// The same of thread `t` as if its local steps had led it to this state: the access is made in this state, of which
@@ -371,6 +382,7 @@ impl Machine {
             common,
             threads,
             able,
+            ..
         } = self;
         let made = threads.len();
         let done = step_parts(image, common, threads, t, next, event);

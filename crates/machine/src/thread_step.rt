@@ -1,6 +1,7 @@
 ghost use Rattle.std.specs.Prelude.{◌≢◌, ◌≡◌, ◌≤◌, ◌<◌, ℕ, None, Ok, Err, IfOk, IfErr, IfSome, IfNone, OnOk, OnErr, IsSome, length};
 ghost use Rattle.buckets.specs.Sleepers.{place_of, thread_count};
 ghost use Rattle.robustexit.specs.declared.phase.ExitPhase.TheVariants.{Ended};
+ghost use Rattle.locals.specs.Sequences.{AreSequences};
 ghost use Rattle.locals.specs.Looks.{look};
 ghost use Rattle.locals.specs.Requests.{next_step_of};
 ghost use Rattle.locals.specs.declared.request.NextStep.TheVariants as next;
@@ -15,7 +16,7 @@ ghost use Rattle.machine.specs.Views.{common};
 use crate::common::Common;
 use crate::event::{Event, EventName, StepFault};
 use isa::Image;
-use locals::{Access, Local, Request};
+use locals::{Access, Local, Request, Sequences};
 use robustexit::ExitPhase;
 
 /// A local step of thread `t`.
@@ -66,15 +67,17 @@ pub fn take_access(image: &Image, shared: &mut Common, t: u32, local: &mut Local
 #[inline(always)]
 pub fn take_walk(
     image: &Image,
+    sequences: &Sequences,
     shared: &mut Common,
     t: u32,
     local: &mut Local,
     budget: u32,
 ) -> (u32, Option<Access>)
+    requires { AreSequences image.now.code sequences.now }
     ensures { WalkedSo image.now t budget shared.old shared.new local.old local.new result.0 result.1 }
 {
     let Common { words, .. } = shared;
-    local.walk(image, t, budget, words)
+    local.walk(image, sequences, t, budget, words)
 }
 
 /// A request of thread `t`, which is awake.

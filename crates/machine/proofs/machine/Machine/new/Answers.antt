@@ -21,7 +21,7 @@ invariant_of-result c =
     let is : parts_of c.in_ok-new.field-0 c.in_ok-opening_threads.field-0.items
     ≡ opening_concrete c.args.image.now = returns-clause-opening c in (
       rw (c.in_ok-copy.ensures, is) (opens_so c.args.image.now).1,
-      rw c.in_ok-copy.ensures c.in_ok-opening_threads.ensures.space,
+      (rw c.in_ok-copy.ensures c.in_ok-opening_threads.ensures.space, rw c.in_ok-copy.ensures c.in_ok-new-2.ensures),
       subst (λ (k : ConcreteState). ShowsAble c.put.new.self.words k) (sym is)
           (shows_opening c.args.image.now c.new-able.result.words c.put.new.self.words c.new-able.ensures
           c.put.ensures.here c.put.ensures.others),

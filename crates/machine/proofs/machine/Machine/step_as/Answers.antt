@@ -47,7 +47,7 @@ invariant_of-self c =
     let counted : c.len-made.result ≡ length c.self.inside.threads.items = search rules in (
       kept_after c.self.inside.image k k' c.args.t c.step_parts-done.result c.step_parts-done.new.event c.self.invariant.0 s.done
           (on_err c.step_parts-done.result _ _ (k' ≡ k) (λ v t i. parts_of (v i) (t i)) s.same),
-      omega (arith, s.space, c.self.invariant.1),
+      (omega (arith, s.space, c.self.invariant.1.0), c.self.invariant.1.1),
       shows_result c.self.inside.image k k' c.args.t c.step_parts-done.result c.step_parts-done.new.event
           c.self.inside.able.words c.refresh_after.new.self.words c.self.invariant.0 s.done
           (on_err c.step_parts-done.result _ _ (k' ≡ k) (λ v t i. parts_of (v i) (t i)) s.same) c.self.invariant.2
