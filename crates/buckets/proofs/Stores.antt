@@ -16,7 +16,7 @@ use Rattle.buckets.specs.declared.node.Node.{Node}
 use Rattle.words.specs.Limits.{most_threads}
 use Rattle.buckets.specs.Sleepers.{Sleepers, IsSound, queue, place_of, thread_count}
 use Rattle.buckets.specs.Lists.{among, IsConsistent}
-use Rattle.buckets.specs.Chains.{node_at, row_of, rows, Chained, IsChain, Once, Rechained, IsStored}
+use Rattle.buckets.specs.Chains.{node_at, walk, row_of, rows, Chained, IsChain, Once, Rechained, IsStored}
 use Rattle.buckets.proofs.Arrivals.{room_for as room_in}
 use Rattle.buckets.proofs.Drops.{others}
 use Rattle.buckets.proofs.Once.{home_of, once_of}
@@ -206,6 +206,20 @@ queue_in nodes chains places holders a k old i ek eo =
     let kn = known nodes chains places holders a k old i ek eo in
     ap (on a) (sym kn.row_is) ∙ on-bucket places (rows (get nodes) (length places - 1) chains) i.consistent a k
     (rw (length-rows (get nodes) (length places - 1) chains) (sym ek))
+
+no_key : {A : Type 0} (o : Option A) → is_some o ≡ false → o ≡ None
+no_key None h = refl
+no_key (Some x) h = absurd cc
+
+-- nobody sleeps on an address whose bucket's chain has no node
+pub none_in : (nodes : Slab Node) (chains : List Chain) (places : List (Option Addr)) (holders : List (Option ℕ))
+    (a k : ℕ) (old : Chain)
+    → IsStored nodes chains places holders → k ≡ a % length chains → old ≡ get_or chains k old
+    → is_some old.first ≡ false → queue (seen nodes chains places holders) a ≡ []
+none_in nodes chains places holders a k old i ek eo none =
+    sym (queue_in nodes chains places holders a k old i ek eo)
+    ∙ ap (λ first. on a (walk (get nodes) (length places - 1) (node_at (get nodes) first))) (no_key old.first none)
+    ∙ ap (on a) (walk_none (get nodes) (length places - 1))
 
 -- there is a bucket
 pub some_chain : (nodes : Slab Node) (chains : List Chain) (places : List (Option Addr)) (holders : List (Option ℕ))

@@ -154,7 +154,28 @@ impl Buckets {
 
     /// Takes the first `n` sleepers out of the list of `a`, all where there are no more, and writes them into `taken`, in
     /// order.
+    #[inline(always)]
     pub fn take(&mut self, a: Addr, n: u32, taken: &mut ThreadList)
+        ensures taken { taken.new ≡ take n (queue self.old a.0) }
+        ensures rest { queue self.new a.0 ≡ drop n (queue self.old a.0) }
+        ensures others { (b : ℕ) → b ≢ a.0 → queue self.new b ≡ queue self.old b }
+        ensures places { place_of self.new ≡ with_place (place_of self.old) taken.new None }
+        ensures holders { self.new.holders ≡ self.old.holders }
+        ensures threads { thread_count self.new ≡ thread_count self.old }
+        ensures sound { IsSound self.old × IsSound self.new }
+    {
+        let bucket = bucket_of(a, self.chains.len());
+        if self.chains[bucket].first.is_none() {
+            self.nobody(taken);
+            return;
+        }
+        self.take_some(a, n, taken);
+    }
+
+    // The same where somebody sleeps in the bucket of `a`, as seldom is so. Apart, so that who finds nobody there doesn't
+    // pay for its loops.
+    #[inline(never)]
+    fn take_some(&mut self, a: Addr, n: u32, taken: &mut ThreadList)
         ensures taken { taken.new ≡ take n (queue self.old a.0) }
         ensures rest { queue self.new a.0 ≡ drop n (queue self.old a.0) }
         ensures others { (b : ℕ) → b ≢ a.0 → queue self.new b ≡ queue self.old b }

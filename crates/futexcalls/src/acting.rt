@@ -15,6 +15,7 @@ use buckets::Buckets;
 use words::{Addr, Mem};
 
 // The word of thread `t`'s call is compared: where it differs the call is over.
+#[inline(always)]
 fn compare_word(
     mem: &Mem,
     buckets: &mut Buckets,
@@ -41,6 +42,7 @@ fn compare_word(
 }
 
 /// The word of thread `t`'s call, which is one that compares, is compared.
+#[inline(always)]
 pub(crate) fn compare(mem: &Mem, buckets: &mut Buckets, t: u32, call: FutexCall) -> FutexProgress
     requires lies { LiesIn (length mem.now) call }
     requires stands { IsPhase (bucket_count buckets.old) FutexPhase.Compare call }
@@ -65,6 +67,7 @@ pub(crate) fn compare(mem: &Mem, buckets: &mut Buckets, t: u32, call: FutexCall)
 }
 
 // What the act of thread `t`'s call does to the sleepers. Whom it wakes and moves is written into `lists`.
+#[inline(always)]
 fn act_on_sleepers(buckets: &mut Buckets, t: u32, call: FutexCall, lists: &mut FutexLists)
     requires thread { (1 ≤ t) × (t ≤ thread_count buckets.old) }
     requires awake { place_of buckets.old t ≡ None }
@@ -101,6 +104,7 @@ fn act_on_sleepers(buckets: &mut Buckets, t: u32, call: FutexCall, lists: &mut F
 }
 
 /// Thread `t`'s call acts, and gives up its buckets. Whom it wakes and moves is written into `lists`.
+#[inline(always)]
 pub(crate) fn act(
     buckets: &mut Buckets,
     t: u32,

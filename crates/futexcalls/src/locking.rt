@@ -12,6 +12,7 @@ use crate::taking::{greater_of, lesser_of};
 use buckets::Buckets;
 
 // Thread `t` takes bucket `k`, unless a thread holds it.
+#[inline(always)]
 fn lock(buckets: &mut Buckets, t: u32, k: u32, next: FutexPhase) -> FutexProgress
     requires { k < bucket_count buckets.old }
     ensures piece { (lists : FutexLists)
@@ -39,6 +40,7 @@ fn behind_lesser(a: u32, b: u32) -> FutexPhase
 }
 
 /// Thread `t` takes the bucket of its call, of two the lesser.
+#[inline(always)]
 pub(crate) fn lock_first(buckets: &mut Buckets, t: u32, call: FutexCall) -> FutexProgress
     ensures piece { (lists : FutexLists)
         → TakesSo t (takes_at (bucket_count buckets.old) FutexPhase.First call)
@@ -70,6 +72,7 @@ pub(crate) fn lock_first(buckets: &mut Buckets, t: u32, call: FutexCall) -> Fute
 }
 
 /// Thread `t` takes the greater bucket of its call, which has two.
+#[inline(always)]
 pub(crate) fn lock_second(buckets: &mut Buckets, t: u32, call: FutexCall) -> FutexProgress
     requires stands { IsPhase (bucket_count buckets.old) FutexPhase.Second call }
     ensures piece { (lists : FutexLists)
@@ -95,6 +98,7 @@ pub(crate) fn lock_second(buckets: &mut Buckets, t: u32, call: FutexCall) -> Fut
 }
 
 /// Thread `t` gives up the buckets of its call, which it holds.
+#[inline(always)]
 pub(crate) fn give_up(buckets: &mut Buckets, t: u32, call: FutexCall)
     requires held { (k : ℕ) → names (buckets_of (bucket_count buckets.old) call) k ≡ true
         → holder_of buckets.old k ≡ Some t }

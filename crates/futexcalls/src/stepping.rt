@@ -17,6 +17,7 @@ use words::Mem;
 /// Takes the next piece of a futex call of thread `t`, which is awake and holds the buckets that its phase says. Either
 /// the call goes on to another piece, or a held bucket is in its way and nothing has changed, or it is over and has
 /// given up its buckets. Whom a call that has acted woke and moved is written into `lists`.
+#[inline(always)]
 pub fn futex_step(
     mem: &Mem,
     buckets: &mut Buckets,

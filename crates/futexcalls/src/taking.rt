@@ -50,6 +50,7 @@ fn second_bucket(buckets: &Buckets, call: FutexCall) -> Option<u32>
 }
 
 /// The bucket that a call takes next, in the phase before which it stands, if it takes one.
+#[inline(always)]
 pub fn next_bucket(buckets: &Buckets, call: FutexCall, phase: FutexPhase) -> Option<u32>
     ensures value { result ≡ takes_at (bucket_count buckets.now) phase call }
 {

@@ -35,13 +35,30 @@ impl ThreadBits {
     }
 
     // Makes the bits right of all threads of a set.
+    #[inline(always)]
     fn refresh_all(&mut self, common: &Common, threads: &[Local], set: &ThreadSet)
         requires few { length threads.now ≤ thread_count common.now.sleepers }
         ensures kept { KeepsBits self.old.words self.new.words (parts_of common.now threads.now) }
         ensures right { (u : ℕ) → IsThread u → has set.now u ≡ true
             → IsBitSo self.new.words (parts_of common.now threads.now) u }
     {
-        if set.is_empty() {
+        if !set.is_empty() {
+            self.refresh_some(common, threads, set);
+        }
+    }
+
+    // The same of a set that has a thread. Apart, since most steps wake nobody, and needn't pay for its loop.
+    #[inline(never)]
+    fn refresh_some(&mut self, common: &Common, threads: &[Local], set: &ThreadSet)
+        requires few { length threads.now ≤ thread_count common.now.sleepers }
+        ensures kept { KeepsBits self.old.words self.new.words (parts_of common.now threads.now) }
+        ensures right { (u : ℕ) → IsThread u → has set.now u ≡ true
+            → IsBitSo self.new.words (parts_of common.now threads.now) u }
+    {
+        if let ThreadSet::Single(t) = set {
+            if *t > 0 && *t <= MOST_THREADS {
+                self.refresh(common, threads, *t);
+            }
             return;
         }
         let mut from = 1;
@@ -72,6 +89,7 @@ impl ThreadBits {
 
     /// Makes the bits right behind a step of thread `t`, which woke these, where `made` threads were made before it: a
     /// step changes whether others can move no more than that.
+    #[inline(always)]
     pub(crate) fn refresh_after(
         &mut self,
         common: &Common,

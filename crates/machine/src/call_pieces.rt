@@ -30,6 +30,7 @@ fn name_of(call: FutexCall) -> EventName
 }
 
 // The answer of a call that is over, to which these lists were lent; its event is put in its place.
+#[inline(always)]
 fn tell(call: FutexCall, answer: FutexAnswer, lists: &FutexLists, event: &mut Event) -> u32
     requires woken { All IsThread (woken_in (answered answer lists.now)) }
     requires moved { All IsThread (moved_in (answered answer lists.now)) }
@@ -59,6 +60,7 @@ impl Common {
     }
 
     /// Takes the next piece of a futex call of thread `t`, which is awake and holds the buckets that its phase says.
+    #[inline(always)]
     pub fn call_piece(
         &mut self,
         t: u32,

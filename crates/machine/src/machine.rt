@@ -416,6 +416,7 @@ impl Machine {
     }
 
     /// Whether the words of a futex call lie in the memory.
+    #[inline(always)]
     pub fn has_words(&self, call: FutexCall) -> bool
         ensures { MatchBool result (LiesIn (length self.now.words) call)
             (LiesIn (length self.now.words) call → ⊥) }
@@ -463,6 +464,7 @@ impl Machine {
     /// Takes a piece of the futex call that thread `t` makes, which is awake, stands before this piece, and holds the
     /// buckets that its phase says; the words of the call lie in the memory. Behind the last piece the thread goes on
     /// with the call's answer.
+    #[inline(always)]
     pub fn take_piece(
         &mut self,
         t: u32,

@@ -48,7 +48,21 @@ impl ThreadSet {
     }
 
     /// Becomes the set of these threads, which are from 1 to 1,000.
+    #[inline(always)]
     pub fn put(&mut self, threads: &[u32])
+        requires { All IsMember threads.now }
+        ensures { self.new ≡ set_of threads.now }
+    {
+        match threads {
+            [] => self.clear(),
+            [t] => *self = ThreadSet::Single(*t),
+            _ => self.put_several(threads),
+        }
+    }
+
+    // The same of several threads. Apart, since most calls have one at most.
+    #[inline(never)]
+    fn put_several(&mut self, threads: &[u32])
         requires { All IsMember threads.now }
         ensures { self.new ≡ set_of threads.now }
     {

@@ -2,6 +2,7 @@
 //! between.
 #![tactic(auto)]
 
+mod calls;
 mod laws;
 mod local_steps;
 mod movers;

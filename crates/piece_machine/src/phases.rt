@@ -71,7 +71,17 @@ impl Phases {
         requires { t < length self.old }
         ensures { self.new ≡ slice_set self.old t phase }
     {
-        let before = self.of_threads[t as usize];
+        let before = self.at(t);
+        self.put_from(t, before, phase);
+    }
+
+    /// Thread `t`, which is in the phase `before`, comes to another. Who knows both spares looking and counting.
+    #[inline(always)]
+    pub fn put_from(&mut self, t: u32, before: FutexPhase, phase: FutexPhase)
+        requires thread { t < length self.old }
+        requires before { before ≡ phase_in self.old t }
+        ensures { self.new ≡ slice_set self.old t phase }
+    {
         self.of_threads[t as usize] = phase;
         self.inside = self.inside + counted(phase) - counted(before);
     }

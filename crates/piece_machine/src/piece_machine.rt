@@ -3,20 +3,19 @@ ghost use Rattle.buckets.specs.BucketCount.{IsBucketCount};
 ghost use Rattle.locals.specs.Looks.{look};
 ghost use Rattle.locals.specs.Requests.{next_step_of};
 ghost use Rattle.locals.specs.Threads.{Thread};
-ghost use Rattle.machine.specs.ConcretePieces.{MakesCall};
 ghost use Rattle.machine.specs.PieceStates.{opening_pieces, call_of};
 ghost use Rattle.machine.specs.RequestMeanings.{asked_of};
 ghost use Rattle.machine.specs.States.{state_of, thread_of};
 ghost use Rattle.machine.specs.Views.{concrete};
 ghost use Rattle.piece_machine.specs.PieceConcrete.{opening_at, piece_of};
 ghost use Rattle.piece_machine.specs.PieceDetermined.{IsFit};
-ghost use Rattle.piece_machine.specs.PieceViews.{pieces, parts, IsComeTo, IsApart, expected_of, told_next};
+ghost use Rattle.piece_machine.specs.PieceViews.{pieces, parts, IsComeTo, IsApart};
 
 use crate::phases::Phases;
-use futexcalls::{FutexCall, FutexPhase};
+use futexcalls::FutexCall;
 use isa::Image;
 use locals::{NextStep, Request};
-use machine::{CallStep, Event, EventName, Machine, StepFault};
+use machine::{Event, Machine, StepFault};
 use std::alloc::{AllocError, Global};
 use std::marker::Model;
 
@@ -70,26 +69,6 @@ pub(crate) fn call_in(request: Request) -> Option<FutexCall>
         | Request::Return
         | Request::ReturnValue(_)
         | Request::Fault(_) => None,
-    }
-}
-
-// The word that a call expects, where it expects one.
-fn expected_word(call: FutexCall) -> u32
-    ensures { result ≡ expected_of call }
-{
-    match call {
-        FutexCall::Wait { expected, .. } | FutexCall::Requeue { expected, .. } => expected,
-        FutexCall::Wake { .. } => 0,
-    }
-}
-
-// Tells of a piece that takes this bucket, or else compares the word, and behind which its call goes on.
-fn tell(bucket: Option<u32>, call: FutexCall, event: &mut Event)
-    ensures { event.new ≡ told_next bucket call }
-{
-    match bucket {
-        Some(bucket) => event.put(EventName::FutexLock, bucket),
-        None => event.put(EventName::FutexCompare, expected_word(call)),
     }
 }
 
@@ -159,7 +138,8 @@ impl PieceMachine {
     }
 
     /// The step of thread `t`, which was made and is awake, whose next step is `next`. It is `step` for a caller that
-    /// has asked for the next step already.
+    /// has asked for the next step already. Waits and wakes come first, since most such steps are pieces of theirs.
+    #[inline(always)]
     pub fn step_as(&mut self, t: u32, next: NextStep, event: &mut Event) -> Result<(), StepFault>
         requires room { 1 ≤ self.old.view.room }
         requires thread { (0 < t) × (t ≤ length self.old.view.threads) }
@@ -175,8 +155,38 @@ impl PieceMachine {
         ensures room { self.old.view.room ≤ self.new.view.room + 1 }
     {
         match next {
+            NextStep::Shared(Request::Wait { address, expected }) => {
+                self.wait_step(t, address, expected, event)
+            }
+            NextStep::Shared(Request::Wake { address, count }) => {
+                self.wake_step(t, address, count, event)
+            }
+            _ => self.other_step(t, event),
+        }
+    }
+
+    // The step of thread `t`, which was made and is awake. It asks for the next step anew, so that who has it at hand
+    // needn't put it into memory once more for the few steps that come here.
+    #[inline(never)]
+    fn other_step(&mut self, t: u32, event: &mut Event) -> Result<(), StepFault>
+        requires room { 1 ≤ self.old.view.room }
+        requires thread { (0 < t) × (t ≤ length self.old.view.threads) }
+        requires awake { (state_of (concrete self.old.view)).asleep t ≡ None }
+        ensures done { OnOk result (piece_of self.old.view.program (parts self.old) t
+            ≡ Ok (parts self.new, event.new)) }
+        ensures err { IfErr result
+            (λ f. (piece_of self.old.view.program (parts self.old) t ≡ Err f)
+            × (self.new ≡ self.old)) }
+        ensures program { self.new.view.program ≡ self.old.view.program }
+        ensures room { self.old.view.room ≤ self.new.view.room + 1 }
+    {
+        let next = self.machine.next_step(t);
+        match next {
             NextStep::Shared(request) => match call_in(request) {
-                Some(call) => self.call_step(t, call, event),
+                Some(call) => {
+                    let phase = self.phases.at(t);
+                    self.call_step(t, call, phase, event)
+                }
                 None => self.whole_step(t, next, event),
             },
             NextStep::Exit(phase) => {
@@ -206,37 +216,5 @@ impl PieceMachine {
     {
         self.machine.step_as(t, next, event)?;
         Ok(())
-    }
-
-    // A piece of the futex call that thread `t` makes, which is awake.
-    fn call_step(&mut self, t: u32, call: FutexCall, event: &mut Event) -> Result<(), StepFault>
-        requires thread { t ≤ length self.old.view.threads }
-        requires makes { MakesCall self.old.view t call }
-        requires awake { (pieces self.old).base.asleep t ≡ None }
-        ensures done { OnOk result (piece_of self.old.view.program (parts self.old) t
-            ≡ Ok (parts self.new, event.new)) }
-        ensures err { IfErr result
-            (λ f. (piece_of self.old.view.program (parts self.old) t ≡ Err f)
-            × (self.new ≡ self.old)) }
-        ensures program { self.new.view.program ≡ self.old.view.program }
-        ensures room { self.new.view.room ≡ self.old.view.room }
-    {
-        if !self.machine.has_words(call) {
-            return Err(StepFault::Broken);
-        }
-        let phase = self.phases.at(t);
-        let bucket = self.machine.next_bucket(call, phase);
-        match self.machine.take_piece(t, call, phase, event) {
-            CallStep::Next(next) => {
-                self.phases.put(t, next);
-                tell(bucket, call, event);
-                Ok(())
-            }
-            CallStep::Blocked => Err(StepFault::CannotMove),
-            CallStep::Done => {
-                self.phases.put(t, FutexPhase::First);
-                Ok(())
-            }
-        }
     }
 }

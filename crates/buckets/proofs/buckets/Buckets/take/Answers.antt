@@ -1,43 +1,38 @@
--- The first on the address leave one by one.
-use Rattle.std.proofs.Common.{◌≤◌, length, ◌∙◌, get_or}
-use Rattle.std.proofs.lemmas.List.{get_or_default}
-use Rattle.buckets.proofs.Takes.{Left-none, Left-next, Left-more, Left-all}
+-- Where the bucket's chain has no node nobody sleeps on the address.
+use Rattle.std.proofs.Common.{◌≡◌, ◌%◌, [], length, take, drop, ap, sym, ◌∙◌, arith}
+use Rattle.std.proofs.Math.Seq.{take-nil, drop-nil}
+use Rattle.buckets.specs.Sleepers.{queue}
+use Rattle.buckets.proofs.Stores.{none_in, some_chain}
 use Rattle.buckets.proofs.buckets.Buckets.take.Goals as goal
 
-pub loop-t-init : goal.loop-t-init
-loop-t-init c = Left-none _ _ _ c.threads_at.ensures.sound
+pub bucket_of-bucket-requires : goal.bucket_of-bucket-requires
+bucket_of-bucket-requires c =
+    let b = c.self.inside in
+    omega (arith, some_chain b.nodes b.chains.items b.places.items b.holders.items c.self.invariant)
 
-pub drop_out-requires : goal.drop_out-requires
-drop_out-requires c =
-    let h = c.threads_at.ensures in
-    let is = c.as_slice-t-items.ensures ∙ h.value in
-    Left-next c.args.self.now c.loop-t.self c.as_slice-t-items.result.now c.args.a.0 c.args.n c.loop-t.t-index _ h.sound is
-    c.loop-t.invariant c.loop-t-test.true
-    (get_or_default c.as_slice-t-items.result.now c.loop-t.t-index 0 _ c.loop-t-test.true)
+pub index-requires : goal.index-requires
+index-requires c =
+    let b = c.self.inside in
+    let ek : c.bucket_of-bucket.result ≡ c.args.a.0 % length b.chains.items = c.bucket_of-bucket.ensures
+    ∙ ap (λ n. c.args.a.0 % n) (omega arith) in
+    omega (arith, ek, some_chain b.nodes b.chains.items b.places.items b.holders.items c.self.invariant)
 
-pub loop-t-preserved : goal.loop-t-preserved
-loop-t-preserved c =
-    let h = c.threads_at.ensures in
-    let is = c.as_slice-t-items.ensures ∙ h.value in
-    let e = c.drop_out.ensures in
-    Left-more c.args.self.now c.loop-t.self c.drop_out.new.self c.as_slice-t-items.result.now c.args.a.0 c.args.n
-    c.loop-t.t-index (get_or c.as_slice-t-items.result.now c.loop-t.t-index 0) h.sound is c.loop-t.invariant
-    c.loop-t-test.true (get_or_default c.as_slice-t-items.result.now c.loop-t.t-index 0 _ c.loop-t-test.true)
-    (record { queues = e.queues; places = e.places; holders = e.holders; threads = e.threads; sound = e.sound })
+pub returns-then-is_none-clause-taken : goal.returns-then-is_none-clause-taken
+returns-then-is_none-clause-taken c =
+    let b = c.self.inside in
+    let ek : c.bucket_of-bucket.result ≡ c.args.a.0 % length b.chains.items = c.bucket_of-bucket.ensures
+    ∙ ap (λ n. c.args.a.0 % n) (omega arith) in
+    let empty : queue c.args.self.now c.args.a.0 ≡ [] =
+    rw c.self.view_is at (none_in b.nodes b.chains.items b.places.items b.holders.items c.args.a.0
+    c.bucket_of-bucket.result c.index.result.now c.self.invariant ek c.index.ensures c.if-is_none.ensures) in
+    c.nobody.ensures.none ∙ sym (ap (take c.args.n) empty ∙ take-nil c.args.n)
 
-pub returns : goal.returns
-returns c =
-    let h = c.threads_at.ensures in
-    let l = rw c.as_slice-t-items.ensures at c.loop-t.invariant in
-    let past : length c.threads_at.new.threads ≤ c.loop-t.t-index = rw c.as_slice-t-items.ensures at c.loop-t-test.false in
-    let t = Left-all c.args.self.now c.loop-t.self c.threads_at.new.threads c.args.a.0 c.args.n c.loop-t.t-index h.sound h.value l
-    past in
-    record {
-      taken = t.taken;
-      rest = t.rest;
-      others = t.others;
-      places = t.places;
-      holders = t.holders;
-      threads = t.threads;
-      sound = t.sound;
-    }
+pub returns-then-is_none-clause-rest : goal.returns-then-is_none-clause-rest
+returns-then-is_none-clause-rest c =
+    let b = c.self.inside in
+    let ek : c.bucket_of-bucket.result ≡ c.args.a.0 % length b.chains.items = c.bucket_of-bucket.ensures
+    ∙ ap (λ n. c.args.a.0 % n) (omega arith) in
+    let empty : queue c.args.self.now c.args.a.0 ≡ [] =
+    rw c.self.view_is at (none_in b.nodes b.chains.items b.places.items b.holders.items c.args.a.0
+    c.bucket_of-bucket.result c.index.result.now c.self.invariant ek c.index.ensures c.if-is_none.ensures) in
+    empty ∙ sym (ap (drop c.args.n) empty ∙ drop-nil c.args.n)

@@ -26,7 +26,8 @@ take_piece-requires-clause-stands c =
     let v = c.self.inside.machine in
     let ph = c.self.inside.phases in
     let m = subst (λ (q : PieceView). MakesCall q.view c.args.t c.args.call) (sym c.self.view_is) c.requires.makes in
-    let at = sym c.at-phase.ensures in
+    let at = sym (subst (λ (q : PieceView). c.args.phase ≡ phase_in q.phases c.args.t) (sym c.self.view_is)
+    c.requires.phase) in
     elim (stands_in v.program (pieces_of v (phase_in ph)) c.args.t m.thread c.args.call m.go c.self.invariant.right
     m.stands m.asks) [
       | inl f ↦ inl (sym at ∙ f)
@@ -38,7 +39,8 @@ take_piece-requires-clause-held c = λ k h.
     let v = c.self.inside.machine in
     let ph = c.self.inside.phases in
     let m = subst (λ (q : PieceView). MakesCall q.view c.args.t c.args.call) (sym c.self.view_is) c.requires.makes in
-    let at = sym c.at-phase.ensures in
+    let at = sym (subst (λ (q : PieceView). c.args.phase ≡ phase_in q.phases c.args.t) (sym c.self.view_is)
+    c.requires.phase) in
     holds v.program (pieces_of v (phase_in ph)) c.args.t m.thread c.args.call m.go k c.self.invariant.right
     m.stands m.asks
     (subst (λ (f : FutexPhase). names (held_at (bucket_count v.sleepers) f (Some c.args.call)) k ≡ true) (sym at) h)
@@ -51,12 +53,13 @@ invariant_of-self c =
     let m = subst (λ (q : PieceView). MakesCall q.view c.args.t c.args.call) (sym c.self.view_is) c.requires.makes in
     let awake : (state_of (concrete v)).asleep c.args.t ≡ None =
     subst (λ (q : PieceView). (pieces q).base.asleep c.args.t ≡ None) (sym c.self.view_is) c.requires.awake in
-    let at = sym c.at-phase.ensures in
+    let at = sym (subst (λ (q : PieceView). c.args.phase ≡ phase_in q.phases c.args.t) (sym c.self.view_is)
+    c.requires.phase) in
     let e = c.in-Next.ensures in
-    subst (λ (phs : List FutexPhase). IsKept v' phs) (sym c.put.ensures)
+    subst (λ (phs : List FutexPhase). IsKept v' phs) (sym c.put_from.ensures)
     (kept_step v v' ph (slice_set ph c.args.t c.in-Next.next) c.args.t _ c.self.invariant e.program
     (length-set ph c.args.t c.in-Next.next)
-    (taken_next v v' ph c.args.t c.args.call c.at-phase.result c.in-Next.next
+    (taken_next v v' ph c.args.t c.args.call c.args.phase c.in-Next.next
     c.take_piece.new.event c.self.invariant m
     c.if-not-has_words.ensures awake at e.order (e.piece (phase_in ph) m.thread at m.stands)))
 
@@ -68,23 +71,25 @@ returns-in-Next-clause-done c =
     let m = subst (λ (q : PieceView). MakesCall q.view c.args.t c.args.call) (sym c.self.view_is) c.requires.makes in
     let awake : (state_of (concrete v)).asleep c.args.t ≡ None =
     subst (λ (q : PieceView). (pieces q).base.asleep c.args.t ≡ None) (sym c.self.view_is) c.requires.awake in
-    let at = sym c.at-phase.ensures in
+    let at = sym (subst (λ (q : PieceView). c.args.phase ≡ phase_in q.phases c.args.t) (sym c.self.view_is)
+    c.requires.phase) in
     let e = c.in-Next.ensures in
-    let told : told_next (takes_at (bucket_count v.sleepers) c.at-phase.result c.args.call) c.args.call ≡ c.tell.new.event =
+    let told : told_next (takes_at (bucket_count v.sleepers) c.args.phase c.args.call) c.args.call ≡ c.tell.new.event =
     ap (λ o. told_next o c.args.call) (sym c.next_bucket-bucket.ensures) ∙ sym c.tell.ensures in
     subst (λ (q : PieceView). piece_of q.view.program (parts q) c.args.t
-    ≡ (let o : Outcome = Ok (parts (record { view = v'; phases = c.put.new.self }), c.tell.new.event) in o)) c.self.view_is
-    (taken_next v v' ph c.args.t c.args.call c.at-phase.result c.in-Next.next
+    ≡ (let o : Outcome = Ok (parts (record { view = v'; phases = c.put_from.new.self }), c.tell.new.event) in o)) c.self.view_is
+    (taken_next v v' ph c.args.t c.args.call c.args.phase c.in-Next.next
     c.take_piece.new.event c.self.invariant m
     c.if-not-has_words.ensures awake at e.order (e.piece (phase_in ph) m.thread at m.stands)
-    ∙ (λ i. Ok (parts (record { view = v'; phases = sym c.put.ensures i }), told i)))
+    ∙ (λ i. Ok (parts (record { view = v'; phases = sym c.put_from.ensures i }), told i)))
 
 pub invariant_of-self-in-Blocked : goal.invariant_of-self-in-Blocked
 invariant_of-self-in-Blocked c =
     let v = c.self.inside.machine in
     let ph = c.self.inside.phases in
     let m = subst (λ (q : PieceView). MakesCall q.view c.args.t c.args.call) (sym c.self.view_is) c.requires.makes in
-    let at = sym c.at-phase.ensures in
+    let at = sym (subst (λ (q : PieceView). c.args.phase ≡ phase_in q.phases c.args.t) (sym c.self.view_is)
+    c.requires.phase) in
     subst (λ (q : View). IsKept q ph) (sym (c.in-Blocked.ensures.piece (phase_in ph) m.thread at m.stands).1)
     c.self.invariant
 
@@ -93,7 +98,8 @@ returns-in-Blocked-clause-err c =
     let v = c.self.inside.machine in
     let ph = c.self.inside.phases in
     let m = subst (λ (q : PieceView). MakesCall q.view c.args.t c.args.call) (sym c.self.view_is) c.requires.makes in
-    let at = sym c.at-phase.ensures in
+    let at = sym (subst (λ (q : PieceView). c.args.phase ≡ phase_in q.phases c.args.t) (sym c.self.view_is)
+    c.requires.phase) in
     let awake : (state_of (concrete v)).asleep c.args.t ≡ None =
     subst (λ (q : PieceView). (pieces q).base.asleep c.args.t ≡ None) (sym c.self.view_is) c.requires.awake in
     let b = c.in-Blocked.ensures.piece (phase_in ph) m.thread at m.stands in
@@ -113,12 +119,13 @@ invariant_of-self-in-Done c =
     let m = subst (λ (q : PieceView). MakesCall q.view c.args.t c.args.call) (sym c.self.view_is) c.requires.makes in
     let awake : (state_of (concrete v)).asleep c.args.t ≡ None =
     subst (λ (q : PieceView). (pieces q).base.asleep c.args.t ≡ None) (sym c.self.view_is) c.requires.awake in
-    let at = sym c.at-phase.ensures in
+    let at = sym (subst (λ (q : PieceView). c.args.phase ≡ phase_in q.phases c.args.t) (sym c.self.view_is)
+    c.requires.phase) in
     let e = c.in-Done.ensures in
-    subst (λ (phs : List FutexPhase). IsKept v' phs) (sym c.put-in-Done.ensures)
+    subst (λ (phs : List FutexPhase). IsKept v' phs) (sym c.put_from-in-Done.ensures)
     (kept_step v v' ph (slice_set ph c.args.t First) c.args.t c.take_piece.new.event c.self.invariant e.program
     (length-set ph c.args.t First)
-    (taken_done v v' ph c.args.t c.args.call c.at-phase.result c.take_piece.new.event c.self.invariant m
+    (taken_done v v' ph c.args.t c.args.call c.args.phase c.take_piece.new.event c.self.invariant m
     c.if-not-has_words.ensures awake at (subst (λ (p : Program). IsWellFormed p (concrete v')) e.program e.holds) e.order
     (e.piece (phase_in ph) m.thread at m.stands)))
 
@@ -130,12 +137,13 @@ returns-in-Done-clause-done c =
     let m = subst (λ (q : PieceView). MakesCall q.view c.args.t c.args.call) (sym c.self.view_is) c.requires.makes in
     let awake : (state_of (concrete v)).asleep c.args.t ≡ None =
     subst (λ (q : PieceView). (pieces q).base.asleep c.args.t ≡ None) (sym c.self.view_is) c.requires.awake in
-    let at = sym c.at-phase.ensures in
+    let at = sym (subst (λ (q : PieceView). c.args.phase ≡ phase_in q.phases c.args.t) (sym c.self.view_is)
+    c.requires.phase) in
     let e = c.in-Done.ensures in
     subst (λ (q : PieceView). piece_of q.view.program (parts q) c.args.t
-    ≡ (let o : Outcome = Ok (parts (record { view = v'; phases = c.put-in-Done.new.self }), c.take_piece.new.event)
+    ≡ (let o : Outcome = Ok (parts (record { view = v'; phases = c.put_from-in-Done.new.self }), c.take_piece.new.event)
     in o)) c.self.view_is
-    (taken_done v v' ph c.args.t c.args.call c.at-phase.result c.take_piece.new.event c.self.invariant m
+    (taken_done v v' ph c.args.t c.args.call c.args.phase c.take_piece.new.event c.self.invariant m
     c.if-not-has_words.ensures awake at (subst (λ (p : Program). IsWellFormed p (concrete v')) e.program e.holds) e.order
     (e.piece (phase_in ph) m.thread at m.stands)
-    ∙ (λ i. Ok (parts (record { view = v'; phases = sym c.put-in-Done.ensures i }), c.take_piece.new.event)))
+    ∙ (λ i. Ok (parts (record { view = v'; phases = sym c.put_from-in-Done.ensures i }), c.take_piece.new.event)))

@@ -1,38 +1,36 @@
--- What the thread does next says which of the steps it is.
-use Rattle.std.proofs.Common.{refl, sym, ◌∙◌, subst}
-use Rattle.machine.specs.ConcretePieces.{IsHeldUp}
+-- A wait and a wake are calls that the thread makes.
+use Rattle.std.proofs.Common.{rules, ◌≡◌, ℕ, Some, ap, sym, ◌∙◌}
+use Rattle.words.specs.declared.mem.Addr.{Addr}
+use Rattle.locals.specs.declared.request.NextStep.TheVariants as next
+use Rattle.locals.specs.declared.request.Request.TheVariants as request
+use Rattle.futexcalls.specs.declared.pieces.FutexCall.TheVariants.{Wait, Wake}
+use Rattle.machine.specs.PieceStates.{call_of}
+use Rattle.machine.specs.RequestMeanings.{asked_of}
 use Rattle.machine.specs.Views.{concrete}
-use Rattle.piece_machine.specs.PieceViews.{PieceView, pieces}
 use Rattle.piece_machine.proofs.Blocked.{never_none}
-use Rattle.piece_machine.proofs.OwnCalls.{makes_call, apart_asks, apart_leaves, apart_others}
+use Rattle.piece_machine.proofs.OwnCalls.{makes_call}
 use Rattle.piece_machine.proofs.piece_machine.PieceMachine.step_as.Goals as goal
 
-pub call_step-requires-clause-makes : goal.call_step-requires-clause-makes
-call_step-requires-clause-makes c =
-    let v = c.args.self.now.view in
-    makes_call v c.args.t c.in-Shared.request c.in-Some.call
-    (never_none (concrete v) c.args.t c.requires.thread.0 c.requires.thread.1)
-    (λ x at. sym c.in-Shared.is ∙ c.requires.next x at) c.in-Some.ensures
+is_wait : (a : Addr) (expected : ℕ) → Some (Wait a expected) ≡ call_of (asked_of (request.Wait a expected))
+is_wait a expected = search rules
 
-pub whole_step-requires-clause-apart : goal.whole_step-requires-clause-apart
-whole_step-requires-clause-apart c =
-    let v = c.args.self.now.view in
-    apart_asks v (pieces c.args.self.now) c.args.t c.in-Shared.request refl c.requires.awake
-    (never_none (concrete v) c.args.t c.requires.thread.0 c.requires.thread.1)
-    (λ x at. sym c.in-Shared.is ∙ c.requires.next x at) c.in-None.ensures
+is_wake : (a : Addr) (count : ℕ) → Some (Wake a count) ≡ call_of (asked_of (request.Wake a count))
+is_wake a count = search rules
 
-pub whole_step-requires-in-Exit-clause-apart : goal.whole_step-requires-in-Exit-clause-apart
-whole_step-requires-in-Exit-clause-apart c =
+pub wait_step-requires-clause-makes : goal.wait_step-requires-clause-makes
+wait_step-requires-clause-makes c =
     let v = c.args.self.now.view in
-    let free = subst (λ (q : PieceView). IsHeldUp q.view.words q.view.sleepers c.args.t c.in-Exit.phase → ⊥) c.self.view_is
-    c.if-is_held_up.ensures in
-    apart_leaves v (pieces c.args.self.now) c.args.t c.in-Exit.phase refl c.requires.awake
-    (never_none (concrete v) c.args.t c.requires.thread.0 c.requires.thread.1)
-    (λ x at. sym c.in-Exit.is ∙ c.requires.next x at) free
+    let made = never_none (concrete v) c.args.t c.requires.thread.0 c.requires.thread.1 in
+    let is : c.args.next ≡ next.Shared (request.Wait c.in-Shared-Wait.address c.in-Shared-Wait.expected) =
+    c.in-Shared-Wait.is ∙ ap next.Shared (rw c.in-Shared-Wait.is at c.in-Shared-Wait.field-0-is) in
+    makes_call v c.args.t _ _ made (λ x at. sym is ∙ c.requires.next x at)
+    (is_wait c.in-Shared-Wait.address c.in-Shared-Wait.expected)
 
-pub whole_step-requires-in_default-clause-apart : goal.whole_step-requires-in_default-clause-apart
-whole_step-requires-in_default-clause-apart c =
+pub wake_step-requires-clause-makes : goal.wake_step-requires-clause-makes
+wake_step-requires-clause-makes c =
     let v = c.args.self.now.view in
-    apart_others v (pieces c.args.self.now) c.args.t c.args.next refl c.requires.awake
-    (never_none (concrete v) c.args.t c.requires.thread.0 c.requires.thread.1) c.requires.next c.in_default.not-Shared
-    c.in_default.not-Exit
+    let made = never_none (concrete v) c.args.t c.requires.thread.0 c.requires.thread.1 in
+    let is : c.args.next ≡ next.Shared (request.Wake c.in-Shared-Wake.address c.in-Shared-Wake.count) =
+    c.in-Shared-Wake.is ∙ ap next.Shared (rw c.in-Shared-Wake.is at c.in-Shared-Wake.field-0-is) in
+    makes_call v c.args.t _ _ made (λ x at. sym is ∙ c.requires.next x at)
+    (is_wake c.in-Shared-Wake.address c.in-Shared-Wake.count)

@@ -4,7 +4,7 @@ use Rattle.std.proofs.lemmas.List.Elements.{All-take}
 use Rattle.machine.specs.declared.thread_set.ThreadSet.TheVariants.{Nobody}
 use Rattle.machine.specs.ThreadSets.{with_thread, IsMember, HasMember}
 use Rattle.machine.proofs.Sets.{member_of}
-use Rattle.machine.proofs.thread_set.ThreadSet.put.Goals as goal
+use Rattle.machine.proofs.thread_set.ThreadSet.put_several.Goals as goal
 
 pub loop-t-preserved : goal.loop-t-preserved
 loop-t-preserved c = c.insert.ensures ∙ ap (λ s. with_thread s (get_or c.args.threads.now c.loop-t.t-index 0)) c.loop-t.invariant

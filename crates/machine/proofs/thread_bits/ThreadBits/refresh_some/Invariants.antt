@@ -1,7 +1,7 @@
 use Rattle.std.proofs.Common.{◌≡◌, ℕ, ◌≤◌, ◌<◌, ◌-◌, true}
 use Rattle.machine.specs.ThreadSets.{has}
 use Rattle.machine.specs.Views.{parts_of, IsBitSo, KeepsBits}
-use Rattle.machine.proofs.thread_bits.ThreadBits.refresh_all.Given as goal
+use Rattle.machine.proofs.thread_bits.ThreadBits.refresh_some.Given as goal
 
 abbrev pub invariant-loop-from : goal.invariant-loop-from
 invariant-loop-from l = (1 ≤ l.from) × (l.from ≤ 1001)
