@@ -465,6 +465,20 @@ least_able words k from low (Some u) shows le most some least =
     below (suc v) from_le less =
         sym (shows (suc v) (omega arith)) ∙ least.2 (suc v) (omega (arith, from_le, most)) less
 
+-- nobody has the number 0
+pub least_some : (k : ConcreteState) (from low : ℕ) (o : Option ℕ) → from ≤ low → low ≤ max from 1
+    → IsLeastFrom (can_move k) low o → IsLeastFrom (can_move k) from o
+least_some k from low None le most least = none
+  where
+    none : (u : ℕ) → from ≤ u → can_move k u ≡ false
+    none zero from_le = refl
+    none (suc u) from_le = least (suc u) (omega (arith, from_le, most))
+least_some k from low (Some u) le most least = (omega (arith, le, least.0), least.1, below)
+  where
+    below : (v : ℕ) → from ≤ v → v < u → can_move k v ≡ false
+    below zero from_le less = refl
+    below (suc v) from_le less = least.2 (suc v) (omega (arith, from_le, most)) less
+
 -- what always holds is kept where a thread goes on in its place
 pub keeps_put : (p : Program) (k : ConcreteState) (t : ℕ) (x : Thread) → IsWellFormed p k
     → IsWellFormed p (record { common = k.common; threads = slice_set k.threads (t - 1) x })

@@ -9,7 +9,7 @@ use Rattle.std.proofs.lemmas.Nat.{pow_pos}
 use Rattle.std.specs.Int.{bit_at, trailing_zeros, w64}
 use Rattle.std.proofs.lemmas.Nat.Bits.{bit_at-zero, bit_at_above, bit_at_cat_high, bit_at-trailing_zeros}
 use Rattle.machine.specs.declared.thread_set.ThreadSet.TheVariants.{Single, Several}
-use Rattle.machine.specs.ThreadSets.{has, has_bit, IsLeastFrom}
+use Rattle.machine.specs.ThreadSets.{has, has_bit, HasNoneInFirst, IsLeastFrom}
 
 -- the bits of a number without its lowest ones
 shifted : (n low j : ℕ) → bit_at n (low + j) ≡ bit_at (n / 2 ^ low) j
@@ -146,24 +146,37 @@ within words t last n o some far none least = whole o least
     whole None h = λ u le. same u (omega (arith, some, le)) ∙ h u le
     whole (Some k) h = (h.0, same k (omega (arith, some, h.0)) ∙ h.1, λ v le less. same v (omega (arith, some, le)) ∙ h.2 v le less)
 
--- where none is past the first word, it tells as much as all
-first : (words : List ℕ) (t : ℕ) → 1 ≤ t → t ≤ 64 → IsPassed words t 0 (t - 1)
-first words t some few = record {
-  inside = omega (arith, few, some);
-  from = omega (arith, some);
-  none = λ v le less. absurd (omega (arith, some, le, less));
+-- from the first word on
+first : (words : List ℕ) (t : ℕ) → t < 64 → IsPassed words (t + 1) 0 t
+first words t few = record {
+  inside = few;
+  from = omega arith;
+  none = λ v le less. absurd (omega (arith, le, less));
 }
 
-pub few_found : (words : List ℕ) (t k : ℕ) → 1 ≤ t → t ≤ 64 → k < 64
-    → IsLeastFrom (λ i. eqb (bit_at (get_or words 0 0) i) 1) (t - 1) (Some k) → IsLeastFrom (has_bit words) t (Some (k + 1))
-few_found words t k some few small least =
+-- by the first word
+pub first_found : (words : List ℕ) (t k : ℕ) → t < 64 → k < 64
+    → IsLeastFrom (λ i. eqb (bit_at (get_or words 0 0) i) 1) t (Some k) → IsLeastFrom (has_bit words) (t + 1) (Some (k + 1))
+first_found words t k few small least =
     let e : 64 * 0 + k + 1 ≡ k + 1 = omega arith in
-    subst (λ n. IsLeastFrom (has_bit words) t (Some n)) e
-    (found words t 0 (t - 1) k (first words t some few) small least)
+    subst (λ n. IsLeastFrom (has_bit words) (t + 1) (Some n)) e (found words (t + 1) 0 t k (first words t few) small least)
 
-pub few_none : (words : List ℕ) (t : ℕ) → 1 ≤ t → t ≤ 64 → ((u : ℕ) → 64 < u → has_bit words u ≡ false)
-    → IsLeastFrom (λ i. eqb (bit_at (get_or words 0 0) i) 1) (t - 1) None → IsLeastFrom (has_bit words) t None
-few_none words t some few past least v le = elim (cases_lt v 65) [
-  | inl before ↦ (goes_on words t 0 (t - 1) (first words t some few) least).none v le before
-  | inr behind ↦ past v behind
+pub first_none : (words : List ℕ) (t : ℕ) → t < 64 → IsLeastFrom (λ i. eqb (bit_at (get_or words 0 0) i) 1) t None
+    → HasNoneInFirst words t
+first_none words t few least u behind inside =
+    (goes_on words (t + 1) 0 t (first words t few) least).none u (omega (arith, behind)) (omega (arith, inside))
+
+pub first_past : (words : List ℕ) (t : ℕ) → 64 ≤ t → HasNoneInFirst words t
+first_past words t far u behind inside = absurd (omega (arith, far, behind, inside))
+
+-- where the first word has none behind a thread, and the others have none
+pub rest_few : (words : List ℕ) (t last : ℕ) → last ≤ 64 → HasNoneInFirst words t
+    → ((u : ℕ) → last < u → has_bit words u ≡ false) → IsLeastFrom (has_bit words) (t + 1) None
+rest_few words t last few none past u le = elim (cases_lt u 65) [
+  | inl before ↦ none u (omega (arith, le)) (omega (arith, before))
+  | inr behind ↦ past u (omega (arith, few, behind))
 ]
+
+pub rest_past : (words : List ℕ) (t last : ℕ) → last ≤ t → ((u : ℕ) → last < u → has_bit words u ≡ false)
+    → IsLeastFrom (has_bit words) (t + 1) None
+rest_past words t last far past u le = past u (omega (arith, far, le))

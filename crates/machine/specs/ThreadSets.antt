@@ -49,6 +49,10 @@ abbrev pub IsLeastFrom : (ℕ → Bool) → ℕ → Option ℕ → Type 0
 IsLeastFrom test t None = (u : ℕ) → t ≤ u → test u ≡ false
 IsLeastFrom test t (Some u) = (t ≤ u) × (test u ≡ true) × ((v : ℕ) → t ≤ v → v < u → test v ≡ false)
 
+-- no thread behind t has its bit in the first word
+abbrev pub HasNoneInFirst : List ℕ → ℕ → Type 0
+HasNoneInFirst words t = (u : ℕ) → t < u → u ≤ 64 → has_bit words u ≡ false
+
 -- the number of a thread
 abbrev pub IsThread : ℕ → Type 0
 IsThread t = (1 ≤ t) × (t ≤ most_threads)

@@ -192,11 +192,19 @@ impl Machine {
     pub fn next_able(&self, from: u32) -> Option<u32>
         ensures { IsLeastFrom (can_move (concrete self.now)) from result }
     {
-        let made = self.threads.len() as u32;
-        if from > made {
-            return None;
+        self.next_able_behind(from.saturating_sub(1))
+    }
+
+    /// The first thread behind this number that can move, if there is one. Most runs have few threads: then all are told by
+    /// one word.
+    #[inline(always)]
+    pub fn next_able_behind(&self, t: u32) -> Option<u32>
+        ensures { IsLeastFrom (can_move (concrete self.now)) (t + 1) result }
+    {
+        if let Some(next) = self.able.first_behind(t) {
+            return Some(next);
         }
-        self.able.next_within(from.max(1), made)
+        self.able.next_of_rest(t, self.threads.len() as u32)
     }
 
     /// Whether no thread can move.

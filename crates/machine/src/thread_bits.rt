@@ -1,6 +1,6 @@
 //! Which threads can move, with a bit for each.
-ghost use Rattle.std.specs.Prelude.{◌≡◌, ◌≢◌, ◌≤◌, ◌<◌, ℕ, false, replicate};
-ghost use Rattle.machine.specs.ThreadSets.{IsLeastFrom, IsMember, has_bit, most_members, with_turned};
+ghost use Rattle.std.specs.Prelude.{◌≡◌, ◌≢◌, ◌≤◌, ◌<◌, ◌+◌, ℕ, false, replicate, Some, IfSome, IfNone};
+ghost use Rattle.machine.specs.ThreadSets.{HasNoneInFirst, IsLeastFrom, IsMember, has_bit, most_members, with_turned};
 
 use crate::thread_set::{WORDS, has_bit, least_from, lowest_from};
 
@@ -38,21 +38,38 @@ impl ThreadBits {
         }
     }
 
-    /// The least thread from `t` on, if there is one. None is past `last`, so the words behind its own aren't looked at.
-    pub(crate) fn next_within(&self, t: u32, last: u32) -> Option<u32>
-        requires from { (1 ≤ t) × (t ≤ last) }
-        requires last { last ≤ most_members }
-        requires none { (u : ℕ) → last < u → has_bit self.now.words u ≡ false }
-        ensures { IsLeastFrom (has_bit self.now.words) t result }
+    /// The least thread behind `t` by the first word, if it has one.
+    #[inline(always)]
+    #[tactic(auto, using(crate::proofs::Leasts::first_found, crate::proofs::Leasts::first_none, crate::proofs::Leasts::first_past))]
+    pub(crate) fn first_behind(&self, t: u32) -> Option<u32>
+        ensures some { IfSome result (λ u. IsLeastFrom (has_bit self.now.words) (t + 1) (Some u)) }
+        ensures none { IfNone result (HasNoneInFirst self.now.words t) }
     {
-        if last <= 64 {
-            self.next_of_few(t)
-        } else {
-            self.next_of_many(t, last)
+        if t >= 64 {
+            return None;
         }
+        let place = lowest_from(self.words[0], t)?;
+        Some(place + 1)
     }
 
-    // The same by as many words as have a thread. Apart, so that nothing of it is worked out where there is one word.
+    /// The least thread behind `t`, if there is one, where the first word has none. None is past `last`, so the words behind
+    /// its own aren't looked at.
+    #[inline(always)]
+    #[tactic(auto, using(crate::proofs::Leasts::rest_few, crate::proofs::Leasts::rest_past))]
+    pub(crate) fn next_of_rest(&self, t: u32, last: u32) -> Option<u32>
+        requires first { HasNoneInFirst self.now.words t }
+        requires last { last ≤ most_members }
+        requires none { (u : ℕ) → last < u → has_bit self.now.words u ≡ false }
+        ensures { IsLeastFrom (has_bit self.now.words) (t + 1) result }
+    {
+        if last <= 64 || t >= last {
+            return None;
+        }
+        self.next_of_many(t + 1, last)
+    }
+
+    // The least thread from `t` on by as many words as have a thread. Apart, so that nothing of it is worked out where there
+    // is one word.
     #[inline(never)]
     fn next_of_many(&self, t: u32, last: u32) -> Option<u32>
         requires from { (1 ≤ t) × (t ≤ last) }
@@ -62,17 +79,6 @@ impl ThreadBits {
     {
         let words = (last as usize).div_ceil(64);
         least_from(&self.words[..words], t)
-    }
-
-    // The same where none is past the first word.
-    #[inline(always)]
-    fn next_of_few(&self, t: u32) -> Option<u32>
-        requires from { (1 ≤ t) × (t ≤ 64) }
-        requires none { (u : ℕ) → 64 < u → has_bit self.now.words u ≡ false }
-        ensures { IsLeastFrom (has_bit self.now.words) t result }
-    {
-        let place = lowest_from(self.words[0], t - 1)?;
-        Some(place + 1)
     }
 }
 

@@ -5,6 +5,7 @@ ghost use Rattle.packed_log.specs.Packing.{name_of};
 use machine::EventName;
 
 /// The number of a kind of step, which isn't 0.
+#[inline(always)]
 pub fn number_of(name: EventName) -> u64
     ensures name { name_of result ≡ Some name }
     ensures small { result < 32 }

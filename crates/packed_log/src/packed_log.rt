@@ -2,7 +2,7 @@ ghost use Rattle.std.specs.Prelude.{◌≡◌, ◌≢◌, ◌≤◌, ◌<◌, �
 ghost use Rattle.std.specs.Prelude.{OnOk, IfOk, MatchBool, true, is_ok, if◌then◌else◌, option_copied, vec_len, vec_capacity};
 ghost use Rattle.machine.specs.ConcreteServing.{plain};
 ghost use Rattle.packed_log.specs.Packing.{entries_of, heads_of, kept, sets_of};
-ghost use Rattle.packed_log.specs.Views.{IsPacked as IsPackedIn, Woke, step_of};
+ghost use Rattle.packed_log.specs.Views.{HasHead, IsPacked as IsPackedIn, Woke, step_of};
 
 use crate::head::{
     entry_at, has_head, head_of, plain_head, sets_beside, wide_head_of, wide_plain_head, widen,
@@ -177,6 +177,25 @@ impl PackedLog {
     {
         self.spare -= 1;
         if self.wide.is_empty() && has_head(thread, local) {
+            self.heads
+                .push_reserved(plain_head(thread, local, name, value));
+        } else {
+            self.wide
+                .push_reserved(wide_plain_head(thread, local, name, value));
+        }
+    }
+
+    /// The same where the thread and its local steps have room in a head, as those of a run always have.
+    #[inline(always)]
+    pub fn push_small(&mut self, thread: u32, local: u32, name: EventName, value: u32)
+        requires room { 1 ≤ self.old.room }
+        requires head { HasHead thread local }
+        ensures entries { self.new.items ≡ self.old.items
+            ++ record { thread = thread; local = local; event = Some (plain name value) } ∷ [] }
+        ensures room { self.old.room ≤ self.new.room + 1 }
+    {
+        self.spare -= 1;
+        if self.wide.is_empty() {
             self.heads
                 .push_reserved(plain_head(thread, local, name, value));
         } else {
@@ -363,6 +382,9 @@ mod tests {
         assert_eq!(rt; log.last(), Some(entries[2]));
         log.make_room()?;
         log.push_plain(64, 0, EventName::Kill, 1);
+        assert_eq!(rt; log.last(), Some(entries[1]));
+        log.make_room()?;
+        log.push_small(64, 0, EventName::Kill, 1);
         assert_eq!(rt; log.last(), Some(entries[1]));
         assert!(rt; PackedLog::with_capacity(rt.alloc(), 6)?.is_empty());
         let mut reader = LogReader::of(&entries);
