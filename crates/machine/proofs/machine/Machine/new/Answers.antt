@@ -1,7 +1,7 @@
 -- The parts are those of the opening.
 use Rattle.std.proofs.Common.{◌≡◌, ap, sym, ◌∙◌, subst}
 use Rattle.machine.specs.States.{ConcreteState, opening_concrete}
-use Rattle.machine.specs.Views.{ShowsAble, concrete_of, parts_of}
+use Rattle.machine.specs.Views.{IsWellFormed, ShowsAble, concrete_of, parts_of}
 use Rattle.machine.proofs.Ables.{shows_opening}
 use Rattle.machine.proofs.Stepping.{opens_so}
 use Rattle.machine.proofs.Whole.{opened}
@@ -26,3 +26,7 @@ invariant_of-result c =
           (shows_opening c.args.image.now c.new-able.result.words c.put.new.self.words c.new-able.ensures
           c.put.ensures.here c.put.ensures.others),
     )
+
+pub returns-clause-holds : goal.returns-clause-holds
+returns-clause-holds c =
+    subst (λ (k : ConcreteState). IsWellFormed c.args.image.now k) (sym (returns-clause-opening c)) (opens_so c.args.image.now).1
