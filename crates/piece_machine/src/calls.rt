@@ -32,7 +32,7 @@ fn tell(bucket: Option<u32>, call: FutexCall, event: &mut Event)
 }
 
 impl PieceMachine {
-    // A piece of the wait that thread `t` makes, which is awake.
+    /// A piece of the wait that thread `t` makes, which is awake.
     #[inline(never)]
     pub(crate) fn wait_step(
         &mut self,
@@ -58,7 +58,8 @@ impl PieceMachine {
         }
     }
 
-    // The last piece of the wait that thread `t` makes, which is awake. Apart, since it needs more registers than those before it.
+    // The last piece of the wait that thread `t` makes, which is awake. Apart, since it needs more registers than those
+    // before it.
     #[inline(never)]
     fn wait_act(
         &mut self,
@@ -87,7 +88,7 @@ impl PieceMachine {
         )
     }
 
-    // A piece of the wake that thread `t` makes, which is awake.
+    /// A piece of the wake that thread `t` makes, which is awake.
     #[inline(never)]
     pub(crate) fn wake_step(
         &mut self,
@@ -142,7 +143,7 @@ impl PieceMachine {
         )
     }
 
-    // A piece of the futex call that thread `t` makes, which is awake and in this phase.
+    /// A piece of the futex call that thread `t` makes, which is awake and in this phase.
     #[inline(always)]
     pub(crate) fn call_step(
         &mut self,
