@@ -18,10 +18,11 @@ use Rattle.runner.specs.Views.{PieceView, LogState}
 use Rattle.runner.specs.Logs.{Runs, Enters, EntersOwn, Ends, HasOnly, Outside, event_cost, cost, is_kill, kill_cost}
 use Rattle.runner.specs.Logs.{kills_in, opening}
 use Rattle.runner.specs.declared.fault.RunFault.{RunFault}
-use Rattle.runner.specs.declared.fault.RunFault.TheVariants.{Broken}
+use Rattle.runner.specs.declared.fault.RunFault.TheVariants.{Broken, CannotMove, Limit, Memory, Stray}
 use Rattle.runner.specs.Entries.{BreaksAfter, EntersAccess, Stands, entry_end, entry_end_by, event_if, IsFine}
 use Rattle.runner.specs.Legal.{IsLegal}
 use Rattle.runner.specs.Reports.{CanFail}
+use Rattle.runner.specs.Walks.{FailsAfter}
 use Rattle.runner.proofs.Going.{runs_more}
 use Rattle.runner.proofs.Owning.{kills_more, only_own, own_kills}
 
@@ -74,7 +75,7 @@ pub is_shared : (shared : Bool) (event : Event) → bool_byte shared ≡ bool_by
 is_shared true event = refl
 is_shared false event = refl
 
-event_byte : (e : Option Event) → event_cost e ≡ bool_byte (is_some e)
+pub event_byte : (e : Option Event) → event_cost e ≡ bool_byte (is_some e)
 event_byte None = refl
 event_byte (Some e) = refl
 
@@ -118,7 +119,7 @@ keeps p may q q' limit h log new a t steps limited killed extra event is' legal 
       few = omega (arith, legal.few);
     }
 
-cost_small : (e : Option Event) → event_cost e ≤ 1
+pub cost_small : (e : Option Event) → event_cost e ≤ 1
 cost_small None = omega arith
 cost_small (Some e) = omega arith
 
@@ -214,6 +215,23 @@ breaks_can p may q q' limit k k' log steps limited killed t count (Err fault) le
       turn = turn;
       breaks = b.breaks;
     })
+
+-- a fault behind the local steps of a turn
+pub fails_can : {T : Type 0} → (p : Program) (may : Outside) (q : Program) (limit : ℕ) (k : PieceConcrete)
+    (log : List Entry) (steps limited killed t count : ℕ) (r : Result T RunFault)
+    → IsLegal p may limit q k log steps limited killed → can_move k.concrete t ≡ true → count ≤ 256
+    → IfErr r (λ fault. FailsAfter q k t count fault) → IfErr r (λ fault. CanFail p may limit fault)
+fails_can p may q limit k log steps limited killed t count (Ok x) legal moves turn fails = fails
+fails_can p may q limit k log steps limited killed t count (Err f) legal moves turn fails = by f fails
+  where
+    by : (f : RunFault) → FailsAfter q k t count f → CanFail p may limit f
+    by Broken breaks =
+        let r : Result ℕ RunFault = Err Broken in
+        breaks_can p may q q limit k k log steps limited killed t count r legal refl refl moves turn (refl, breaks)
+    by Memory none = tt
+    by Stray none = absurd none
+    by CannotMove none = absurd none
+    by Limit none = absurd none
 
 -- a piece came in with an access, behind which the machine had room for one entry more
 pub keeps_access : (p : Program) (may : Outside) (q m q' : Program) (limit : ℕ) (h : LogState) (k : PieceConcrete)

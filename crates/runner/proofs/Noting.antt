@@ -28,7 +28,7 @@ use Rattle.runner.specs.Attempts.{HasEntered, TriedSo, WantsBucket, WantsIf, is_
 use Rattle.runner.specs.Reports.{IsHeldUp, IsStopped}
 use Rattle.runner.specs.Logs.{Enters, Runs, opening}
 use Rattle.runner.specs.Views.{LogState}
-use Rattle.runner.specs.Waits.{AllWait, IsNextFree, WantIn}
+use Rattle.runner.specs.Waits.{AllHeld, AllWait, IsNextFree, WantIn}
 use Rattle.runner.proofs.Passing.{Apart, entered_apart, kill_apart, mover_number, outside_apart}
 use Rattle.runner.proofs.Wanting.{held_up_so, wants_behind}
 
@@ -117,6 +117,37 @@ held_gap p k w from t (Some next) fit wait before least = λ u above below moves
   | inr past ↦ passed_so p k w u wait (mover_number p k u fit moves) (least.2 u past below)
 ]
 
+-- the first that can move, by the machine's view
+pub least_here : (m : MachineView) (v : View) (at : ℕ) (o : Option ℕ) → v ≡ m.view
+    → IsLeastFrom (can_move (concrete v)) at o → IsLeastFrom (can_move (parts m).concrete) at o
+least_here m v at o shows least = subst (λ (x : View). IsLeastFrom (can_move (concrete x)) at o) shows least
+
+-- where nobody is passed over, the next one that can move is free
+pub none_passed : (p : Program) (m : MachineView) (v : View) (from : ℕ) (o : Option ℕ) → v ≡ m.view
+    → IsLeastFrom (can_move (concrete v)) from o → IsNextFree p (parts m) from o
+none_passed p m v from None shows least = λ u above moves.
+    absurd (both_ways (can_move (parts m).concrete u) (least_here m v from None shows least u above) moves)
+none_passed p m v from (Some t) shows least =
+    let h = least_here m v from (Some t) shows least in
+    (h.0, h.1, λ u above below moves. absurd (both_ways (can_move (parts m).concrete u) (h.2 u above below) moves))
+
+-- else the next one that is free from that on
+pub some_passed : (p : Program) (m : MachineView) (v : View) (from t : ℕ) (o : Option ℕ) → v ≡ m.view
+    → IsLeastFrom (can_move (concrete v)) from (Some t) → IsNextFree p (parts m) t o → IsNextFree p (parts m) from o
+some_passed p m v from t None shows least free = λ u above moves. elim (cases_lt u t) [
+  | inl less ↦ absurd (both_ways (can_move (parts m).concrete u) ((least_here m v from (Some t) shows least).2 u above less) moves)
+  | inr past ↦ free u past moves
+]
+some_passed p m v from t (Some next) shows least free =
+    let h = least_here m v from (Some t) shows least in (
+      omega (arith, h.0, free.0),
+      free.1,
+      λ u above below moves. elim (cases_lt u t) [
+        | inl less ↦ absurd (both_ways (can_move (parts m).concrete u) (h.2 u above less) moves)
+        | inr past ↦ free.2 u past below moves
+      ],
+    )
+
 -- the next one behind one that is passed over
 pub goes_on : (w : Waiting) (t next : ℕ) → has_bit w.ready.words t ≡ false
     → IsLeastFrom (has_bit w.ready.words) t (Some next) → t < next
@@ -187,10 +218,6 @@ pub wants_at : (p q q' : Program) (k k' : PieceConcrete) (t : ℕ) (o : Obstacle
 wants_at p q q' k k' t o is same there wants =
     subst (λ (x : Program). WantsIf x k' t o) (same ∙ is) (subst (λ (x : PieceConcrete). WantsIf q' x t o) (sym there) wants)
 
-pub least_here : (m : MachineView) (v : View) (at : ℕ) (o : Option ℕ) → v ≡ m.view
-    → IsLeastFrom (can_move (concrete v)) at o → IsLeastFrom (can_move (parts m).concrete) at o
-least_here m v at o shows least = subst (λ (x : View). IsLeastFrom (can_move (concrete x)) at o) shows least
-
 pub written_twice : {A : Type 0} → (xs : List A) (i : ℕ) (x y : A) → slice_set (slice_set xs i x) i y ≡ slice_set xs i y
 written_twice [] i x y = refl
 written_twice (z ∷ zs) zero x y = refl
@@ -204,6 +231,10 @@ got_replicate (suc n) (suc b) x s h = got_replicate n b x s h
 
 no_bit : (b : ℕ) → bit_at 0 b ≡ 1 → ⊥
 no_bit b is = absurd (omega (arith, is, bit_at-zero b))
+
+-- no bucket is shut
+pub none_shut : (k : PieceConcrete) (w : Waiting) → w.shut ≡ 0 → AllHeld k w
+none_shut k w none = λ bucket inside is. absurd (no_bit bucket (ap (λ (n : ℕ). bit_at n bucket) (sym none) ∙ is))
 
 pub none_wait : (p : Program) (k : PieceConcrete) (w : Waiting) (n m : ℕ) (none : ThreadBits)
     → w.wants ≡ replicate n None → w.wanting ≡ replicate m none → w.shut ≡ 0 → ((t : ℕ) → has_bit none.words t ≡ false)

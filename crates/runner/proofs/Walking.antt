@@ -27,7 +27,9 @@ use Rattle.piece_machine.specs.PieceViews.{PieceView as MachineView, DoneFrom, G
 use Rattle.runner.specs.Entries.{BreaksAfter, entry_end}
 use Rattle.runner.specs.Logs.{EntersOwn}
 use Rattle.runner.specs.Reports.{IsHeldUp}
-use Rattle.runner.specs.Walks.{Turns, Walked}
+use Rattle.runner.specs.Walks.{FailsAfter, Turns, Walked}
+use Rattle.runner.specs.declared.fault.RunFault.{RunFault}
+use Rattle.runner.specs.declared.fault.RunFault.TheVariants as fault
 use Rattle.runner.proofs.Growing.{entry}
 use Rattle.runner.proofs.Handing.{refused_at, refused_by, refused_end, up}
 use Rattle.runner.proofs.Once.{still_made}
@@ -130,6 +132,25 @@ walked_as p q k mid t n same w = record {
   turns = subst (λ (x : Program). Turns x t n w.origin w.here) (sym same) w.turns;
   there = w.there;
 }
+
+-- and of where the machine is
+abbrev pub walked_at : (p q : Program) (k mid mid' : PieceConcrete) (t n : ℕ) → q ≡ p → mid' ≡ mid → Walked p k t n mid
+    → Walked q k t n mid'
+walked_at p q k mid mid' t n same there w = record {
+  origin = w.origin;
+  here = w.here;
+  stands = w.stands;
+  moves = w.moves;
+  turns = subst (λ (x : Program). Turns x t n w.origin w.here) (sym same) w.turns;
+  there = there ∙ w.there;
+}
+
+-- a step that may not be, behind them
+pub fails_so : (p q : Program) (k : PieceConcrete) (t n m : ℕ) (f : RunFault) → q ≡ p → n ≡ m
+    → ((f ≡ fault.Broken) × BreaksAfter q k t n) → FailsAfter p k t m f
+fails_so p q k t n m f same count b =
+    subst (λ (g : RunFault). FailsAfter p k t m g) (sym b.0)
+    (subst (λ (x : Program). BreaksAfter x k t m) same (subst (λ (i : ℕ). BreaksAfter q k t i) count b.1))
 
 -- a thread that went on in its place
 abbrev pub walked_on : (old mid : MachineView) (t n : ℕ) → can_move (concrete old.view) t ≡ true

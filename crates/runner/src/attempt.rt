@@ -1,4 +1,4 @@
-ghost use Rattle.std.specs.Prelude.{◌≡◌, ◌≢◌, ℕ, MatchBool, false};
+ghost use Rattle.std.specs.Prelude.{◌≡◌, ◌⊎◌, ℕ, true, false};
 ghost use Rattle.isa.specs.Programs.{Program};
 ghost use Rattle.piece_machine.specs.PieceConcrete.{PieceConcrete};
 ghost use Rattle.runner.specs.Attempts.{TriedSo, WantsIf, is_made};
@@ -31,11 +31,11 @@ pub enum Attempt {
 }
 
 impl Attempt {
-    /// Whether the entry was made, and ended with an access to a word.
-    pub fn is_access(self) -> bool
-        ensures { MatchBool result (self ≡ Attempt.Accessed) (self ≢ Attempt.Accessed) }
+    /// Whether the entry was made, and isn't known to have taken a bucket.
+    pub fn takes_none(self) -> bool
+        ensures { result ≡ true → (self ≡ Attempt.Accessed) ⊎ (self ≡ Attempt.Made) }
     {
-        matches!(self, Attempt::Accessed)
+        matches!(self, Attempt::Accessed | Attempt::Made)
     }
 
     /// Whether the entry was made.

@@ -18,7 +18,7 @@ ghost use Rattle.runner.specs.Attempts.{AsksFirst, WantsIf, is_made};
 ghost use Rattle.runner.specs.Entries.{BreaksAfter, entry_end, taken_entry, taken_event};
 ghost use Rattle.runner.specs.Logs.{EntersOwn, event_cost};
 ghost use Rattle.runner.specs.Reports.{IsHeldUp};
-ghost use Rattle.runner.specs.Walks.{Turns, Walked};
+ghost use Rattle.runner.specs.Walks.{EndsWalk, FailsAfter, Turns, Walked};
 ghost use Rattle.runner.specs.declared.attempt.Attempt;
 ghost use Rattle.runner.specs.declared.attempt.Obstacle;
 
@@ -110,9 +110,62 @@ pub fn walk(machine: &mut PieceMachine, t: u32) -> (u32, Option<Access>)
 
 /// Ends the entry of thread `t`, which has taken the local steps of its turn in its place, so many, and stands before no
 /// access: with the shared step that it stands before, if any, whose event is put in its place. Where that step may not be,
-/// the entry has the local steps alone.
+/// or there is no memory for the number that it may print, the entry has the local steps alone. Puts it at the end of a log
+/// that has room for it, tells what came of it, and answers how many steps it has.
 #[inline(never)]
 pub fn end_walk(
+    machine: &mut PieceMachine,
+    log: &mut PackedLog,
+    t: u32,
+    local: u32,
+    event: &mut Event,
+    told: &mut Result<Attempt, RunFault>,
+) -> u32
+    requires moves { can_move (concrete machine.old.view) t ≡ true }
+    requires turn { local ≤ most_local_steps }
+    requires room { 1 ≤ log.old.room }
+    ensures ends { (k : PieceConcrete) → Walked machine.old.view.program k t local (parts machine.old)
+        → EndsWalk machine.old.view.program k t local log.old.items (parts machine.new) log.new.items result told.new }
+    ensures few { result ≤ local + 1 }
+    ensures program { machine.new.view.program ≡ machine.old.view.program }
+{
+    let (taken, outcome) = take_end(machine, t, local, event);
+    push_taken(log, t, taken, event);
+    let attempt = attempt_of(taken, event);
+    *told = outcome.and(Ok(attempt));
+    taken.local + u32::from(is_shared(taken.behind))
+}
+
+// Takes the shared step that thread `t` stands before, if any, behind the local steps of its turn.
+#[inline(always)]
+fn take_end(
+    machine: &mut PieceMachine,
+    t: u32,
+    local: u32,
+    event: &mut Event,
+) -> (Taken, Result<(), RunFault>)
+    requires moves { can_move (concrete machine.old.view) t ≡ true }
+    ensures count { result.0.local ≡ local }
+    ensures enters { (k : PieceConcrete) → Walked machine.old.view.program k t local (parts machine.old)
+        → EntersOwn machine.old.view.program k (taken_entry t result.0 event.new) (parts machine.new) }
+    ensures goes { (k : PieceConcrete) → Walked machine.old.view.program k t local (parts machine.old)
+        → OnOk result.1 (1 ≤ result.0.local + event_cost (taken_event result.0.behind event.new)) }
+    ensures fails { IfErr result.1 (λ fault. (k : PieceConcrete)
+        (w : Walked machine.old.view.program k t local (parts machine.old))
+        → (entry_end machine.old.view.program k t w.here ≢ Err CannotMove)
+        → FailsAfter machine.old.view.program k t local fault) }
+    ensures program { machine.new.view.program ≡ machine.old.view.program }
+{
+    if machine.make_room(1).is_err() {
+        let behind = Behind::Nothing;
+        return (Taken { local, behind }, Err(RunFault::Memory));
+    }
+    end_with_room(machine, t, local, event)
+}
+
+// The same where there is memory for the number that it may print.
+#[inline(always)]
+fn end_with_room(
     machine: &mut PieceMachine,
     t: u32,
     local: u32,

@@ -1,5 +1,5 @@
 //! Which threads a held bucket is in the way of.
-ghost use Rattle.std.specs.Prelude.{◌≡◌, ◌≢◌, ◌≤◌, ◌<◌, ℕ, suc, false, slice_get, slice_set, Some, None, IfSome};
+ghost use Rattle.std.specs.Prelude.{◌≡◌, ◌≢◌, ◌≤◌, ◌<◌, ◌+◌, ℕ, suc, false, slice_get, slice_set, Some, None, IfSome};
 ghost use Rattle.std.specs.Int.{bit_at};
 ghost use Rattle.words.specs.Limits.{most_threads, run_buckets};
 ghost use Rattle.isa.specs.Programs.{Program};
@@ -7,6 +7,7 @@ ghost use Rattle.piece_machine.specs.PieceConcrete.{PieceConcrete};
 ghost use Rattle.piece_machine.specs.PieceDetermined.{IsFit};
 ghost use Rattle.piece_machine.specs.PieceViews.{parts};
 ghost use Rattle.runner.specs.Attempts.{TriedSo, WantsBucket, is_made};
+ghost use Rattle.runner.specs.declared.attempt.Attempt;
 ghost use Rattle.runner.specs.Waits.{AllHeld, AllWait, AllWant, IsHeldIf, IsNextFree, IsSound};
 
 use crate::attempt::Attempt;
@@ -47,10 +48,30 @@ impl Waiting {
         }
     }
 
-    /// The first thread from this number on that can move and isn't passed over, if there is one: those before it are
-    /// held up.
+    /// The first thread behind this number that can move and isn't passed over, if there is one: those before it are held
+    /// up.
     #[inline(always)]
-    pub fn next_free(&self, machine: &PieceMachine, from: u32) -> Option<u32>
+    #[tactic(auto, using(crate::proofs::Noting::none_passed, crate::proofs::Noting::some_passed))]
+    pub fn next_behind(&self, machine: &PieceMachine, last: u32) -> Option<u32>
+        requires waits { AllWait machine.now.view.program (parts machine.now) self.now }
+        requires last { last ≤ most_threads }
+        ensures free { IsNextFree machine.now.view.program (parts machine.now) (last + 1) result }
+        ensures number { IfSome result (λ t. (0 < t) × (t ≤ most_threads)) }
+    {
+        let Some(t) = machine.machine().next_able_behind(last) else {
+            return None;
+        };
+        // As mostly nobody is passed over.
+        if self.shut == 0 {
+            return Some(t);
+        }
+        self.next_free(machine, t)
+    }
+
+    // The first thread from this number on that can move and isn't passed over.
+    #[cold]
+    #[inline(never)]
+    fn next_free(&self, machine: &PieceMachine, from: u32) -> Option<u32>
         requires waits { AllWait machine.now.view.program (parts machine.now) self.now }
         requires from { from ≤ suc most_threads }
         ensures free { IsNextFree machine.now.view.program (parts machine.now) from result }
@@ -58,7 +79,7 @@ impl Waiting {
     {
         let mut at = from;
         while let Some(t) = machine.machine().next_able(at) {
-            if self.shut == 0 || self.ready.contains(t) {
+            if self.ready.contains(t) {
                 return Some(t);
             }
             let Some(next) = self.ready.next_from(t) else {
@@ -81,7 +102,7 @@ impl Waiting {
     {
         self.check(machine);
         // As most are: it is told by a comparison, and not by a jump through a table.
-        if attempt.is_access() {
+        if attempt.takes_none() {
             self.leave(t);
             return;
         }
@@ -96,8 +117,38 @@ impl Waiting {
         }
     }
 
+    /// The same of an entry that ended with an access, as most do.
+    #[inline(always)]
+    pub fn follow_access(&mut self, machine: &PieceMachine, t: u32)
+        requires thread { (0 < t) × (t ≤ most_threads) }
+        requires buckets { (parts machine.now).buckets ≡ run_buckets }
+        requires sound { IsSound self.old }
+        ensures { (p : Program) (k : PieceConcrete) → IsFit p k → AllWant p k self.old
+            → TriedSo p k t Attempt.Accessed (parts machine.now) → AllWait p (parts machine.now) self.new }
+    {
+        self.check(machine);
+        self.leave(t);
+    }
+
     // Opens each bucket that is held no more.
+    #[inline(always)]
+    #[tactic(auto, using(crate::proofs::Noting::none_shut))]
     fn check(&mut self, machine: &PieceMachine)
+        requires buckets { (parts machine.now).buckets ≡ run_buckets }
+        requires sound { IsSound self.old }
+        ensures sound { IsSound self.new }
+        ensures wants { self.new.wants ≡ self.old.wants }
+        ensures held { AllHeld (parts machine.now) self.new }
+    {
+        if self.shut != 0 {
+            self.check_all(machine);
+        }
+    }
+
+    // The same where one may be.
+    #[cold]
+    #[inline(never)]
+    fn check_all(&mut self, machine: &PieceMachine)
         requires buckets { (parts machine.now).buckets ≡ run_buckets }
         requires sound { IsSound self.old }
         ensures sound { IsSound self.new }

@@ -36,6 +36,7 @@ pub fn run_rounds<J: RunName, G: Gate>(
     let mut refused = [false; MOST_THREADS as usize + 1];
     let mut waiting = Waiting::new();
     let mut piece = Piece::idle(1);
+    let mut told = Ok(Attempt::Refused);
     end_round(
         shared,
         &mut refused,
@@ -44,6 +45,7 @@ pub fn run_rounds<J: RunName, G: Gate>(
         share,
         gate,
         &mut piece,
+        &mut told,
         forked,
     )?;
     while run_round(
@@ -54,7 +56,8 @@ pub fn run_rounds<J: RunName, G: Gate>(
         share,
         gate,
         &mut piece,
-        1,
+        &mut told,
+        0,
     )? {}
     Ok(())
 }
@@ -86,6 +89,7 @@ fn end_round<J: RunName, G: Gate>(
     share: &mut Share<J>,
     gate: &G,
     piece: &mut Piece<J>,
+    told: &mut Result<Attempt, RunFault>,
     forked: bool,
 ) -> Result<(), RunFault>
     requires image { image.now ≡ J.program }
@@ -97,7 +101,7 @@ fn end_round<J: RunName, G: Gate>(
     ensures err { IfErr result (λ fault. CanFail J.program J.outside J.limit fault) }
 {
     if forked {
-        run_round(shared, refused, waiting, image, share, gate, piece, 2)?;
+        run_round(shared, refused, waiting, image, share, gate, piece, told, 1)?;
     }
     Ok(())
 }
@@ -126,8 +130,9 @@ pub fn run_alone<J: RunName, G: Gate>(
     Ok(())
 }
 
-// Makes an entry for each thread from this one on that can make one and wasn't refused before, from one that can move and
-// isn't known to be held up to the next. Says whether it made any.
+// Makes an entry for each thread behind this number that can make one and wasn't refused before, from one that can move and
+// isn't known to be held up to the next. Says whether it made any. What came of an entry is told in a place that each of
+// them uses.
 #[inline(always)]
 fn run_round<J: RunName, G: Gate>(
     shared: &mut Shared<J>,
@@ -137,10 +142,11 @@ fn run_round<J: RunName, G: Gate>(
     share: &mut Share<J>,
     gate: &G,
     piece: &mut Piece<J>,
-    first: u32,
+    told: &mut Result<Attempt, RunFault>,
+    before: u32,
 ) -> Result<bool, RunFault>
     requires image { image.now ≡ J.program }
-    requires first { (0 < first) × (first ≤ 2) }
+    requires before { before ≤ 1 }
     requires room { length refused.old ≡ suc most_threads }
     requires past { AllPast J.program J.limit (log_state shared.old) refused.old }
     requires waits { AllWait J.program (log_state shared.old).concrete waiting.old }
@@ -148,15 +154,15 @@ fn run_round<J: RunName, G: Gate>(
     ensures waits { OnOk result (AllWait J.program (log_state shared.new).concrete waiting.new) }
     ensures made { IfOk result (λ made. made ≡ true → (cost shared.old.log < cost shared.new.log)
         × (cost shared.new.log ≤ J.limit)) }
-    ensures none { IfOk result (λ made. made ≡ false → first ≡ 1
+    ensures none { IfOk result (λ made. made ≡ false → before ≡ 0
         → Idle J.program J.limit (log_state shared.new)) }
     ensures err { IfErr result (λ fault. CanFail J.program J.outside J.limit fault) }
 {
     let mut made = false;
-    let mut from = first;
-    while let Some(t) = waiting.next_free(shared.piece_machine(), from) {
-        made |= take_turn(shared, refused, waiting, image, share, gate, t, piece)?;
-        from = t + 1;
+    let mut last = before;
+    while let Some(t) = waiting.next_behind(shared.piece_machine(), last) {
+        made |= take_turn(shared, refused, waiting, image, share, gate, t, piece, told)?;
+        last = t;
     }
     Ok(made)
 }
@@ -172,6 +178,7 @@ fn take_turn<J: RunName, G: Gate>(
     gate: &G,
     t: u32,
     piece: &mut Piece<J>,
+    told: &mut Result<Attempt, RunFault>,
 ) -> Result<bool, RunFault>
     requires image { image.now ≡ J.program }
     requires room { length refused.old ≡ suc most_threads }
@@ -189,12 +196,11 @@ fn take_turn<J: RunName, G: Gate>(
         → IsStopped J.program J.limit shared.new.log (log_state shared.new).concrete t)) }
     ensures err { IfErr result (λ fault. CanFail J.program J.outside J.limit fault) }
 {
-    let mut told = Ok(Attempt::Refused);
-    if attempt_entry(shared, refused, image, share, gate, t, piece, &mut told) {
-        waiting.follow(shared.piece_machine(), t, Attempt::Accessed);
+    if attempt_entry(shared, refused, image, share, gate, t, piece, told) {
+        waiting.follow_access(shared.piece_machine(), t);
         return Ok(true);
     }
-    let attempt = told?;
+    let attempt = (*told)?;
     waiting.follow(shared.piece_machine(), t, attempt);
     Ok(attempt.is_made())
 }
@@ -264,16 +270,45 @@ fn attempt_entry<J: RunName, G: Gate>(
     ensures err { IfErr (came result told.new) (λ fault. CanFail J.program J.outside J.limit fault) }
 {
     if !shared.has_room() {
-        *told = try_entry(shared, refused, image, share, gate, t, piece);
+        tell_entry(shared, refused, image, share, gate, t, piece, told);
         return false;
     }
     gate.pass(t);
     shared.try_on(image, t, share, told)
 }
 
-// The same near the limit: the thread goes on away from the machine, in this piece, since its entry may be refused.
+// The same near the limit, and what came of it is told in its place, so that the callers have no place for another.
 #[cold]
 #[inline(never)]
+fn tell_entry<J: RunName, G: Gate>(
+    shared: &mut Shared<J>,
+    refused: &mut [bool],
+    image: &Image,
+    share: &mut Share<J>,
+    gate: &G,
+    t: u32,
+    piece: &mut Piece<J>,
+    told: &mut Result<Attempt, RunFault>,
+)
+    requires image { image.now ≡ J.program }
+    requires room { length refused.old ≡ suc most_threads }
+    requires thread { (0 < t) × (t ≤ most_threads) }
+    requires kept { IsFit J.program (log_state shared.old).concrete }
+    requires past { AllPast J.program J.limit (log_state shared.old) refused.old }
+    ensures past { OnOk told.new (AllPast J.program J.limit (log_state shared.new) refused.new) }
+    ensures made { IfOk told.new (λ a. is_made a ≡ true → (cost shared.old.log < cost shared.new.log)
+        × (cost shared.new.log ≤ J.limit)) }
+    ensures none { IfOk told.new (λ a. is_made a ≡ false → (log_state shared.new ≡ log_state shared.old)
+        × (can_move (log_state shared.new).concrete.concrete t ≡ true
+        → IsStopped J.program J.limit shared.new.log (log_state shared.new).concrete t)) }
+    ensures tried { IfOk told.new (λ a. TriedSo J.program (log_state shared.old).concrete t a
+        (log_state shared.new).concrete) }
+    ensures err { IfErr told.new (λ fault. CanFail J.program J.outside J.limit fault) }
+{
+    *told = try_entry(shared, refused, image, share, gate, t, piece);
+}
+
+// Tries an entry near the limit: the thread goes on away from the machine, in this piece, since its entry may be refused.
 fn try_entry<J: RunName, G: Gate>(
     shared: &mut Shared<J>,
     refused: &mut [bool],

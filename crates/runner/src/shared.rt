@@ -567,7 +567,8 @@ impl<J: RunName> Shared<J> {
     /// before, if any. Answers whether it ended with an access, as most do: so these have a way of their own. What came of
     /// any other is told beside it.
     ///
-    /// Refuses with `Memory`, and then nothing has changed; and with `Broken`, and then the local steps are an entry.
+    /// Refuses with `Memory`, and then nothing has changed, or the local steps are an entry; and with `Broken`, and then they
+    /// are.
     #[inline(always)]
     pub(crate) fn go_on(
         &mut self,
@@ -586,24 +587,21 @@ impl<J: RunName> Shared<J> {
         ensures err { IfErr (came result told.new) (λ fault. CanFail J.program J.outside J.limit fault) }
         ensures within { cost self.new.log ≤ J.limit }
     {
-        if make_room(&mut self.machine, &mut self.log).is_err() {
+        if self.log.make_room().is_err() {
             *told = Err(RunFault::Memory);
             return false;
         }
         let (local, access) = walk(&mut self.machine, t);
         if let Some(access) = access {
             let name = access_name(access.kind);
-            self.log.push_plain(t, local, name, access.value);
+            self.log.push_small(t, local, name, access.value);
             self.steps += local + 1;
             share.count_one(&mut self.book);
             return true;
         }
-        let (taken, outcome) = end_walk(&mut self.machine, t, local, &mut self.event);
-        push_taken(&mut self.log, t, taken, &self.event);
-        self.steps += taken.local + u32::from(is_shared(taken.behind));
+        let (machine, event) = (&mut self.machine, &mut self.event);
+        self.steps += end_walk(machine, &mut self.log, t, local, event, told);
         share.count_one(&mut self.book);
-        let attempt = attempt_of(taken, &self.event);
-        *told = outcome.and(Ok(attempt));
         false
     }
 
@@ -631,7 +629,7 @@ impl<J: RunName> Shared<J> {
         if self.goes_freely(t) {
             return self.go_on(t, share, told);
         }
-        *told = self.try_held(image, t, share);
+        self.tell_held(image, t, share, told);
         false
     }
 
@@ -651,8 +649,32 @@ impl<J: RunName> Shared<J> {
         }
     }
 
-    // The same where some bucket is held.
+    // The same where some bucket is held. What came of it is told in its place, so that the callers have no place for another.
     #[inline(never)]
+    fn tell_held(
+        &mut self,
+        image: &Image,
+        t: u32,
+        share: &mut Share<J>,
+        told: &mut Result<Attempt, RunFault>,
+    )
+        requires image { image.now ≡ J.program }
+        requires thread { can_move (log_state self.old).concrete.concrete t ≡ true }
+        requires fit { IsFit J.program (log_state self.old).concrete }
+        requires room { cost self.old.log + suc most_local_steps ≤ J.limit }
+        ensures made { IfOk told.new (λ a. is_made a ≡ true → cost self.old.log < cost self.new.log) }
+        ensures none { IfOk told.new (λ a. is_made a ≡ false → (log_state self.new ≡ log_state self.old)
+            × IsHeldUp J.program (log_state self.new).concrete t) }
+        ensures tried { IfOk told.new (λ a. TriedSo J.program (log_state self.old).concrete t a
+            (log_state self.new).concrete) }
+        ensures err { IfErr told.new (λ fault. CanFail J.program J.outside J.limit fault) }
+        ensures within { cost self.new.log ≤ J.limit }
+    {
+        *told = self.try_held(image, t, share);
+    }
+
+    // Tries such an entry.
+    #[inline(always)]
     fn try_held(&mut self, image: &Image, t: u32, share: &mut Share<J>) -> Result<Attempt, RunFault>
         requires image { image.now ≡ J.program }
         requires thread { can_move (log_state self.old).concrete.concrete t ≡ true }

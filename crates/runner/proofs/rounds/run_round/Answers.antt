@@ -1,4 +1,4 @@
-use Rattle.std.proofs.Common.{arith}
+use Rattle.std.proofs.Common.{◌+◌, arith}
 use Rattle.std.specs.Prelude.{Some, None}
 use Rattle.piece_machine.specs.PieceViews.{parts}
 use Rattle.runner.specs.Views.{log_state}
@@ -7,8 +7,8 @@ use Rattle.runner.proofs.Passing.{made_step, none_step, same_step}
 use Rattle.runner.proofs.Unrolling.{holds}
 use Rattle.runner.proofs.rounds.run_round.Goals as goal
 
-pub next_free-requires-clause-waits : goal.next_free-requires-clause-waits
-next_free-requires-clause-waits g c =
+pub next_behind-requires-clause-waits : goal.next_behind-requires-clause-waits
+next_behind-requires-clause-waits g c =
     let m = c.piece_machine in
     wait_at g.J.RunName.program m.result.now.view.program (log_state c.loop-t.shared).concrete (parts m.result.now)
     c.loop-t.waiting m.ensures.program m.ensures.parts c.loop-t.invariant.waits
@@ -27,19 +27,18 @@ loop-t-preserved g c =
     let new = log_state c.take_turn.new.shared in
     let t = c.in-Some.t in
     let m = c.piece_machine in
-    let free = free_at p m.result.now.view.program old.concrete (parts m.result.now) c.loop-t.from (Some t)
+    let free = free_at p m.result.now.view.program old.concrete (parts m.result.now) (c.loop-t.last + 1) (Some t)
     m.ensures.program m.ensures.parts c.in-Some.ensures.free in
     record {
       past = e.past;
       waits = e.waits;
-      from_one = omega arith;
-      few = omega (arith, c.in-Some.ensures.number.1);
+      few = c.in-Some.ensures.number.1;
       made = made_step limit (log_state c.args.shared.now) old new c.loop-t.made c.in_ok-made.field-0 v.made v.same
           (λ n. (e.none n).0) e.made;
       same = same_step (log_state c.args.shared.now) old new c.loop-t.made c.in_ok-made.field-0 v.same
           (λ n. (e.none n).0);
       none = λ still one. none_step p limit old new c.loop-t.made c.in_ok-made.field-0 t
-          (λ before. stopped_to p limit old c.loop-t.from t (v.none before one) free) e.none still;
+          (λ before. stopped_to p limit old (c.loop-t.last + 1) t (v.none before one) free) e.none still;
     }
 
 pub loop-t-smaller : goal.loop-t-smaller
@@ -50,6 +49,6 @@ returns-clause-none g c =
     let p = g.J.RunName.program in
     let here = log_state c.loop-t.shared in
     let m = c.piece_machine in
-    let none = free_at p m.result.now.view.program here.concrete (parts m.result.now) c.loop-t.from None m.ensures.program
+    let none = free_at p m.result.now.view.program here.concrete (parts m.result.now) (c.loop-t.last + 1) None m.ensures.program
     m.ensures.parts c.in_default.ensures.free in
-    λ still one. all_stopped p g.J.RunName.limit here c.loop-t.from (c.loop-t.invariant.none still one) none
+    λ still one. all_stopped p g.J.RunName.limit here (c.loop-t.last + 1) (c.loop-t.invariant.none still one) none

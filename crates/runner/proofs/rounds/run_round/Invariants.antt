@@ -1,4 +1,4 @@
-use Rattle.std.proofs.Common.{◌≡◌, ◌<◌, ◌≤◌, ◌-◌, ℕ, suc, true, false}
+use Rattle.std.proofs.Common.{◌≡◌, ◌<◌, ◌≤◌, ◌-◌, ◌+◌, ℕ, true, false}
 use Rattle.words.specs.Limits.{most_threads}
 use Rattle.machine.specs.ConcreteSteps.{can_move}
 use Rattle.runner.specs.Logs.{cost}
@@ -12,13 +12,12 @@ abbrev pub invariant-loop-t : goal.invariant-loop-t
 invariant-loop-t g l = record {
   past : AllPast g.J.RunName.program g.J.RunName.limit (log_state l.shared) l.refused;
   waits : AllWait g.J.RunName.program (log_state l.shared).concrete l.waiting;
-  from_one : 0 < l.from;
-  few : l.from ≤ suc most_threads;
+  few : l.last ≤ most_threads;
   made : l.made ≡ true → (cost l.fn.shared.log < cost l.shared.log) × (cost l.shared.log ≤ g.J.RunName.limit);
   same : l.made ≡ false → log_state l.fn.shared ≡ log_state l.shared;
-  none : l.made ≡ false → l.fn.first ≡ 1 → (u : ℕ) → u < l.from → can_move (log_state l.shared).concrete.concrete u ≡ true
+  none : l.made ≡ false → l.fn.before ≡ 0 → (u : ℕ) → u < l.last + 1 → can_move (log_state l.shared).concrete.concrete u ≡ true
       → IsStopped g.J.RunName.program g.J.RunName.limit l.shared.log (log_state l.shared).concrete u;
 }
 
 abbrev pub decreases-loop-t : goal.decreases-loop-t
-decreases-loop-t g l = suc most_threads - l.from
+decreases-loop-t g l = most_threads - l.last

@@ -11,8 +11,8 @@ pub shut_taken-requires-clause-held : goal.shut_taken-requires-clause-held
 shut_taken-requires-clause-held c =
     same_held (parts c.args.machine.now) c.check.new.self c.leave-in-Took.new.self c.leave-in-Took.ensures.shut c.check.ensures.held
 
-pub returns-then-is_access : goal.returns-then-is_access
-returns-then-is_access c = λ p k fit want same tried.
+pub returns-then-takes_none : goal.returns-then-takes_none
+returns-then-takes_none c = λ p k fit want same tried.
     let new = parts c.args.machine.now in
     let xs = c.args.self.now.wants in
     let e = c.leave.ensures in
@@ -21,7 +21,7 @@ returns-then-is_access c = λ p k fit want same tried.
           (e.wants
           ∙ ap (λ (ys : List (Option ℕ)). slice_set ys c.args.t None) c.check.ensures.wants)
           (made_want p k new c.args.t xs fit want
-          (made_entered p k new c.args.t c.args.attempt (inl c.if-is_access.ensures) tried));
+          (made_entered p k new c.args.t c.args.attempt (c.takes_none.ensures c.if-takes_none.true) tried));
       sound = e.sound;
       held = same_held (parts c.args.machine.now) c.check.new.self c.leave.new.self e.shut c.check.ensures.held;
     }

@@ -2,7 +2,7 @@ use Rattle.std.proofs.Common.{◌≡◌, ◌<◌, ◌≤◌, ◌-◌, ℕ}
 use Rattle.words.specs.Limits.{run_buckets}
 use Rattle.piece_machine.specs.PieceViews.{parts}
 use Rattle.runner.specs.Waits.{IsHeldIf, IsSound}
-use Rattle.runner.proofs.passing_over.Waiting.check.Given as goal
+use Rattle.runner.proofs.passing_over.Waiting.check_all.Given as goal
 
 abbrev pub invariant-loop-at : goal.invariant-loop-at
 invariant-loop-at l = record {
