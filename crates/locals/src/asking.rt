@@ -5,7 +5,7 @@ ghost use Rattle.isa.specs.declared.instr.Instr.TheVariants.{Fork, RetValue};
 ghost use Rattle.locals.specs.declared.request.NextStep.TheVariants as next;
 ghost use Rattle.locals.specs.Threads.{Locals as LocalsOf, Frame as FrameOf};
 ghost use Rattle.locals.specs.Looks.{Request as RequestOf, look_at, return_look};
-ghost use Rattle.locals.specs.Requests.{next_step_of, request_step};
+ghost use Rattle.locals.specs.Requests.{call_in, next_step_of, request_step};
 ghost use Rattle.locals.specs.Views.{shared_where, local_where, looks, IsRequest, TakesTwo};
 
 use crate::activation::{Activation, MOST_OPERANDS};
@@ -22,6 +22,56 @@ impl Activation {
         match image.at(self.place) {
             Some(instr) => self.next(instr, image.version(), t),
             None => NextStep::Broken,
+        }
+    }
+
+    /// The wait or wake that comes next, if one does. Who takes pieces of these asks for them first: that takes a tenth of
+    /// what it takes to tell all steps apart.
+    #[inline(always)]
+    pub fn call_ahead(&self, image: &Image) -> Option<Request>
+        ensures { (t : ℕ) → result ≡ call_in (next_step_of
+            (looks (most_of image.now.version) t (slice_get image.now.code self.now.place) self.now)) }
+    {
+        match image.code().get(self.place as usize)? {
+            Instr::FutexWait => {
+                let (address, expected) = self.operands.top_two()?;
+                Some(Request::Wait {
+                    address: Addr(address),
+                    expected,
+                })
+            }
+            Instr::FutexWake => {
+                let (address, count) = self.operands.top_two()?;
+                Some(Request::Wake {
+                    address: Addr(address),
+                    count,
+                })
+            }
+            Instr::Push(_)
+            | Instr::GetLocal(_)
+            | Instr::SetLocal(_)
+            | Instr::Pop
+            | Instr::Operate(_)
+            | Instr::Negate
+            | Instr::Not
+            | Instr::Jump(_)
+            | Instr::JumpIfZero(_)
+            | Instr::Call(_)
+            | Instr::Ret
+            | Instr::RetValue
+            | Instr::Index(..)
+            | Instr::OwnNumber
+            | Instr::ProcessAddress(_)
+            | Instr::Raise(_)
+            | Instr::Load
+            | Instr::Store
+            | Instr::Swap
+            | Instr::CompareSwap
+            | Instr::FetchOr
+            | Instr::FetchAdd
+            | Instr::Fork(..)
+            | Instr::Print
+            | Instr::FutexRequeue => None,
         }
     }
 

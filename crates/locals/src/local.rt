@@ -1,4 +1,4 @@
-ghost use Rattle.std.specs.Prelude.{◌≡◌, ◌≢◌, ◌≤◌, ◌<◌, MatchBool, Some, None, is_some, length, reverse};
+ghost use Rattle.std.specs.Prelude.{◌≡◌, ◌≢◌, ◌≤◌, ◌<◌, ℕ, MatchBool, Some, None, is_some, length, reverse};
 ghost use Rattle.std.specs.Prelude.{IfSome, MatchOption};
 ghost use Rattle.words.specs.declared.outcome.Cause.TheVariants.{Faulted, Killed};
 ghost use Rattle.robustexit.specs.declared.phase.ExitPhase.TheVariants.{Ended};
@@ -7,7 +7,7 @@ ghost use Rattle.locals.specs.Limits.{most_operands};
 ghost use Rattle.locals.specs.Threads.{Dies, Exits, is_dying, opening_thread, place_in_code};
 ghost use Rattle.locals.specs.Looks.{look};
 ghost use Rattle.locals.specs.Steps.{local_after, local_step};
-ghost use Rattle.locals.specs.Requests.{next_step_of, after_answer, fork_child, CanBeAnswered};
+ghost use Rattle.locals.specs.Requests.{call_in, next_step_of, after_answer, fork_child, CanBeAnswered};
 ghost use Rattle.locals.specs.Sequences.{AreSequences};
 ghost use Rattle.locals.specs.Walks.{Walks};
 
@@ -158,6 +158,17 @@ impl Local {
             Stage::Dying(cause) => NextStep::Shared(Request::Fault(*cause)),
             Stage::Exiting(ExitPhase::Ended) => NextStep::Ended,
             Stage::Exiting(phase) => NextStep::Exit(*phase),
+        }
+    }
+
+    /// The wait or wake that is the next step of this state, if one is.
+    #[inline(always)]
+    pub fn call_ahead(&self, image: &Image) -> Option<Request>
+        ensures { (t : ℕ) → result ≡ call_in (next_step_of (look image.now t self.now)) }
+    {
+        match &self.stage {
+            Stage::Running(activation) => activation.call_ahead(image),
+            Stage::Dying(_) | Stage::Exiting(_) => None,
         }
     }
 

@@ -11,7 +11,7 @@ ghost use Rattle.buckets.specs.Sleepers.{bucket_count, holder_of};
 ghost use Rattle.futexcalls.specs.Pieces.{takes_at, held_at, IsPhase, LiesIn};
 ghost use Rattle.locals.specs.Accesses.{accessing};
 ghost use Rattle.locals.specs.Looks.{look};
-ghost use Rattle.locals.specs.Requests.{next_step_of};
+ghost use Rattle.locals.specs.Requests.{call_in, next_step_of};
 ghost use Rattle.locals.specs.Threads.{Thread};
 ghost use Rattle.machine.specs.ConcretePieces.{MakesCall, DoesPiece, QueuesSo, IsHeldUp};
 ghost use Rattle.locals.specs.Steps.{local_step};
@@ -34,7 +34,7 @@ use crate::thread_bits::ThreadBits;
 use crate::thread_step::{take_access, take_walk};
 use futexcalls::{FutexCall, FutexPhase};
 use isa::Image;
-use locals::{Access, Local, NextStep, Sequences};
+use locals::{Access, Local, NextStep, Request, Sequences};
 use robustexit::ExitPhase;
 use std::alloc::{AllocError, Global};
 use std::marker::Model;
@@ -405,6 +405,16 @@ impl Machine {
             → result ≡ next_step_of (look self.now.program t x) }
     {
         self.threads[t as usize - 1].next_step(&self.image, t)
+    }
+
+    /// The wait or wake that is the next step of thread `t`, if one is.
+    #[inline(always)]
+    pub fn call_ahead(&self, t: u32) -> Option<Request>
+        requires { (0 < t) × (t ≤ length self.now.threads) }
+        ensures { (x : Thread) → thread_of (concrete self.now) t ≡ Some x
+            → result ≡ call_in (next_step_of (look self.now.program t x)) }
+    {
+        self.threads[t as usize - 1].call_ahead(&self.image)
     }
 
     /// What the next step of thread `t` would be if it stood at `here`.

@@ -184,6 +184,9 @@ fn end_with_room(
         → (fault ≡ RunFault.Broken) × BreaksAfter machine.old.view.program k t result.0.local) }
     ensures program { machine.new.view.program ≡ machine.old.view.program }
 {
+    if let Some(request) = machine.machine().call_ahead(t) {
+        return end_entry(machine, t, local, &NextStep::Shared(request), event);
+    }
     let next = machine.machine().next_step(t);
     end_entry(machine, t, local, &next, event)
 }
@@ -214,6 +217,9 @@ pub fn take_if_free(
     ensures wants { IfErr result (λ obstacle. WantsIf machine.old.view.program (parts machine.old) t obstacle) }
     ensures program { machine.new.view.program ≡ machine.old.view.program }
 {
+    if let Some(request) = machine.machine().call_ahead(t) {
+        return take_at_once(machine, t, NextStep::Shared(request), event);
+    }
     let next = machine.machine().next_step(t);
     if is_local(&next) {
         take_ahead(machine, image, t, ahead, event)
@@ -223,6 +229,7 @@ pub fn take_if_free(
 }
 
 // The same of a thread whose next step, `next`, is none of its own alone. A step that is refused changes nothing.
+#[inline(always)]
 fn take_at_once(
     machine: &mut PieceMachine,
     t: u32,
@@ -352,6 +359,7 @@ fn obstacle_of(machine: &PieceMachine, t: u32, next: NextStep) -> Obstacle
 }
 
 // Ends the entry of thread `t`, which stands behind its local steps, where its next step is `next`.
+#[inline(always)]
 fn end_entry(
     machine: &mut PieceMachine,
     t: u32,
