@@ -10,8 +10,8 @@ use Rattle.runner.proofs.Handing.{up}
 use Rattle.runner.proofs.Walking.{is_own}
 use Rattle.runner.proofs.in_place.take_if_free.Goals as goal
 
-pub take_at_once-requires-clause-shared : goal.take_at_once-requires-clause-shared
-take_at_once-requires-clause-shared c = λ own.
+pub take_at_once-requires-else-is_local-clause-shared : goal.take_at_once-requires-clause-shared
+take_at_once-requires-else-is_local-clause-shared c = λ own.
     let m = c.args.machine.now in
     let t = c.args.t in
     let u = up (parts m).concrete t c.requires.thread in
