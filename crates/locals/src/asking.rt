@@ -25,8 +25,8 @@ impl Activation {
         }
     }
 
-    /// The wait or wake that comes next, if one does. Who takes pieces of these asks for them first: that takes a tenth of
-    /// what it takes to tell all steps apart.
+    /// The wait or wake that comes next, if one does. Who takes pieces of these asks for them first, and needn't tell all steps
+    /// apart.
     #[inline(always)]
     pub fn call_ahead(&self, image: &Image) -> Option<Request>
         ensures { (t : ℕ) → result ≡ call_in (next_step_of

@@ -9,9 +9,7 @@ use Rattle.locals.specs.Looks.{Request, AskLoad, AskStore, AskSwap, AskCompareSw
 use Rattle.locals.specs.Looks.{AskWait, AskWake, AskRequeue, AskReturn, AskReturnValue, AskFault, Look, Goes, Asks}
 use Rattle.locals.specs.Looks.{Leaves, Breaks, Rests, look}
 use Rattle.locals.specs.declared.request.NextStep.TheVariants as kind
-use Rattle.locals.specs.Requests.{call_in, next_step_of, request_step, short_call}
-use Rattle.locals.specs.declared.request.Request.{Request as Told}
-use Rattle.locals.specs.declared.request.Request.TheVariants as ask
+use Rattle.locals.specs.Requests.{next_step_of, request_step}
 use Rattle.locals.specs.Steps.{local_next, local_step}
 use Rattle.locals.specs.Threads.{Thread}
 use Rattle.machine.specs.ConcreteSteps.{can_move, fault_of}
@@ -36,30 +34,6 @@ use Rattle.runner.proofs.Growing.{entry}
 use Rattle.runner.proofs.Handing.{refused_at, refused_by, refused_end, up}
 use Rattle.runner.proofs.Once.{still_made}
 use Rattle.runner.proofs.Unrolling.{put_back}
-
--- a wait or wake that comes next is the step that does
-is_request : (request told : Told) → Some told ≡ short_call request → told ≡ request
-is_request (ask.Wait a expected) told is = cc
-is_request (ask.Wake a n) told is = cc
-is_request (ask.Load a) told is = absurd cc
-is_request (ask.Store a v) told is = absurd cc
-is_request (ask.Swap a v) told is = absurd cc
-is_request (ask.CompareSwap a expected new) told is = absurd cc
-is_request (ask.FetchOr a v) told is = absurd cc
-is_request (ask.FetchAdd a v) told is = absurd cc
-is_request (ask.Print number) told is = absurd cc
-is_request (ask.Requeue a b wakes moves expected) told is = absurd cc
-is_request ask.Return told is = absurd cc
-is_request (ask.ReturnValue v) told is = absurd cc
-is_request (ask.Fault cause) told is = absurd cc
-
-pub calls_next : (n : NextStep) (told : Told) → Some told ≡ call_in n → kind.Shared told ≡ n
-calls_next (kind.Shared request) told is = ap (λ r. kind.Shared r) (is_request request told is)
-calls_next kind.Local told is = absurd cc
-calls_next (kind.Fork entry count has_room) told is = absurd cc
-calls_next (kind.Exit phase) told is = absurd cc
-calls_next kind.Broken told is = absurd cc
-calls_next kind.Ended told is = absurd cc
 
 -- a machine whose thread went on by local steps
 pub led_to : (old mid : MachineView) (t : ℕ) (here : Thread)
