@@ -106,7 +106,7 @@ impl Activation {
     }
 
     #[inline(always)]
-    fn load(&mut self, words: &Mem) -> Option<Access>
+    pub(crate) fn load(&mut self, words: &Mem) -> Option<Access>
         requires { self.old.place < most_instructions }
         ensures { Accessed result (looks 0 0 (Some Load) self.old) words.now self.old words.now self.new }
     {
