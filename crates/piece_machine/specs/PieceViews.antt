@@ -32,6 +32,8 @@ use Rattle.machine.specs.PieceSteps.{IsPieceStep, PieceRun, BlocksAt, BlocksCall
 use Rattle.machine.specs.Runs.{Own, Strayed, Killed, Step, is_paused}
 use Rattle.machine.specs.ThreadSets.{set_of}
 use Rattle.piece_machine.specs.PieceConcrete.{PieceConcrete, piece_of, with_local}
+use Rattle.piece_machine.specs.declared.told.Told.{Told}
+use Rattle.piece_machine.specs.declared.told.Told.TheVariants.{Plain, Written}
 
 -- the machine, and for each thread from 0 the phase of its call
 pub record PieceView : Type 0 where
@@ -94,6 +96,11 @@ expected_of (Requeue a b wakes moves expected) = expected
 abbrev pub told_next : Option ℕ → FutexCall → Event
 told_next (Some b) call = plain name.FutexLock b
 told_next None call = plain name.FutexCompare (expected_of call)
+
+-- the event of a step that is told of so, where this event was put in its place
+abbrev pub event_told : Told → Event → Event
+event_told (Plain kind value) event = plain kind value
+event_told Written event = event
 
 -- what an event tells of a step, by its name: which bucket the thread took, or which word it found as expected; any other
 -- is of a step behind which the thread stands outside calls

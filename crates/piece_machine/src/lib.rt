@@ -10,6 +10,8 @@ mod outside;
 mod phases;
 mod piece_machine;
 mod sleeping;
+mod told;
 
 pub use laws::functions_are_steps;
 pub use piece_machine::PieceMachine;
+pub use told::Told;

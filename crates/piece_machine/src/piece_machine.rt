@@ -1,17 +1,19 @@
 ghost use Rattle.std.specs.Prelude.{◌≡◌, ◌≤◌, ◌<◌, ◌+◌, length, None, Some, Ok, Err, IfOk, IfErr, OnOk};
 ghost use Rattle.buckets.specs.BucketCount.{IsBucketCount};
 ghost use Rattle.locals.specs.Looks.{look};
-ghost use Rattle.locals.specs.Requests.{next_step_of};
+ghost use Rattle.locals.specs.Requests.{next_step_of, short_call};
 ghost use Rattle.locals.specs.Threads.{Thread};
+ghost use Rattle.locals.specs.declared.request.NextStep.TheVariants.{Shared};
 ghost use Rattle.machine.specs.PieceStates.{opening_pieces, call_of};
 ghost use Rattle.machine.specs.RequestMeanings.{asked_of};
 ghost use Rattle.machine.specs.States.{state_of, thread_of};
 ghost use Rattle.machine.specs.Views.{concrete};
 ghost use Rattle.piece_machine.specs.PieceConcrete.{opening_at, piece_of};
 ghost use Rattle.piece_machine.specs.PieceDetermined.{IsFit};
-ghost use Rattle.piece_machine.specs.PieceViews.{pieces, parts, IsComeTo, IsApart};
+ghost use Rattle.piece_machine.specs.PieceViews.{event_told, pieces, parts, IsComeTo, IsApart};
 
 use crate::phases::Phases;
+use crate::told::Told;
 use futexcalls::FutexCall;
 use isa::Image;
 use locals::{NextStep, Request};
@@ -138,7 +140,7 @@ impl PieceMachine {
     }
 
     /// The step of thread `t`, which was made and is awake, whose next step is `next`. It is `step` for a caller that
-    /// has asked for the next step already. Waits and wakes come first, since most such steps are pieces of theirs.
+    /// has asked for the next step already.
     #[inline(always)]
     pub fn step_as(&mut self, t: u32, next: NextStep, event: &mut Event) -> Result<(), StepFault>
         requires room { 1 ≤ self.old.view.room }
@@ -155,13 +157,66 @@ impl PieceMachine {
         ensures room { self.old.view.room ≤ self.new.view.room + 1 }
     {
         match next {
-            NextStep::Shared(Request::Wait { address, expected }) => {
-                self.wait_step(t, address, expected, event)
-            }
-            NextStep::Shared(Request::Wake { address, count }) => {
-                self.wake_step(t, address, count, event)
-            }
+            NextStep::Shared(request) => self.request_step(t, request, event),
             _ => self.other_step(t, event),
+        }
+    }
+
+    // The same of this request. Apart, for callers that take few.
+    #[inline(never)]
+    fn request_step(
+        &mut self,
+        t: u32,
+        request: Request,
+        event: &mut Event,
+    ) -> Result<(), StepFault>
+        requires room { 1 ≤ self.old.view.room }
+        requires thread { (0 < t) × (t ≤ length self.old.view.threads) }
+        requires awake { (state_of (concrete self.old.view)).asleep t ≡ None }
+        requires next { (x : Thread) → thread_of (concrete self.old.view) t ≡ Some x
+            → Shared request ≡ next_step_of (look self.old.view.program t x) }
+        ensures done { OnOk result (piece_of self.old.view.program (parts self.old) t
+            ≡ Ok (parts self.new, event.new)) }
+        ensures err { IfErr result
+            (λ f. (piece_of self.old.view.program (parts self.old) t ≡ Err f)
+            × (self.new ≡ self.old)) }
+        ensures program { self.new.view.program ≡ self.old.view.program }
+        ensures room { self.old.view.room ≤ self.new.view.room + 1 }
+    {
+        let told = self.request_told(t, request, event)?;
+        told.write(event);
+        Ok(())
+    }
+
+    /// The same, and how the step is told of: so the events of most waits and wakes needn't be written and read. These come
+    /// first, since most such steps are pieces of theirs, and they print no number, which would want room.
+    #[inline(always)]
+    pub fn request_told(
+        &mut self,
+        t: u32,
+        request: Request,
+        event: &mut Event,
+    ) -> Result<Told, StepFault>
+        requires room { short_call request ≡ None → 1 ≤ self.old.view.room }
+        requires thread { (0 < t) × (t ≤ length self.old.view.threads) }
+        requires awake { (state_of (concrete self.old.view)).asleep t ≡ None }
+        requires next { (x : Thread) → thread_of (concrete self.old.view) t ≡ Some x
+            → Shared request ≡ next_step_of (look self.old.view.program t x) }
+        ensures done { IfOk result (λ told. piece_of self.old.view.program (parts self.old) t
+            ≡ Ok (parts self.new, event_told told event.new)) }
+        ensures err { IfErr result
+            (λ f. (piece_of self.old.view.program (parts self.old) t ≡ Err f)
+            × (self.new ≡ self.old)) }
+        ensures program { self.new.view.program ≡ self.old.view.program }
+        ensures room { self.old.view.room ≤ self.new.view.room + 1 }
+    {
+        match request {
+            Request::Wait { address, expected } => self.wait_step(t, address, expected, event),
+            Request::Wake { address, count } => self.wake_step(t, address, count, event),
+            _ => {
+                self.other_step(t, event)?;
+                Ok(Told::Written)
+            }
         }
     }
 
@@ -185,7 +240,7 @@ impl PieceMachine {
             NextStep::Shared(request) => match call_in(request) {
                 Some(call) => {
                     let phase = self.phases.at(t);
-                    self.call_step(t, call, phase, event)
+                    self.call_rest(t, call, phase, event)
                 }
                 None => self.whole_step(t, next, event),
             },

@@ -16,6 +16,7 @@ pub mod Joining
 pub mod Shutting
 pub mod Resting
 pub mod Walking
+pub mod Callings
 pub mod Scheduling
 pub mod Locally
 pub mod Once

@@ -1,9 +1,9 @@
-ghost use Rattle.words.specs.Limits.{most_local_steps};
+ghost use Rattle.words.specs.Limits.{most_local_steps, most_threads};
 ghost use Rattle.std.specs.Prelude.{◌≡◌, ◌≢◌, ◌≤◌, ◌<◌, ◌+◌, ◌++◌, ◌∷◌, ℕ, [], length, true, None, Some, Err, IfErr, IfOk, is_some};
 ghost use Rattle.std.specs.Prelude.{IfNone, IfSome, MatchBool, OnErr, OnOk};
 ghost use Rattle.locals.specs.Looks.{look};
-ghost use Rattle.locals.specs.Requests.{next_step_of};
-ghost use Rattle.locals.specs.declared.request.NextStep.TheVariants.{Local as LocalStep};
+ghost use Rattle.locals.specs.Requests.{next_step_of, short_call};
+ghost use Rattle.locals.specs.declared.request.NextStep.TheVariants.{Local as LocalStep, Shared};
 ghost use Rattle.locals.specs.Threads.{Thread};
 ghost use Rattle.machine.specs.Accessing.{told_access};
 ghost use Rattle.machine.specs.ConcreteSteps.{can_move};
@@ -13,7 +13,7 @@ ghost use Rattle.machine.specs.States.{state_of, thread_of};
 ghost use Rattle.machine.specs.Views.{concrete};
 ghost use Rattle.piece_machine.specs.PieceConcrete.{PieceConcrete, piece_fault_at};
 ghost use Rattle.piece_machine.specs.PieceDetermined.{IsFit};
-ghost use Rattle.piece_machine.specs.PieceViews.{GoesTo, parts};
+ghost use Rattle.piece_machine.specs.PieceViews.{GoesTo, event_told, parts};
 ghost use Rattle.runner.specs.Attempts.{AsksFirst, WantsIf, is_made};
 ghost use Rattle.runner.specs.Entries.{BreaksAfter, entry_end, taken_entry, taken_event};
 ghost use Rattle.runner.specs.Logs.{EntersOwn, event_cost};
@@ -28,10 +28,10 @@ use crate::fault::RunFault;
 use crate::stepping::is_local;
 use futexcalls::FutexPhase;
 use isa::Image;
-use locals::{Access, Local, NextStep};
+use locals::{Access, Local, NextStep, Request};
 use machine::{Event, EventName, Machine, StepFault, access_name};
 use packed_log::PackedLog;
-use piece_machine::PieceMachine;
+use piece_machine::{PieceMachine, Told};
 use words::MOST_LOCAL_STEPS;
 
 /// What comes behind the local steps of an entry that a thread made in its place.
@@ -111,9 +111,136 @@ pub fn walk(machine: &mut PieceMachine, t: u32) -> (u32, Option<Access>)
 /// Ends the entry of thread `t`, which has taken the local steps of its turn in its place, so many, and stands before no
 /// access: with the shared step that it stands before, if any, whose event is put in its place. Where that step may not be,
 /// or there is no memory for the number that it may print, the entry has the local steps alone. Puts it at the end of a log
-/// that has room for it, tells what came of it, and answers how many steps it has.
+/// that has room for it, tells what came of it, and answers how many steps it has. Waits and wakes come first, as most do.
 #[inline(never)]
 pub fn end_walk(
+    machine: &mut PieceMachine,
+    log: &mut PackedLog,
+    t: u32,
+    local: u32,
+    event: &mut Event,
+    told: &mut Result<Attempt, RunFault>,
+) -> u32
+    requires moves { can_move (concrete machine.old.view) t ≡ true }
+    requires turn { local ≤ most_local_steps }
+    requires room { 1 ≤ log.old.room }
+    ensures ends { (k : PieceConcrete) → Walked machine.old.view.program k t local (parts machine.old)
+        → EndsWalk machine.old.view.program k t local log.old.items (parts machine.new) log.new.items result told.new }
+    ensures few { result ≤ local + 1 }
+    ensures program { machine.new.view.program ≡ machine.old.view.program }
+{
+    match machine.machine().call_ahead(t) {
+        Some(request) => end_call(machine, log, t, local, request, event, told),
+        None => end_other(machine, log, t, local, event, told),
+    }
+}
+
+// The same of a thread that stands before a wait or a wake.
+#[inline(always)]
+fn end_call(
+    machine: &mut PieceMachine,
+    log: &mut PackedLog,
+    t: u32,
+    local: u32,
+    request: Request,
+    event: &mut Event,
+    told: &mut Result<Attempt, RunFault>,
+) -> u32
+    requires moves { can_move (concrete machine.old.view) t ≡ true }
+    requires turn { local ≤ most_local_steps }
+    requires room { 1 ≤ log.old.room }
+    requires number { (0 < t) × (t ≤ most_threads) }
+    requires short { Some request ≡ short_call request }
+    requires next { (x : Thread) → thread_of (concrete machine.old.view) t ≡ Some x
+        → Shared request ≡ next_step_of (look machine.old.view.program t x) }
+    ensures ends { (k : PieceConcrete) → Walked machine.old.view.program k t local (parts machine.old)
+        → EndsWalk machine.old.view.program k t local log.old.items (parts machine.new) log.new.items result told.new }
+    ensures few { result ≤ local + 1 }
+    ensures program { machine.new.view.program ≡ machine.old.view.program }
+{
+    match machine.request_told(t, request, event) {
+        Ok(Told::Plain(name, value)) => {
+            log.push_small(t, local, name, value);
+            *told = Ok(attempt_as(name, value));
+            local + 1
+        }
+        Ok(Told::Written) => {
+            log.push_parts(t, local, Some(event));
+            *told = Ok(Attempt::Made);
+            local + 1
+        }
+        Err(_) => {
+            log.push_parts(t, local, None);
+            *told = Err(RunFault::Broken);
+            local
+        }
+    }
+}
+
+/// Takes the next entry of thread `t`, which may be held up and stands before this wait or wake: refused with the held bucket
+/// that is in its way, and then nothing has changed. Puts it at the end of a log that has room for it, tells what came of it,
+/// and answers how many steps it has.
+#[inline(always)]
+pub fn take_call(
+    machine: &mut PieceMachine,
+    log: &mut PackedLog,
+    t: u32,
+    request: Request,
+    event: &mut Event,
+    told: &mut Result<Attempt, RunFault>,
+) -> Result<u32, Obstacle>
+    requires moves { can_move (concrete machine.old.view) t ≡ true }
+    requires number { (0 < t) × (t ≤ most_threads) }
+    requires fit { IsFit machine.old.view.program (parts machine.old) }
+    requires room { 1 ≤ log.old.room }
+    requires short { Some request ≡ short_call request }
+    requires next { (x : Thread) → thread_of (concrete machine.old.view) t ≡ Some x
+        → Shared request ≡ next_step_of (look machine.old.view.program t x) }
+    ensures ends { IfOk result (λ steps. EndsWalk machine.old.view.program (parts machine.old) t 0 log.old.items
+        (parts machine.new) log.new.items steps told.new) }
+    ensures breaks { OnOk result (IfErr told.new (λ fault. (fault ≡ RunFault.Broken)
+        × BreaksAfter machine.old.view.program (parts machine.old) t 0)) }
+    ensures held { OnErr result ((parts machine.new ≡ parts machine.old) × (log.new.items ≡ log.old.items)
+        × IsHeldUp machine.old.view.program (parts machine.old) t) }
+    ensures wants { IfErr result (λ obstacle. WantsIf machine.old.view.program (parts machine.old) t obstacle) }
+    ensures program { machine.new.view.program ≡ machine.old.view.program }
+{
+    match machine.request_told(t, request, event) {
+        Ok(Told::Plain(name, value)) => {
+            log.push_small(t, 0, name, value);
+            *told = Ok(attempt_as(name, value));
+            Ok(1)
+        }
+        Ok(Told::Written) => {
+            log.push_parts(t, 0, Some(event));
+            *told = Ok(Attempt::Made);
+            Ok(1)
+        }
+        Err(StepFault::Broken) => {
+            log.push_parts(t, 0, None);
+            *told = Err(RunFault::Broken);
+            Ok(0)
+        }
+        Err(StepFault::CannotMove) => Err(obstacle_of(machine, t, NextStep::Shared(request))),
+    }
+}
+
+// What came of an entry whose shared step is of this kind and value.
+#[inline(always)]
+fn attempt_as(name: EventName, value: u32) -> Attempt
+    ensures made { is_made result ≡ true }
+    ensures other { result ≢ Attempt.Accessed }
+{
+    if name == EventName::FutexLock {
+        Attempt::Took(value)
+    } else {
+        Attempt::Made
+    }
+}
+
+// The same of a thread that stands before neither.
+#[inline(never)]
+fn end_other(
     machine: &mut PieceMachine,
     log: &mut PackedLog,
     t: u32,
@@ -184,9 +311,6 @@ fn end_with_room(
         → (fault ≡ RunFault.Broken) × BreaksAfter machine.old.view.program k t result.0.local) }
     ensures program { machine.new.view.program ≡ machine.old.view.program }
 {
-    if let Some(request) = machine.machine().call_ahead(t) {
-        return end_entry(machine, t, local, &NextStep::Shared(request), event);
-    }
     let next = machine.machine().next_step(t);
     end_entry(machine, t, local, &next, event)
 }
@@ -217,9 +341,6 @@ pub fn take_if_free(
     ensures wants { IfErr result (λ obstacle. WantsIf machine.old.view.program (parts machine.old) t obstacle) }
     ensures program { machine.new.view.program ≡ machine.old.view.program }
 {
-    if let Some(request) = machine.machine().call_ahead(t) {
-        return take_at_once(machine, t, NextStep::Shared(request), event);
-    }
     let next = machine.machine().next_step(t);
     if is_local(&next) {
         take_ahead(machine, image, t, ahead, event)

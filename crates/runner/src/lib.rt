@@ -2,6 +2,7 @@
 #![tactic(auto)]
 
 mod attempt;
+mod caller;
 mod calling;
 mod calm_places;
 mod drawing;

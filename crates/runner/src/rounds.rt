@@ -10,6 +10,7 @@ ghost use Rattle.runner.specs.Views.{log_state};
 ghost use Rattle.runner.specs.Waits.{AllWait};
 
 use crate::attempt::Attempt;
+use crate::caller::{Alone, Drawn, InRounds};
 use crate::fault::RunFault;
 use crate::naming::RunName;
 use crate::passing_over::Waiting;
@@ -34,20 +35,10 @@ pub fn run_rounds<J: RunName, G: Gate>(
 {
     let forked = run_first(shared, share, gate)?;
     let mut refused = [false; MOST_THREADS as usize + 1];
-    let mut waiting = Waiting::new();
     let mut piece = Piece::idle(1);
+    end_round(shared, &mut refused, image, share, gate, &mut piece, forked)?;
+    let mut waiting = Waiting::new();
     let mut told = Ok(Attempt::Refused);
-    end_round(
-        shared,
-        &mut refused,
-        &mut waiting,
-        image,
-        share,
-        gate,
-        &mut piece,
-        &mut told,
-        forked,
-    )?;
     while run_round(
         shared,
         &mut refused,
@@ -57,7 +48,6 @@ pub fn run_rounds<J: RunName, G: Gate>(
         gate,
         &mut piece,
         &mut told,
-        0,
     )? {}
     Ok(())
 }
@@ -78,30 +68,32 @@ fn run_first<J: RunName, G: Gate>(
     Ok(shared.machine().threads() > 1)
 }
 
-// Makes the entries of a round behind that of thread 1, where it has forked in it. Apart, since it is called once.
+// Ends the round in which thread 1 has forked, if it has, with an entry for each thread behind it that can make one. Apart,
+// since it is called once.
 #[cold]
 #[inline(never)]
 fn end_round<J: RunName, G: Gate>(
     shared: &mut Shared<J>,
     refused: &mut [bool],
-    waiting: &mut Waiting,
     image: &Image,
     share: &mut Share<J>,
     gate: &G,
     piece: &mut Piece<J>,
-    told: &mut Result<Attempt, RunFault>,
     forked: bool,
 ) -> Result<(), RunFault>
     requires image { image.now ≡ J.program }
     requires room { length refused.old ≡ suc most_threads }
     requires past { AllPast J.program J.limit (log_state shared.old) refused.old }
-    requires waits { AllWait J.program (log_state shared.old).concrete waiting.old }
     ensures past { OnOk result (AllPast J.program J.limit (log_state shared.new) refused.new) }
-    ensures waits { OnOk result (AllWait J.program (log_state shared.new).concrete waiting.new) }
     ensures err { IfErr result (λ fault. CanFail J.program J.outside J.limit fault) }
 {
-    if forked {
-        run_round(shared, refused, waiting, image, share, gate, piece, told, 1)?;
+    if !forked {
+        return Ok(());
+    }
+    let mut t = 1;
+    while t < shared.machine().threads() {
+        t += 1;
+        make_entry(shared, refused, image, share, gate, t, piece)?;
     }
     Ok(())
 }
@@ -122,7 +114,7 @@ pub fn run_alone<J: RunName, G: Gate>(
     while moves && shared.machine().threads() == 1 && shared.is_free(t) && shared.has_room() {
         gate.pass(t);
         // Who made an access can move still, as most entries end.
-        if !shared.go_on(t, share, &mut told) {
+        if !shared.go_on::<Alone>(t, share, &mut told) {
             told?;
             moves = shared.machine().can_move(t);
         }
@@ -130,8 +122,8 @@ pub fn run_alone<J: RunName, G: Gate>(
     Ok(())
 }
 
-// Makes an entry for each thread behind this number that can make one and wasn't refused before, from one that can move and
-// isn't known to be held up to the next. Says whether it made any. What came of an entry is told in a place that each of
+// Makes an entry for each thread that can make one and wasn't refused before, from one that can move and isn't known to be
+// held up to the next. Says whether it made any. What came of an entry is told in a place that each of
 // them uses.
 #[inline(always)]
 fn run_round<J: RunName, G: Gate>(
@@ -143,10 +135,8 @@ fn run_round<J: RunName, G: Gate>(
     gate: &G,
     piece: &mut Piece<J>,
     told: &mut Result<Attempt, RunFault>,
-    before: u32,
 ) -> Result<bool, RunFault>
     requires image { image.now ≡ J.program }
-    requires before { before ≤ 1 }
     requires room { length refused.old ≡ suc most_threads }
     requires past { AllPast J.program J.limit (log_state shared.old) refused.old }
     requires waits { AllWait J.program (log_state shared.old).concrete waiting.old }
@@ -154,12 +144,11 @@ fn run_round<J: RunName, G: Gate>(
     ensures waits { OnOk result (AllWait J.program (log_state shared.new).concrete waiting.new) }
     ensures made { IfOk result (λ made. made ≡ true → (cost shared.old.log < cost shared.new.log)
         × (cost shared.new.log ≤ J.limit)) }
-    ensures none { IfOk result (λ made. made ≡ false → before ≡ 0
-        → Idle J.program J.limit (log_state shared.new)) }
+    ensures none { IfOk result (λ made. made ≡ false → Idle J.program J.limit (log_state shared.new)) }
     ensures err { IfErr result (λ fault. CanFail J.program J.outside J.limit fault) }
 {
     let mut made = false;
-    let mut last = before;
+    let mut last = 0;
     while let Some(t) = waiting.next_behind(shared.piece_machine(), last) {
         made |= take_turn(shared, refused, waiting, image, share, gate, t, piece, told)?;
         last = t;
@@ -196,7 +185,7 @@ fn take_turn<J: RunName, G: Gate>(
         → IsStopped J.program J.limit shared.new.log (log_state shared.new).concrete t)) }
     ensures err { IfErr result (λ fault. CanFail J.program J.outside J.limit fault) }
 {
-    if attempt_entry(shared, refused, image, share, gate, t, piece, told) {
+    if attempt_entry::<J, G, InRounds>(shared, refused, image, share, gate, t, piece, told) {
         waiting.follow_access(shared.piece_machine(), t);
         return Ok(true);
     }
@@ -234,7 +223,7 @@ pub(crate) fn make_entry<J: RunName, G: Gate>(
         return Ok(false);
     }
     let mut told = Ok(Attempt::Refused);
-    if attempt_entry(shared, refused, image, share, gate, t, piece, &mut told) {
+    if attempt_entry::<J, G, Drawn>(shared, refused, image, share, gate, t, piece, &mut told) {
         return Ok(true);
     }
     Ok(told?.is_made())
@@ -243,7 +232,7 @@ pub(crate) fn make_entry<J: RunName, G: Gate>(
 // The same of a thread that can move. Answers whether the entry ended with an access; what came of any other try is told
 // beside it.
 #[inline(always)]
-fn attempt_entry<J: RunName, G: Gate>(
+fn attempt_entry<J: RunName, G: Gate, C>(
     shared: &mut Shared<J>,
     refused: &mut [bool],
     image: &Image,
@@ -274,7 +263,7 @@ fn attempt_entry<J: RunName, G: Gate>(
         return false;
     }
     gate.pass(t);
-    shared.try_on(image, t, share, told)
+    shared.try_on::<C>(image, t, share, told)
 }
 
 // The same near the limit, and what came of it is told in its place, so that the callers have no place for another.

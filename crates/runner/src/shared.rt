@@ -3,7 +3,8 @@ ghost use Rattle.std.specs.Prelude.{suc, ◌≡◌, ◌≢◌, ◌≤◌, ◌<�
 ghost use Rattle.std.specs.Prelude.{IfErr, OnOk, IfSome, IfNone, MatchBool, MatchOption, is_some};
 ghost use Rattle.locals.specs.Accesses.{accessing};
 ghost use Rattle.locals.specs.Looks.{look};
-ghost use Rattle.locals.specs.Requests.{next_step_of};
+ghost use Rattle.locals.specs.Requests.{next_step_of, short_call};
+ghost use Rattle.locals.specs.Threads.{Thread};
 ghost use Rattle.machine.specs.States.{thread_of};
 ghost use Rattle.machine.specs.ConcreteSteps.{can_move};
 ghost use Rattle.piece_machine.specs.PieceDetermined.{IsFit};
@@ -24,14 +25,14 @@ use crate::attempt::Attempt;
 use crate::calm_places::CalmPlaces;
 use crate::entering::{enter, enter_access, enter_kill, enter_outside, make_room};
 use crate::fault::RunFault;
-use crate::in_place::{attempt_of, end_walk, is_shared, push_taken, take_if_free, walk};
+use crate::in_place::{attempt_of, end_walk, is_shared, push_taken, take_call, take_if_free, walk};
 use crate::naming::RunName;
 use crate::next::{After, Next};
 use crate::piece::Piece;
 use crate::share::{PARTS, Share};
 use crate::stepping::is_local;
 use isa::Image;
-use locals::{Local, NextStep};
+use locals::{Local, NextStep, Request};
 use machine::{Event, EventName, Machine, StepFault, access_name};
 use packed_log::PackedLog;
 use piece_machine::PieceMachine;
@@ -570,7 +571,7 @@ impl<J: RunName> Shared<J> {
     /// Refuses with `Memory`, and then nothing has changed, or the local steps are an entry; and with `Broken`, and then they
     /// are.
     #[inline(always)]
-    pub(crate) fn go_on(
+    pub(crate) fn go_on<C>(
         &mut self,
         t: u32,
         share: &mut Share<J>,
@@ -607,7 +608,7 @@ impl<J: RunName> Shared<J> {
 
     /// The same of a thread that may be held up: one that is makes no entry, and then nothing has changed.
     #[inline(always)]
-    pub(crate) fn try_on(
+    pub(crate) fn try_on<C>(
         &mut self,
         image: &Image,
         t: u32,
@@ -627,7 +628,7 @@ impl<J: RunName> Shared<J> {
         ensures within { cost self.new.log ≤ J.limit }
     {
         if self.goes_freely(t) {
-            return self.go_on(t, share, told);
+            return self.go_on::<C>(t, share, told);
         }
         self.tell_held(image, t, share, told);
         false
@@ -670,12 +671,58 @@ impl<J: RunName> Shared<J> {
         ensures err { IfErr told.new (λ fault. CanFail J.program J.outside J.limit fault) }
         ensures within { cost self.new.log ≤ J.limit }
     {
-        *told = self.try_held(image, t, share);
+        // Waits and wakes come first, as most do.
+        match self.machine.machine().call_ahead(t) {
+            Some(request) => self.tell_call(t, request, share, told),
+            None => *told = self.try_other(image, t, share),
+        }
     }
 
-    // Tries such an entry.
+    // Tries such an entry of a thread that stands before this wait or wake.
     #[inline(always)]
-    fn try_held(&mut self, image: &Image, t: u32, share: &mut Share<J>) -> Result<Attempt, RunFault>
+    fn tell_call(
+        &mut self,
+        t: u32,
+        request: Request,
+        share: &mut Share<J>,
+        told: &mut Result<Attempt, RunFault>,
+    )
+        requires thread { can_move (log_state self.old).concrete.concrete t ≡ true }
+        requires fit { IsFit J.program (log_state self.old).concrete }
+        requires room { cost self.old.log + suc most_local_steps ≤ J.limit }
+        requires short { Some request ≡ short_call request }
+        requires next { (x : Thread) → thread_of (log_state self.old).concrete.concrete t ≡ Some x
+            → NextStep.Shared request ≡ next_step_of (look J.program t x) }
+        ensures made { IfOk told.new (λ a. is_made a ≡ true → cost self.old.log < cost self.new.log) }
+        ensures none { IfOk told.new (λ a. is_made a ≡ false → (log_state self.new ≡ log_state self.old)
+            × IsHeldUp J.program (log_state self.new).concrete t) }
+        ensures tried { IfOk told.new (λ a. TriedSo J.program (log_state self.old).concrete t a
+            (log_state self.new).concrete) }
+        ensures err { IfErr told.new (λ fault. CanFail J.program J.outside J.limit fault) }
+        ensures within { cost self.new.log ≤ J.limit }
+    {
+        if self.log.make_room().is_err() {
+            *told = Err(RunFault::Memory);
+            return;
+        }
+        let (machine, log) = (&mut self.machine, &mut self.log);
+        match take_call(machine, log, t, request, &mut self.event, told) {
+            Ok(steps) => {
+                self.steps += steps;
+                share.count_one(&mut self.book);
+            }
+            Err(obstacle) => *told = Ok(obstacle.attempt()),
+        }
+    }
+
+    // The same of a thread that stands before neither.
+    #[inline(never)]
+    fn try_other(
+        &mut self,
+        image: &Image,
+        t: u32,
+        share: &mut Share<J>,
+    ) -> Result<Attempt, RunFault>
         requires image { image.now ≡ J.program }
         requires thread { can_move (log_state self.old).concrete.concrete t ≡ true }
         requires fit { IsFit J.program (log_state self.old).concrete }

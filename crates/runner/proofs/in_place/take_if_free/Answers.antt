@@ -10,12 +10,12 @@ use Rattle.runner.proofs.Handing.{up}
 use Rattle.runner.proofs.Walking.{is_own}
 use Rattle.runner.proofs.in_place.take_if_free.Goals as goal
 
-pub take_at_once-requires-else-is_local-clause-shared : goal.take_at_once-requires-else-is_local-clause-shared
-take_at_once-requires-else-is_local-clause-shared c = λ own.
+pub take_at_once-requires-clause-shared : goal.take_at_once-requires-clause-shared
+take_at_once-requires-clause-shared c = λ own.
     let m = c.args.machine.now in
     let t = c.args.t in
     let u = up (parts m).concrete t c.requires.thread in
-    let at = subst (λ (v : View). thread_of (concrete v) t ≡ Some u.thread) (sym c.machine-2.ensures.shows) u.stands in
+    let at = subst (λ (v : View). thread_of (concrete v) t ≡ Some u.thread) (sym c.machine.ensures.shows) u.stands in
     let is = c.next_step-next.ensures u.thread at in
-    let l = look c.machine-2.result.now.program t u.thread in
+    let l = look c.machine.result.now.program t u.thread in
     both_ways (is_some (local_next l)) (sym (c.if-is_local.ensures l is)) (is_own l (sym is ∙ own))

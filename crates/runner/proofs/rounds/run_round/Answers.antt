@@ -37,8 +37,8 @@ loop-t-preserved g c =
           (λ n. (e.none n).0) e.made;
       same = same_step (log_state c.args.shared.now) old new c.loop-t.made c.in_ok-made.field-0 v.same
           (λ n. (e.none n).0);
-      none = λ still one. none_step p limit old new c.loop-t.made c.in_ok-made.field-0 t
-          (λ before. stopped_to p limit old (c.loop-t.last + 1) t (v.none before one) free) e.none still;
+      none = λ still. none_step p limit old new c.loop-t.made c.in_ok-made.field-0 t
+          (λ before. stopped_to p limit old (c.loop-t.last + 1) t (v.none before) free) e.none still;
     }
 
 pub loop-t-smaller : goal.loop-t-smaller
@@ -51,4 +51,4 @@ returns-clause-none g c =
     let m = c.piece_machine in
     let none = free_at p m.result.now.view.program here.concrete (parts m.result.now) (c.loop-t.last + 1) None m.ensures.program
     m.ensures.parts c.in_default.ensures.free in
-    λ still one. all_stopped p g.J.RunName.limit here (c.loop-t.last + 1) (c.loop-t.invariant.none still one) none
+    λ still. all_stopped p g.J.RunName.limit here (c.loop-t.last + 1) (c.loop-t.invariant.none still) none

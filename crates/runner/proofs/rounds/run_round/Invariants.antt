@@ -15,7 +15,7 @@ invariant-loop-t g l = record {
   few : l.last ≤ most_threads;
   made : l.made ≡ true → (cost l.fn.shared.log < cost l.shared.log) × (cost l.shared.log ≤ g.J.RunName.limit);
   same : l.made ≡ false → log_state l.fn.shared ≡ log_state l.shared;
-  none : l.made ≡ false → l.fn.before ≡ 0 → (u : ℕ) → u < l.last + 1 → can_move (log_state l.shared).concrete.concrete u ≡ true
+  none : l.made ≡ false → (u : ℕ) → u < l.last + 1 → can_move (log_state l.shared).concrete.concrete u ≡ true
       → IsStopped g.J.RunName.program g.J.RunName.limit l.shared.log (log_state l.shared).concrete u;
 }
 

@@ -14,7 +14,7 @@ use Rattle.machine.specs.States.{state_of}
 use Rattle.machine.specs.Views.{View, concrete, IsWellFormed}
 use Rattle.isa.specs.Programs.{Program}
 use Rattle.piece_machine.specs.PieceConcrete.{Outcome, pieces_at, piece_of}
-use Rattle.piece_machine.specs.PieceViews.{PieceView, pieces, parts, phase_in, told_next, IsKept}
+use Rattle.piece_machine.specs.PieceViews.{PieceView, pieces, parts, phase_in, event_told, told_next, IsKept}
 use Rattle.piece_machine.proofs.Given.{held_up}
 use Rattle.piece_machine.proofs.OwnCalls.{stands_in, holds, call_blocks}
 use Rattle.piece_machine.proofs.Owns.{kept_fit}
@@ -74,10 +74,12 @@ returns-in-Next-clause-done c =
     let at = sym (subst (λ (q : PieceView). c.args.phase ≡ phase_in q.phases c.args.t) (sym c.self.view_is)
     c.requires.phase) in
     let e = c.in-Next.ensures in
-    let told : told_next (takes_at (bucket_count v.sleepers) c.args.phase c.args.call) c.args.call ≡ c.tell.new.event =
-    ap (λ o. told_next o c.args.call) (sym c.next_bucket-bucket.ensures) ∙ sym c.tell.ensures in
+    let told : told_next (takes_at (bucket_count v.sleepers) c.args.phase c.args.call) c.args.call
+    ≡ event_told c.tell.result c.take_piece.new.event =
+    ap (λ o. told_next o c.args.call) (sym c.next_bucket-bucket.ensures) ∙ sym (c.tell.ensures c.take_piece.new.event) in
     subst (λ (q : PieceView). piece_of q.view.program (parts q) c.args.t
-    ≡ (let o : Outcome = Ok (parts (record { view = v'; phases = c.put_from.new.self }), c.tell.new.event) in o)) c.self.view_is
+    ≡ (let o : Outcome = Ok (parts (record { view = v'; phases = c.put_from.new.self }), event_told c.tell.result c.take_piece.new.event)
+    in o)) c.self.view_is
     (taken_next v v' ph c.args.t c.args.call c.args.phase c.in-Next.next
     c.take_piece.new.event c.self.invariant m
     c.if-not-has_words.ensures awake at e.order (e.piece (phase_in ph) m.thread at m.stands)

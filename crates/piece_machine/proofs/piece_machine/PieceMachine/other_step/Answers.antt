@@ -16,8 +16,8 @@ use Rattle.piece_machine.proofs.piece_machine.PieceMachine.other_step.Goals as g
 abbrev AsksNext : View → ℕ → NextStep → Type 0
 AsksNext v t next = (x : Thread) → thread_of (concrete v) t ≡ Some x → next ≡ next_step_of (look v.program t x)
 
-pub call_step-requires-clause-makes : goal.call_step-requires-clause-makes
-call_step-requires-clause-makes c =
+pub call_rest-requires-clause-makes : goal.call_rest-requires-clause-makes
+call_rest-requires-clause-makes c =
     let v = c.args.self.now.view in
     let asked = subst (λ (q : PieceView). AsksNext q.view c.args.t c.next_step-next.result) c.self.view_is
     c.next_step-next.ensures in

@@ -14,7 +14,7 @@ use Rattle.runner.proofs.Growing.{breaks_can, keeps_entry}
 use Rattle.runner.proofs.Noting.{made_so, wants_at}
 use Rattle.runner.proofs.Walking.{and_err}
 use Rattle.runner.proofs.Wanting.{and_ok, entered_so}
-use Rattle.runner.proofs.shared.Shared.try_held.Goals as goal
+use Rattle.runner.proofs.shared.Shared.try_other.Goals as goal
 
 pub invariant_of-self-in-Ok : goal.invariant_of-self-in-Ok
 invariant_of-self-in-Ok g c =
