@@ -1,5 +1,5 @@
 //! How an activation goes on with the answer to what it asked for.
-ghost use Rattle.std.specs.Prelude.{◌≡◌, ◌<◌, ◌∷◌, ℕ, Some, None, slice_get, MatchOption};
+ghost use Rattle.std.specs.Prelude.{◌≡◌, ◌<◌, ◌∷◌, ℕ, Some, None, slice_get, MatchBool, MatchOption};
 ghost use Rattle.words.specs.Versions.{most_of};
 ghost use Rattle.isa.specs.Limits.{most_instructions};
 ghost use Rattle.isa.specs.declared.instr.Instr.TheVariants.{Fork, Store, Print};
@@ -14,6 +14,27 @@ use robustexit::phase_at;
 use words::{Fault, ImageVersion};
 
 impl Activation {
+    /// Goes on with the answer to the wait or wake that it makes, if it makes one, as most do that go on with an answer. Says
+    /// whether it does; else nothing has changed.
+    #[inline(always)]
+    pub fn answer_call(&mut self, image: &Image, answer: u32) -> bool
+        ensures { (t : ℕ) → MatchBool result
+            (Follows Answered.GoesOn (after_answer
+            (looks (most_of image.now.version) t (slice_get image.now.code self.old.place) self.old)
+            answer (running self.old)) self.new)
+            (self.new ≡ self.old) }
+    {
+        match image.code().get(self.place as usize) {
+            Some(Instr::FutexWait | Instr::FutexWake) if self.operands.len() > 1 => {
+                self.operands.drop_top(2);
+                self.operands.push(answer);
+                self.place += 1;
+                true
+            }
+            _ => false,
+        }
+    }
+
     /// Goes on with the answer to the request that it makes, if it makes one.
     pub fn go_on(&mut self, image: &Image, t: u32, answer: u32) -> Answered
         requires { CanBeAnswered

@@ -193,6 +193,20 @@ impl Local {
         requires { CanBeAnswered (look image.now t self.old) answer }
         ensures { self.new ≡ after_answer (look image.now t self.old) answer self.old }
     {
+        if let Stage::Running(activation) = &mut self.stage {
+            if activation.answer_call(image, answer) {
+                return;
+            }
+        }
+        self.go_on_else(image, t, answer)
+    }
+
+    // The same of any other. Apart, so that a wait or a wake needs few registers.
+    #[inline(never)]
+    fn go_on_else(&mut self, image: &Image, t: u32, answer: u32)
+        requires { CanBeAnswered (look image.now t self.old) answer }
+        ensures { self.new ≡ after_answer (look image.now t self.old) answer self.old }
+    {
         match &mut self.stage {
             Stage::Running(activation) => match activation.go_on(image, t, answer) {
                 Answered::GoesOn => {}

@@ -164,12 +164,7 @@ impl PieceMachine {
 
     // The same of this request. Apart, for callers that take few.
     #[inline(never)]
-    fn request_step(
-        &mut self,
-        t: u32,
-        request: Request,
-        event: &mut Event,
-    ) -> Result<(), StepFault>
+    fn request_step(&mut self, t: u32, request: Request, event: &mut Event) -> Result<(), StepFault>
         requires room { 1 ≤ self.old.view.room }
         requires thread { (0 < t) × (t ≤ length self.old.view.threads) }
         requires awake { (state_of (concrete self.old.view)).asleep t ≡ None }

@@ -74,8 +74,7 @@ returns-in-Err-Broken-clause-breaks c =
     let u = up (parts m).concrete t c.requires.moves in
     let next_is = c.requires.next u.thread u.stands in
     let shared = asks_shared p t u.thread c.args.request next_is in
-    let w = walked_none p (parts m) t u.thread u.stands c.requires.moves shared in
-    (
+    let w = walked_none p (parts m) t u.thread u.stands c.requires.moves shared in (
       refl,
       breaks_there p (parts m) (parts m) t 0 w shared
           (c.in-Err-Broken.ensures.err.0 ∙ ap (λ f. let o : Outcome = Err f in o) c.in-Err-Broken.field-0-is),
@@ -90,8 +89,7 @@ returns-in-Err-CannotMove-clause-held c =
     let u = up (parts m).concrete t c.requires.moves in
     let next_is = c.requires.next u.thread u.stands in
     let shared = asks_shared p t u.thread c.args.request next_is in
-    let w = walked_none p (parts m) t u.thread u.stands c.requires.moves shared in
-    (
+    let w = walked_none p (parts m) t u.thread u.stands c.requires.moves shared in (
       ap (λ (v : MachineView). parts v) c.in-Err-CannotMove.ensures.err.1,
       refl,
       waits_there p (parts m) (parts m) t 0 w shared

@@ -27,11 +27,11 @@ unreachable-requires c =
     m.stands m.asks in
     elim stands [
       | inl f ↦ elim c.in-Second.is [
-          | inl s ↦ not_first (sym f ∙ sym c.at.ensures ∙ s)
-          | inr s ↦ not_compare (sym f ∙ sym c.at.ensures ∙ s)
-        ]
+        | inl s ↦ not_first (sym f ∙ sym c.at.ensures ∙ s)
+        | inr s ↦ not_compare (sym f ∙ sym c.at.ensures ∙ s)
+      ]
       | inr w ↦ elim c.in-Second.is [
-          | inl s ↦ subst (λ (g : FutexPhase). IsPhase (bucket_count v.sleepers) g call) (sym c.at.ensures ∙ s) w.0
-          | inr s ↦ subst (λ (g : FutexPhase). IsPhase (bucket_count v.sleepers) g call) (sym c.at.ensures ∙ s) w.0
-        ]
+        | inl s ↦ subst (λ (g : FutexPhase). IsPhase (bucket_count v.sleepers) g call) (sym c.at.ensures ∙ s) w.0
+        | inr s ↦ subst (λ (g : FutexPhase). IsPhase (bucket_count v.sleepers) g call) (sym c.at.ensures ∙ s) w.0
+      ]
     ]
