@@ -17,6 +17,7 @@ pub mod Shutting
 pub mod Resting
 pub mod Walking
 pub mod Callings
+pub mod RoundSteps
 pub mod Scheduling
 pub mod Locally
 pub mod Once

@@ -325,47 +325,11 @@ stops p limit h t w = by (entry_end p h.concrete t w.here) refl
       waits = is;
     })
 
--- one thread more of a round
-pub none_step : (p : Program) (limit : ℕ) (old new : LogState) (was one : Bool) (t : ℕ)
-    → (was ≡ false → (u : ℕ) → u < t → can_move old.concrete.concrete u ≡ true → IsStopped p limit old.log old.concrete u)
-    → (one ≡ false → (new ≡ old) × (can_move new.concrete.concrete t ≡ true → IsStopped p limit new.log new.concrete t))
-    → (was || one) ≡ false → (u : ℕ) → u < t + 1 → can_move new.concrete.concrete u ≡ true
-    → IsStopped p limit new.log new.concrete u
-none_step p limit old new true one t before here still u within moves = absurd cc
-none_step p limit old new false true t before here still u within moves = absurd cc
-none_step p limit old new false false t before here still u within moves =
-    let now = here refl in
-    elim (cases_eq u t) [
-      | inl e ↦ subst (λ (v : ℕ). IsStopped p limit new.log new.concrete v) (sym e)
-          (now.1 (ap (can_move new.concrete.concrete) (sym e) ∙ moves))
-      | inr other ↦ subst (λ (h : LogState). IsStopped p limit h.log h.concrete u) (sym now.0)
-          (before refl u (omega arith) (ap (λ (h : LogState). can_move h.concrete.concrete u) (sym now.0) ∙ moves))
-    ]
-
-pub made_step : (limit : ℕ) (start old new : LogState) (was one : Bool)
-    → (was ≡ true → (cost start.log < cost old.log) × (cost old.log ≤ limit))
-    → (was ≡ false → start ≡ old) → (one ≡ false → new ≡ old)
-    → (one ≡ true → (cost old.log < cost new.log) × (cost new.log ≤ limit)) → (was || one) ≡ true
-    → (cost start.log < cost new.log) × (cost new.log ≤ limit)
-made_step limit start old new true true before none same here more = let a = before refl in let b = here refl in
-    (omega arith, b.1)
-made_step limit start old new true false before none same here more = let a = before refl in
-    let e : cost new.log ≡ cost old.log = ap (λ (h : LogState). cost h.log) (same refl) in (omega arith, omega arith)
-made_step limit start old new false true before none same here more = let e : cost start.log ≡ cost old.log =
-    ap (λ (h : LogState). cost h.log) (none refl) in let b = here refl in (omega arith, b.1)
-made_step limit start old new false false before none same here more = absurd cc
-
-pub same_step : (start old new : LogState) (was one : Bool) → (was ≡ false → start ≡ old)
-    → (one ≡ false → new ≡ old) → (was || one) ≡ false → start ≡ new
-same_step start old new true one before same still = absurd cc
-same_step start old new false true before same still = absurd cc
-same_step start old new false false before same still = before refl ∙ sym (same refl)
-
 -- a thread that can move was made
 pub made_within : (k : ConcreteState) (u : ℕ) → can_move k u ≡ true → u ≤ length k.threads
 made_within k u moves = let is = up k u moves in numbered k u is.thread is.stands
 
-mover_some : (k : ConcreteState) (t : ℕ) → can_move k t ≡ true → 0 < t
+pub mover_some : (k : ConcreteState) (t : ℕ) → can_move k t ≡ true → 0 < t
 mover_some k zero moves = absurd cc
 mover_some k (suc t) moves = omega arith
 

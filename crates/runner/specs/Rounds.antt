@@ -43,6 +43,21 @@ AllPast p limit h refused = (t : ℕ) → slice_get refused t ≡ Some true → 
 abbrev pub Idle : Program → ℕ → LogState → Type 0
 Idle p limit h = (t : ℕ) → can_move h.concrete.concrete t ≡ true → IsStopped p limit h.log h.concrete t
 
+-- the log is longer, and within the limit
+abbrev pub HasGrown : ℕ → LogState → LogState → Type 0
+HasGrown limit old new = (cost old.log < cost new.log) × (cost new.log ≤ limit)
+
+-- what a try to make the next entry of thread t came to: one was made, or nothing has changed and it can make none
+abbrev pub HasTurned : Program → ℕ → LogState → LogState → ℕ → Type 0
+HasTurned p limit old new t = HasGrown limit old new
+    ⊎ ((new ≡ old) × (can_move new.concrete.concrete t ≡ true → IsStopped p limit new.log new.concrete t))
+
+-- the same of all threads before this number
+abbrev pub HaveTurned : Program → ℕ → LogState → LogState → ℕ → Type 0
+HaveTurned p limit old new to = HasGrown limit old new
+    ⊎ ((new ≡ old)
+    × ((t : ℕ) → t < to → can_move new.concrete.concrete t ≡ true → IsStopped p limit new.log new.concrete t))
+
 -- no thread that was passed over can make its next entry
 abbrev pub AllStopped : Program → ℕ → LogState → List Bool → Type 0
 AllStopped p limit h passed = (t : ℕ) → slice_get passed t ≡ Some true → IsStopped p limit h.log h.concrete t

@@ -5,7 +5,7 @@ ghost use Rattle.piece_machine.specs.PieceDetermined.{IsFit};
 ghost use Rattle.runner.specs.Attempts.{TriedSo, came, is_made};
 ghost use Rattle.runner.specs.Logs.{cost};
 ghost use Rattle.runner.specs.Reports.{CanFail, IsStopped};
-ghost use Rattle.runner.specs.Rounds.{AllPast, Idle};
+ghost use Rattle.runner.specs.Rounds.{AllPast, HasGrown, HasTurned, Idle};
 ghost use Rattle.runner.specs.Views.{log_state};
 ghost use Rattle.runner.specs.Waits.{AllWait};
 
@@ -142,18 +142,18 @@ fn run_round<J: RunName, G: Gate>(
     requires waits { AllWait J.program (log_state shared.old).concrete waiting.old }
     ensures past { OnOk result (AllPast J.program J.limit (log_state shared.new) refused.new) }
     ensures waits { OnOk result (AllWait J.program (log_state shared.new).concrete waiting.new) }
-    ensures made { IfOk result (λ made. made ≡ true → (cost shared.old.log < cost shared.new.log)
-        × (cost shared.new.log ≤ J.limit)) }
+    ensures made { IfOk result (λ made. made ≡ true
+        → HasGrown J.limit (log_state shared.old) (log_state shared.new)) }
     ensures none { IfOk result (λ made. made ≡ false → Idle J.program J.limit (log_state shared.new)) }
     ensures err { IfErr result (λ fault. CanFail J.program J.outside J.limit fault) }
 {
-    let mut made = false;
+    let before = shared.steps();
     let mut last = 0;
     while let Some(t) = waiting.next_behind(shared.piece_machine(), last) {
-        made |= take_turn(shared, refused, waiting, image, share, gate, t, piece, told)?;
+        take_turn(shared, refused, waiting, image, share, gate, t, piece, told)?;
         last = t;
     }
-    Ok(made)
+    Ok(shared.steps() != before)
 }
 
 // Makes the next entry of thread `t`, which can move, and keeps who waits for which bucket.
@@ -168,7 +168,7 @@ fn take_turn<J: RunName, G: Gate>(
     t: u32,
     piece: &mut Piece<J>,
     told: &mut Result<Attempt, RunFault>,
-) -> Result<bool, RunFault>
+) -> Result<(), RunFault>
     requires image { image.now ≡ J.program }
     requires room { length refused.old ≡ suc most_threads }
     requires thread { (0 < t) × (t ≤ most_threads) }
@@ -178,20 +178,16 @@ fn take_turn<J: RunName, G: Gate>(
     requires waits { AllWait J.program (log_state shared.old).concrete waiting.old }
     ensures past { OnOk result (AllPast J.program J.limit (log_state shared.new) refused.new) }
     ensures waits { OnOk result (AllWait J.program (log_state shared.new).concrete waiting.new) }
-    ensures made { IfOk result (λ made. made ≡ true → (cost shared.old.log < cost shared.new.log)
-        × (cost shared.new.log ≤ J.limit)) }
-    ensures none { IfOk result (λ made. made ≡ false → (log_state shared.new ≡ log_state shared.old)
-        × (can_move (log_state shared.new).concrete.concrete t ≡ true
-        → IsStopped J.program J.limit shared.new.log (log_state shared.new).concrete t)) }
+    ensures turned { OnOk result (HasTurned J.program J.limit (log_state shared.old) (log_state shared.new) t) }
     ensures err { IfErr result (λ fault. CanFail J.program J.outside J.limit fault) }
 {
     if attempt_entry::<J, G, InRounds>(shared, refused, image, share, gate, t, piece, told) {
         waiting.follow_access(shared.piece_machine(), t);
-        return Ok(true);
+        return Ok(());
     }
     let attempt = (*told)?;
     waiting.follow(shared.piece_machine(), t, attempt);
-    Ok(attempt.is_made())
+    Ok(())
 }
 
 /// Makes the next entry of thread `t`, if it can make one and wasn't refused before. Says whether it did. A thread whose

@@ -3,7 +3,7 @@ use Rattle.words.specs.Limits.{most_threads}
 use Rattle.machine.specs.ConcreteSteps.{can_move}
 use Rattle.runner.specs.Logs.{cost}
 use Rattle.runner.specs.Reports.{IsStopped}
-use Rattle.runner.specs.Rounds.{AllPast}
+use Rattle.runner.specs.Rounds.{AllPast, HaveTurned}
 use Rattle.runner.specs.Views.{log_state}
 use Rattle.runner.specs.Waits.{AllWait}
 use Rattle.runner.proofs.rounds.run_round.Given as goal
@@ -13,10 +13,7 @@ invariant-loop-t g l = record {
   past : AllPast g.J.RunName.program g.J.RunName.limit (log_state l.shared) l.refused;
   waits : AllWait g.J.RunName.program (log_state l.shared).concrete l.waiting;
   few : l.last ≤ most_threads;
-  made : l.made ≡ true → (cost l.fn.shared.log < cost l.shared.log) × (cost l.shared.log ≤ g.J.RunName.limit);
-  same : l.made ≡ false → log_state l.fn.shared ≡ log_state l.shared;
-  none : l.made ≡ false → (u : ℕ) → u < l.last + 1 → can_move (log_state l.shared).concrete.concrete u ≡ true
-      → IsStopped g.J.RunName.program g.J.RunName.limit l.shared.log (log_state l.shared).concrete u;
+  turned : HaveTurned g.J.RunName.program g.J.RunName.limit (log_state l.fn.shared) (log_state l.shared) (l.last + 1);
 }
 
 abbrev pub decreases-loop-t : goal.decreases-loop-t

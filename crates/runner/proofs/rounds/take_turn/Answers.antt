@@ -1,8 +1,13 @@
-use Rattle.std.proofs.Common.{◌∙◌, ap, sym, subst}
+use Rattle.std.proofs.Common.{◌≡◌, ◌∙◌, IfOk, true, false, ap, inl, inr, refl, sym, subst}
+use Rattle.std.proofs.lemmas.Bool.{cases_Bool}
+use Rattle.machine.specs.ConcreteSteps.{can_move}
 use Rattle.piece_machine.specs.PieceConcrete.{PieceConcrete}
-use Rattle.runner.specs.Attempts.{TriedSo}
+use Rattle.runner.specs.Attempts.{TriedSo, is_made}
+use Rattle.runner.specs.Reports.{IsStopped}
+use Rattle.runner.specs.Rounds.{HasGrown}
 use Rattle.runner.specs.Views.{log_state}
 use Rattle.runner.specs.Waits.{AllWait}
+use Rattle.runner.specs.declared.attempt.Attempt.{Attempt}
 use Rattle.runner.specs.declared.attempt.Attempt.TheVariants.{Accessed}
 use Rattle.runner.proofs.Noting.{legal_buckets}
 use Rattle.runner.proofs.rounds.take_turn.Goals as goal
@@ -28,3 +33,22 @@ returns-then-attempt_entry-clause-waits g c =
     subst (λ (k : PieceConcrete). AllWait p k c.follow_access.new.self) here
     (c.follow_access.ensures p old c.requires.kept c.requires.waits.want
     (subst (λ (k : PieceConcrete). TriedSo p old c.args.t Accessed k) (sym here) c.if-attempt_entry.ensures.tried))
+
+pub returns-then-attempt_entry-clause-turned : goal.returns-then-attempt_entry-clause-turned
+returns-then-attempt_entry-clause-turned g c = inl (c.if-attempt_entry.ensures.made refl)
+
+pub returns-clause-turned : goal.returns-clause-turned
+returns-clause-turned g c =
+    let e = c.if-attempt_entry.ensures in
+    let is = c.in_ok-attempt.was in
+    let made = subst (λ o. IfOk o (λ (a : Attempt). is_made a ≡ true
+    → HasGrown g.J.RunName.limit (log_state c.args.shared.now) (log_state c.attempt_entry.new.shared))) is e.made in
+    let none = subst (λ o. IfOk o (λ (a : Attempt). is_made a ≡ false
+    → (log_state c.attempt_entry.new.shared ≡ log_state c.args.shared.now)
+    × (can_move (log_state c.attempt_entry.new.shared).concrete.concrete c.args.t ≡ true
+    → IsStopped g.J.RunName.program g.J.RunName.limit (log_state c.attempt_entry.new.shared).log
+    (log_state c.attempt_entry.new.shared).concrete c.args.t))) is e.none in
+    elim (cases_Bool (is_made c.in_ok-attempt.attempt)) [
+      | inl y ↦ inl (made y)
+      | inr n ↦ inr (none n)
+    ]
