@@ -1,5 +1,5 @@
 -- What comes of the piece of a wait or a wake before which a thread stands.
-use Rattle.std.proofs.Common.{◌≡◌, ◌≢◌, ◌≤◌, ◌+◌, ◌++◌, ◌∷◌, [], ℕ, List, true, false, Some, None, Ok, Err, Result, is_some}
+use Rattle.std.proofs.Common.{◌≡◌, ◌≢◌, ◌+◌, ◌++◌, ◌∷◌, [], ℕ, List, true, false, Some, None, Ok, Err, Result, is_some}
 use Rattle.std.proofs.Common.{IfOk, ap, refl, sym, ◌∙◌, arith}
 use Rattle.std.specs.Prelude.{OnOk}
 use Rattle.std.proofs.lemmas.Bool.{both_ways}
@@ -17,8 +17,7 @@ use Rattle.machine.specs.declared.event.Event.{Event}
 use Rattle.machine.specs.declared.event.StepFault.{StepFault}
 use Rattle.piece_machine.specs.PieceConcrete.{PieceConcrete, piece_of}
 use Rattle.runner.specs.Attempts.{is_made}
-use Rattle.runner.specs.Reports.{IsHeldUp}
-use Rattle.runner.specs.Walks.{EndsWalk, FailsAfter, Walked}
+use Rattle.runner.specs.Walks.{EndsWalk, Walked}
 use Rattle.runner.specs.declared.attempt.Attempt.{Attempt}
 use Rattle.runner.specs.declared.attempt.Attempt.TheVariants.{Accessed, Made}
 use Rattle.runner.specs.declared.fault.RunFault.{RunFault}

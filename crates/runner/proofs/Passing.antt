@@ -1,6 +1,6 @@
 -- A thread whose next entry would pass the limit keeps that through the entries of others.
 use Rattle.std.proofs.Common.{◌≡◌, ◌≢◌, ℕ, zero, suc, ◌+◌, ◌-◌, ◌<◌, ◌≤◌, ◌==◌, Bool, true, false, not}
-use Rattle.std.proofs.Common.{◌||◌, List, length, Option, Some, None, Result, Ok, Err, OnOk, slice_get}
+use Rattle.std.proofs.Common.{List, length, Option, Some, None, Result, Ok, Err, OnOk, slice_get}
 use Rattle.std.proofs.Common.{slice_set, replicate, inl, inr, refl, ap, sym, ◌∙◌, arith, subst, length-set}
 use Rattle.std.proofs.lemmas.Bool.{both_ways, cases_eq, cases_lt}
 use Rattle.std.proofs.lemmas.Option.{slice_get_within}

@@ -1,5 +1,5 @@
 -- What the tries of a round come to: the log is longer, or nothing has changed and each thread so far can make no entry.
-use Rattle.std.proofs.Common.{◌≡◌, ℕ, ◌+◌, ◌<◌, ◌≤◌, true, Some, None, inl, inr, refl, ap, sym, ◌∙◌, arith, subst}
+use Rattle.std.proofs.Common.{◌≡◌, ℕ, ◌+◌, ◌<◌, Some, None, inl, inr, refl, ap, sym, ◌∙◌, arith, subst}
 use Rattle.std.proofs.lemmas.Bool.{cases_eq}
 use Rattle.isa.specs.Programs.{Program}
 use Rattle.machine.specs.ConcreteSteps.{can_move}

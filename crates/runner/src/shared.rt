@@ -569,7 +569,7 @@ impl<J: RunName> Shared<J> {
     /// any other is told beside it.
     ///
     /// Refuses with `Memory`, and then nothing has changed, or the local steps are an entry; and with `Broken`, and then they
-    /// are.
+    /// are. `C` is who calls it (`caller.rt`), and decides nothing.
     #[inline(always)]
     pub(crate) fn go_on<C>(
         &mut self,

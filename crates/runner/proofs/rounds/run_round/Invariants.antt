@@ -1,8 +1,5 @@
-use Rattle.std.proofs.Common.{◌≡◌, ◌<◌, ◌≤◌, ◌-◌, ◌+◌, ℕ, true, false}
+use Rattle.std.proofs.Common.{◌≤◌, ◌-◌, ◌+◌}
 use Rattle.words.specs.Limits.{most_threads}
-use Rattle.machine.specs.ConcreteSteps.{can_move}
-use Rattle.runner.specs.Logs.{cost}
-use Rattle.runner.specs.Reports.{IsStopped}
 use Rattle.runner.specs.Rounds.{AllPast, HaveTurned}
 use Rattle.runner.specs.Views.{log_state}
 use Rattle.runner.specs.Waits.{AllWait}
