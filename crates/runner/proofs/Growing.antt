@@ -1,5 +1,5 @@
 -- A piece that came in is an entry of the log.
-use Rattle.std.proofs.Common.{◌≡◌, ℕ, ◌+◌, ◌≤◌, List, [], ◌∷◌, ◌++◌, true, Option, Some, None, Result, Ok, Err}
+use Rattle.std.proofs.Common.{◌≡◌, ℕ, ◌+◌, ◌-◌, ◌≤◌, List, [], ◌∷◌, ◌++◌, true, Option, Some, None, Result, Ok, Err}
 use Rattle.std.proofs.Common.{Bool, false, is_err, IfOk, IfErr, is_some, refl, ap, sym, ◌∙◌, ◌≢◌, arith, subst, inl, inr}
 use Rattle.std.specs.Prelude.{if◌then◌else◌}
 use Rattle.std.proofs.lemmas.List.Sums.{sum_by-append}
@@ -90,13 +90,13 @@ same_kills p k k' log log' e killed enters grows is =
     omega (arith, is, kills_more log log' e grows, own_kills p k k' e enters)
 
 pub keeps : (p : Program) (may : Outside) (q q' : Program) (limit : ℕ) (h : LogState) (log : List Entry)
-    (new : PieceConcrete) (a : PieceView) (t steps limited killed extra : ℕ) (event : Option Event)
-    → q' ≡ q → IsLegal p may limit q h.concrete h.log steps limited killed
+    (new : PieceConcrete) (a : PieceView) (t left limited killed extra : ℕ) (event : Option Event)
+    → q' ≡ q → IsLegal p may limit q h.concrete h.log left limited killed
     → local_after p a.thread a.count a.origin ≡ Some a.here
     → IsFine p limit h t a → entry_end q h.concrete t a.here ≡ Ok (new, event)
     → log ≡ h.log ++ entry t a.count event ∷ [] → extra ≡ bool_byte (is_some event)
-    → IsLegal p may limit q' new log (steps + (a.count + extra)) limited killed
-keeps p may q q' limit h log new a t steps limited killed extra event is' legal goes fine gives grows is_extra =
+    → IsLegal p may limit q' new log (left - (a.count + extra)) limited killed
+keeps p may q q' limit h log new a t left limited killed extra event is' legal goes fine gives grows is_extra =
     let gives' : entry_end p h.concrete t a.here ≡ Ok (new, event) =
     ap (λ x. entry_end x h.concrete t a.here) (sym legal.program) ∙ gives in
     let goes' : local_after p t a.count a.origin ≡ Some a.here =
@@ -112,11 +112,10 @@ keeps p may q q' limit h log new a t steps limited killed extra event is' legal 
       program = is' ∙ legal.program;
       legal = (let P : List Entry → Type 0 = λ l. Runs p (opening p) l new in subst P (sym grows) runs');
       own = only_own p h.concrete new may h.log log (entry t a.count event) one grows legal.own;
-      counted = omega (arith, legal.counted);
+      counted = omega (arith, fine.within, legal.counted, legal.limit_is, all, costs, here);
       limit_is = legal.limit_is;
-      within = omega (arith, fine.within, legal.counted, legal.limit_is);
       kills = same_kills p h.concrete new h.log log (entry t a.count event) killed one grows legal.kills;
-      few = omega (arith, legal.few);
+      few = omega (arith, legal.few, all);
     }
 
 pub cost_small : (e : Option Event) → event_cost e ≤ 1
@@ -125,11 +124,11 @@ cost_small (Some e) = omega arith
 
 -- an entry is one more of a legal log, where the limit leaves room for any
 pub keeps_entry : (p : Program) (may : Outside) (q q' q'' : Program) (limit : ℕ) (k k' new : PieceConcrete)
-    (log log' log'' : List Entry) (e : Entry) (steps limited killed extra : ℕ)
-    → IsLegal p may limit q k log steps limited killed → cost log + 257 ≤ limit → q' ≡ q → k' ≡ k → log' ≡ log
+    (log log' log'' : List Entry) (e : Entry) (left limited killed extra : ℕ)
+    → IsLegal p may limit q k log left limited killed → cost log + 257 ≤ limit → q' ≡ q → k' ≡ k → log' ≡ log
     → q'' ≡ q' → EntersOwn q' k' e new → e.local ≤ 256 → log'' ≡ log' ++ e ∷ [] → extra ≡ bool_byte (is_some e.event)
-    → IsLegal p may limit q'' new log'' (steps + (e.local + extra)) limited killed
-keeps_entry p may q q' q'' limit k k' new log log' log'' e steps limited killed extra legal room same there before same'
+    → IsLegal p may limit q'' new log'' (left - (e.local + extra)) limited killed
+keeps_entry p may q q' q'' limit k k' new log log' log'' e left limited killed extra legal room same there before same'
     one turn grows is_extra =
     let program : q' ≡ p = same ∙ legal.program in
     let enters : EntersOwn p k e new =
@@ -144,11 +143,10 @@ keeps_entry p may q q' q'' limit k k' new log log' log'' e steps limited killed 
       legal = subst (λ (l : List Entry). Runs p (opening p) l new) (sym grown)
           (runs_more p (opening p) k new log e legal.legal (inl enters));
       own = only_own p k new may log log'' e enters grown legal.own;
-      counted = omega (arith, legal.counted, all, last);
+      counted = omega (arith, legal.counted, legal.limit_is, room, turn, all, last, cost_small e.event);
       limit_is = legal.limit_is;
-      within = omega (arith, legal.counted, legal.limit_is, room, turn, last, cost_small e.event);
       kills = same_kills p k new log log'' e killed enters grown legal.kills;
-      few = omega (arith, legal.few);
+      few = omega (arith, legal.few, all);
     }
 
 kill_small : (e : Option Event) → kill_cost e ≤ 1
@@ -160,12 +158,12 @@ kill_small e = by_test (is_kill e)
 
 -- a wake or a kill from outside is one more of a legal log that isn't at its limit
 pub keeps_outside : (p : Program) (may : Outside) (q q' : Program) (limit : ℕ) (k new : PieceConcrete)
-    (log log' : List Entry) (t steps limited killed killed' : ℕ) (event : Event)
-    → IsLegal p may limit q k log steps limited killed → q' ≡ q → steps ≢ limited
+    (log log' : List Entry) (t left limited killed killed' : ℕ) (event : Event)
+    → IsLegal p may limit q k log left limited killed → q' ≡ q → left ≢ 0
     → OutsidePiece q k t event new → log' ≡ log ++ entry t 0 (Some event) ∷ []
     → killed' ≡ killed + kill_cost (Some event) → HasOnly may log'
-    → IsLegal p may limit q' new log' (steps + 1) limited killed'
-keeps_outside p may q q' limit k new log log' t steps limited killed killed' event legal same room gives grows counts
+    → IsLegal p may limit q' new log' (left - 1) limited killed'
+keeps_outside p may q q' limit k new log log' t left limited killed killed' event legal same room gives grows counts
     has =
     let outside : OutsidePiece p k t event new = subst (λ (x : Program). OutsidePiece x k t event new) legal.program gives in
     let one : Enters p k (entry t 0 (Some event)) new =
@@ -177,11 +175,10 @@ keeps_outside p may q q' limit k new log log' t steps limited killed killed' eve
       legal = subst (λ (l : List Entry). Runs p (opening p) l new) (sym grows)
           (runs_more p (opening p) k new log (entry t 0 (Some event)) legal.legal one);
       own = has;
-      counted = omega (arith, legal.counted, all);
+      counted = omega (arith, legal.counted, room, all);
       limit_is = legal.limit_is;
-      within = omega (arith, legal.within, room);
       kills = omega (arith, counts, legal.kills, kills_more log log' (entry t 0 (Some event)) grows);
-      few = omega (arith, counts, legal.few, most);
+      few = omega (arith, counts, legal.few, most, all);
     }
 
 -- what holds of an entry that came in
@@ -192,11 +189,11 @@ entered P Q (Err e) b is fine one other = absurd cc
 
 -- where the next entry of a thread meets a step that may not be, so does a legal log
 pub breaks_can : {T : Type 0} → (p : Program) (may : Outside) (q q' : Program) (limit : ℕ) (k k' : PieceConcrete)
-    (log : List Entry) (steps limited killed t count : ℕ) (r : Result T RunFault)
-    → IsLegal p may limit q k log steps limited killed → q' ≡ q → k' ≡ k → can_move k.concrete t ≡ true → count ≤ 256
+    (log : List Entry) (left limited killed t count : ℕ) (r : Result T RunFault)
+    → IsLegal p may limit q k log left limited killed → q' ≡ q → k' ≡ k → can_move k.concrete t ≡ true → count ≤ 256
     → IfErr r (λ fault. (fault ≡ Broken) × BreaksAfter q' k' t count) → IfErr r (λ fault. CanFail p may limit fault)
-breaks_can p may q q' limit k k' log steps limited killed t count (Ok x) legal same there moves turn breaks = breaks
-breaks_can p may q q' limit k k' log steps limited killed t count (Err fault) legal same there moves turn breaks =
+breaks_can p may q q' limit k k' log left limited killed t count (Ok x) legal same there moves turn breaks = breaks
+breaks_can p may q q' limit k k' log left limited killed t count (Err fault) legal same there moves turn breaks =
     let b : BreaksAfter p k t count = subst (λ (x : Program). BreaksAfter x k t count) (same ∙ legal.program)
     (subst (λ (x : PieceConcrete). BreaksAfter q' x t count) there breaks.1) in
     subst (λ (f : RunFault). CanFail p may limit f) (sym breaks.0) (record {
@@ -204,7 +201,7 @@ breaks_can p may q q' limit k k' log steps limited killed t count (Err fault) le
       concrete = k;
       legal = legal.legal;
       own = legal.own;
-      within = omega (arith, legal.counted, legal.limit_is, legal.within);
+      within = omega (arith, legal.counted, legal.limit_is);
       thread = t;
       origin = b.origin;
       here = b.here;
@@ -216,18 +213,18 @@ breaks_can p may q q' limit k k' log steps limited killed t count (Err fault) le
       breaks = b.breaks;
     })
 
--- a fault behind the local steps of a turn
+-- a fault behind the local left of a turn
 pub fails_can : {T : Type 0} → (p : Program) (may : Outside) (q : Program) (limit : ℕ) (k : PieceConcrete)
-    (log : List Entry) (steps limited killed t count : ℕ) (r : Result T RunFault)
-    → IsLegal p may limit q k log steps limited killed → can_move k.concrete t ≡ true → count ≤ 256
+    (log : List Entry) (left limited killed t count : ℕ) (r : Result T RunFault)
+    → IsLegal p may limit q k log left limited killed → can_move k.concrete t ≡ true → count ≤ 256
     → IfErr r (λ fault. FailsAfter q k t count fault) → IfErr r (λ fault. CanFail p may limit fault)
-fails_can p may q limit k log steps limited killed t count (Ok x) legal moves turn fails = fails
-fails_can p may q limit k log steps limited killed t count (Err f) legal moves turn fails = by f fails
+fails_can p may q limit k log left limited killed t count (Ok x) legal moves turn fails = fails
+fails_can p may q limit k log left limited killed t count (Err f) legal moves turn fails = by f fails
   where
     by : (f : RunFault) → FailsAfter q k t count f → CanFail p may limit f
     by Broken breaks =
         let r : Result ℕ RunFault = Err Broken in
-        breaks_can p may q q limit k k log steps limited killed t count r legal refl refl moves turn (refl, breaks)
+        breaks_can p may q q limit k k log left limited killed t count r legal refl refl moves turn (refl, breaks)
     by Memory none = tt
     by Stray none = absurd none
     by CannotMove none = absurd none
@@ -235,12 +232,12 @@ fails_can p may q limit k log steps limited killed t count (Err f) legal moves t
 
 -- a piece came in with an access, behind which the machine had room for one entry more
 pub keeps_access : (p : Program) (may : Outside) (q m q' : Program) (limit : ℕ) (h : LogState) (k : PieceConcrete)
-    (items log : List Entry) (new : PieceConcrete) (a : PieceView) (t steps limited killed : ℕ)
-    → m ≡ q → k ≡ h.concrete → items ≡ h.log → q' ≡ m → IsLegal p may limit q h.concrete h.log steps limited killed
+    (items log : List Entry) (new : PieceConcrete) (a : PieceView) (t left limited killed : ℕ)
+    → m ≡ q → k ≡ h.concrete → items ≡ h.log → q' ≡ m → IsLegal p may limit q h.concrete h.log left limited killed
     → local_after p a.thread a.count a.origin ≡ Some a.here → Stands h t a → can_move h.concrete.concrete t ≡ true
     → cost h.log + (a.count + 1) ≤ limit → EntersAccess m k t a.here a.count items new log
-    → IsLegal p may limit q' new log (steps + (a.count + 1)) limited killed
-keeps_access p may q m q' limit h k items log new a t steps limited killed mq kh ih qm legal goes stands moves within e =
+    → IsLegal p may limit q' new log (left - (a.count + 1)) limited killed
+keeps_access p may q m q' limit h k items log new a t left limited killed mq kh ih qm legal goes stands moves within e =
     let gives : entry_end q h.concrete t a.here ≡ Ok (new, Some e.event) =
     (λ i. entry_end (sym mq i) (sym kh i) t a.here) ∙ e.gives in
     let fine : IsFine p limit h t a = record {
@@ -251,5 +248,5 @@ keeps_access p may q m q' limit h k items log new a t steps limited killed mq kh
       gives = ap (λ x. entry_end x h.concrete t a.here) (sym legal.program) ∙ gives;
       within = within;
     } in
-    keeps p may q q' limit h log new a t steps limited killed 1 (Some e.event) (qm ∙ mq) legal goes fine gives
+    keeps p may q q' limit h log new a t left limited killed 1 (Some e.event) (qm ∙ mq) legal goes fine gives
     (e.grows ∙ ap (λ es. es ++ entry t a.count (Some e.event) ∷ []) ih) refl

@@ -189,19 +189,19 @@ comes p q h a t b same stands moves none is_b =
           ∙ by_test (is_some (local_step q t a.here)) ∙ ap (λ (x : Bool). bool_byte (not x)) (sym is_b),
     )
 
-pub past_limit : (p q : Program) (limit : ℕ) (h : LogState) (a : PieceView) (t steps limited extra : ℕ) (b : Bool)
+pub past_limit : (p q : Program) (limit : ℕ) (h : LogState) (a : PieceView) (t left limited extra : ℕ) (b : Bool)
     → q ≡ p → Stands h t a → can_move h.concrete.concrete t ≡ true → None ≡ piece_fault_at q h.concrete t a.here
-    → b ≡ is_some (local_step q t a.here) → extra ≡ bool_byte (not b) → steps ≡ cost h.log → limited ≡ limit
-    → steps ≤ limited → limited - steps < a.count + extra → RefusesEntry p limit h t a Limit
-past_limit p q limit h a t steps limited extra b same stands moves none is_b is_extra is_steps is_limit within past =
+    → b ≡ is_some (local_step q t a.here) → extra ≡ bool_byte (not b) → left + cost h.log ≡ limited → limited ≡ limit
+    → left < a.count + extra → RefusesEntry p limit h t a Limit
+past_limit p q limit h a t left limited extra b same stands moves none is_b is_extra is_left is_limit past =
     let r = comes p q h a t b same stands moves none is_b in
     (stands, moves, r.0, r.1, r.2, omega (arith, r.3, is_extra))
 
-pub in_limit : (p q : Program) (limit : ℕ) (h : LogState) (a : PieceView) (t steps limited extra : ℕ) (b : Bool)
+pub in_limit : (p q : Program) (limit : ℕ) (h : LogState) (a : PieceView) (t left limited extra : ℕ) (b : Bool)
     → q ≡ p → Stands h t a → can_move h.concrete.concrete t ≡ true → None ≡ piece_fault_at q h.concrete t a.here
-    → b ≡ is_some (local_step q t a.here) → extra ≡ bool_byte (not b) → steps ≡ cost h.log → limited ≡ limit
-    → steps ≤ limited → a.count + extra ≤ limited - steps → IsFine p limit h t a
-in_limit p q limit h a t steps limited extra b same stands moves none is_b is_extra is_steps is_limit within fits =
+    → b ≡ is_some (local_step q t a.here) → extra ≡ bool_byte (not b) → left + cost h.log ≡ limited → limited ≡ limit
+    → a.count + extra ≤ left → IsFine p limit h t a
+in_limit p q limit h a t left limited extra b same stands moves none is_b is_extra is_left is_limit fits =
     let r = comes p q h a t b same stands moves none is_b in
     record {
       stands = stands;

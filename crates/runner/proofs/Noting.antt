@@ -28,7 +28,7 @@ use Rattle.runner.specs.Attempts.{HasEntered, TriedSo, WantsBucket, WantsIf, is_
 use Rattle.runner.specs.Reports.{IsHeldUp, IsStopped}
 use Rattle.runner.specs.Logs.{Enters, Runs, opening}
 use Rattle.runner.specs.Views.{LogState}
-use Rattle.runner.specs.Waits.{AllHeld, AllWait, IsNextFree, WantIn}
+use Rattle.runner.specs.Waits.{AllHeld, AllWait, IsNextAround, IsNextFree, WantIn}
 use Rattle.runner.proofs.Passing.{Apart, entered_apart, kill_apart, mover_number, outside_apart}
 use Rattle.runner.proofs.Wanting.{held_up_so, wants_behind}
 
@@ -170,6 +170,11 @@ pub free_at : (p q : Program) (k j : PieceConcrete) (from : ℕ) (o : Option ℕ
     → IsNextFree p k from o
 free_at p q k j from o program same free =
     subst (λ (x : Program). IsNextFree x k from o) program (subst (λ (x : PieceConcrete). IsNextFree q x from o) same free)
+
+pub around_at : (p q : Program) (k j : PieceConcrete) (last : ℕ) (o : Option ℕ) → q ≡ p → j ≡ k → IsNextAround q j last o
+    → IsNextAround p k last o
+around_at p q k j last o program same around =
+    subst (λ (x : Program). IsNextAround x k last o) program (subst (λ (x : PieceConcrete). IsNextAround q x last o) same around)
 
 -- those before the next one can make no entry, where those before the number can't from which it was searched
 pub stopped_to : (p : Program) (limit : ℕ) (h : LogState) (from t : ℕ)

@@ -6,17 +6,16 @@ use Rattle.piece_machine.specs.PieceConcrete.{PieceConcrete}
 use Rattle.runner.specs.Logs.{HasOnly, Outside, Runs, cost, kills_in, opening}
 
 -- the machine runs the program, the log is legal for it and leads to what the machine keeps, with no more from outside
--- than may be, the steps are the log's cost, within the limit, and its kills are counted
+-- than may be, so many steps are left of the limit behind the log's cost, and its kills are counted
 pub record IsLegal (p : Program) (may : Outside) (limit : ℕ) (q : Program) (k : PieceConcrete) (log : List Entry)
-    (steps limited killed : ℕ) : Type 0 where
+    (left limited killed : ℕ) : Type 0 where
   pub program : q ≡ p
   pub legal : Runs p (opening p) log k
   pub own : HasOnly may log
-  pub counted : steps ≡ cost log
+  pub counted : left + cost log ≡ limited
   pub limit_is : limited ≡ limit
-  pub within : steps ≤ limited
   pub kills : killed ≡ kills_in log
-  pub few : killed ≤ steps
+  pub few : killed ≤ cost log
 
 -- the book's total is the number of entries, and what was not given out of the count's parts has counted none
 pub record IsCounted (all booked rest idle given : ℕ) (log : List Entry) : Type 0 where

@@ -48,15 +48,21 @@ abbrev pub HasGrown : ℕ → LogState → LogState → Type 0
 HasGrown limit old new = (cost old.log < cost new.log) × (cost new.log ≤ limit)
 
 -- what a try to make the next entry of thread t came to: one was made, or nothing has changed and it can make none
-abbrev pub HasTurned : Program → ℕ → LogState → LogState → ℕ → Type 0
-HasTurned p limit old new t = HasGrown limit old new
-    ⊎ ((new ≡ old) × (can_move new.concrete.concrete t ≡ true → IsStopped p limit new.log new.concrete t))
+abbrev pub HasTurned : Bool → Program → ℕ → LogState → LogState → ℕ → Type 0
+HasTurned true p limit old new t = HasGrown limit old new
+HasTurned false p limit old new t =
+    (new ≡ old) × (can_move new.concrete.concrete t ≡ true → IsStopped p limit new.log new.concrete t)
 
--- the same of all threads before this number
-abbrev pub HaveTurned : Program → ℕ → LogState → LogState → ℕ → Type 0
-HaveTurned p limit old new to = HasGrown limit old new
-    ⊎ ((new ≡ old)
-    × ((t : ℕ) → t < to → can_move new.concrete.concrete t ≡ true → IsStopped p limit new.log new.concrete t))
+-- where no entry was made since the log had this cost, the threads before this number can make none
+abbrev pub AreTried : Program → ℕ → ℕ → LogState → ℕ → Type 0
+AreTried p limit before h to = (before ≤ cost h.log) × (before ≡ cost h.log
+    → (t : ℕ) → t < to → can_move h.concrete.concrete t ≡ true → IsStopped p limit h.log h.concrete t)
+
+-- whose turn it is then: a thread that can move, of those before which that holds, or nobody's, as none can make an entry
+abbrev pub IsTurn : Program → ℕ → ℕ → LogState → Option ℕ → Type 0
+IsTurn p limit before h None = Idle p limit h
+IsTurn p limit before h (Some t) =
+    (0 < t) × (t ≤ most_threads) × (can_move h.concrete.concrete t ≡ true) × AreTried p limit before h t
 
 -- no thread that was passed over can make its next entry
 abbrev pub AllStopped : Program → ℕ → LogState → List Bool → Type 0

@@ -1,5 +1,5 @@
 -- Which threads are known to want which bucket, and who of them is passed over, as the rounds of a run keep it.
-use Rattle.std.specs.Prelude.{ℕ, ◌≡◌, ◌≤◌, ◌<◌, true, false, List, Option, Some, None, slice_get}
+use Rattle.std.specs.Prelude.{ℕ, ◌≡◌, ◌≤◌, ◌<◌, ◌+◌, ◌⊎◌, true, false, List, Option, Some, None, slice_get}
 use Rattle.std.specs.Int.{bit_at}
 use Rattle.words.specs.Limits.{run_buckets}
 use Rattle.isa.specs.Programs.{Program}
@@ -53,3 +53,9 @@ IsNextFree p k from None = (u : ℕ) → from ≤ u → can_move k.concrete u �
 IsNextFree p k from (Some t) =
     (from ≤ t) × (can_move k.concrete t ≡ true)
     × ((u : ℕ) → from ≤ u → u < t → can_move k.concrete u ≡ true → IsHeldUp p k u)
+
+-- the same from the threads behind this one on, and behind the last one from the first
+abbrev pub IsNextAround : Program → PieceConcrete → ℕ → Option ℕ → Type 0
+IsNextAround p k last None = IsNextFree p k 1 None
+IsNextAround p k last (Some t) =
+    IsNextFree p k (last + 1) (Some t) ⊎ (IsNextFree p k (last + 1) None × IsNextFree p k 1 (Some t))

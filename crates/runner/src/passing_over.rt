@@ -8,7 +8,7 @@ ghost use Rattle.piece_machine.specs.PieceDetermined.{IsFit};
 ghost use Rattle.piece_machine.specs.PieceViews.{parts};
 ghost use Rattle.runner.specs.Attempts.{TriedSo, WantsBucket, is_made};
 ghost use Rattle.runner.specs.declared.attempt.Attempt;
-ghost use Rattle.runner.specs.Waits.{AllHeld, AllWait, AllWant, IsHeldIf, IsNextFree, IsSound};
+ghost use Rattle.runner.specs.Waits.{AllHeld, AllWait, AllWant, IsHeldIf, IsNextAround, IsNextFree, IsSound};
 
 use crate::attempt::Attempt;
 use crate::thread_bits::{ThreadBits, lowest_from};
@@ -66,6 +66,20 @@ impl Waiting {
             return Some(t);
         }
         self.next_free(machine, t)
+    }
+
+    /// The same, and from the first thread on where there is none behind this one.
+    #[inline(always)]
+    pub fn next_around(&self, machine: &PieceMachine, last: u32) -> Option<u32>
+        requires waits { AllWait machine.now.view.program (parts machine.now) self.now }
+        requires last { last ≤ most_threads }
+        ensures free { IsNextAround machine.now.view.program (parts machine.now) last result }
+        ensures number { IfSome result (λ t. (0 < t) × (t ≤ most_threads)) }
+    {
+        match self.next_behind(machine, last) {
+            Some(t) => Some(t),
+            None => self.next_behind(machine, 0),
+        }
     }
 
     // The first thread from this number on that can move and isn't passed over.

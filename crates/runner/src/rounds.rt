@@ -1,11 +1,11 @@
 ghost use Rattle.words.specs.Limits.{most_threads};
-ghost use Rattle.std.specs.Prelude.{suc, ◌≡◌, ◌≤◌, ◌<◌, length, true, false, IfOk, IfErr, OnOk};
+ghost use Rattle.std.specs.Prelude.{suc, ◌≡◌, ◌≤◌, ◌<◌, ◌+◌, ◌⊎◌, length, true, false, IfOk, IfErr, IfSome, OnOk};
 ghost use Rattle.machine.specs.ConcreteSteps.{can_move};
 ghost use Rattle.piece_machine.specs.PieceDetermined.{IsFit};
 ghost use Rattle.runner.specs.Attempts.{TriedSo, came, is_made};
 ghost use Rattle.runner.specs.Logs.{cost};
 ghost use Rattle.runner.specs.Reports.{CanFail, IsStopped};
-ghost use Rattle.runner.specs.Rounds.{AllPast, HasGrown, HasTurned, Idle};
+ghost use Rattle.runner.specs.Rounds.{AllPast, AreTried, HasTurned, Idle, IsTurn};
 ghost use Rattle.runner.specs.Views.{log_state};
 ghost use Rattle.runner.specs.Waits.{AllWait};
 
@@ -39,7 +39,7 @@ pub fn run_rounds<J: RunName, G: Gate>(
     end_round(shared, &mut refused, image, share, gate, &mut piece, forked)?;
     let mut waiting = Waiting::new();
     let mut told = Ok(Attempt::Refused);
-    while run_round(
+    take_turns(
         shared,
         &mut refused,
         &mut waiting,
@@ -48,8 +48,7 @@ pub fn run_rounds<J: RunName, G: Gate>(
         gate,
         &mut piece,
         &mut told,
-    )? {}
-    Ok(())
+    )
 }
 
 // As long as thread 1 is the only one, a round is an entry of it. Says whether it has made another: then its round isn't
@@ -122,11 +121,10 @@ pub fn run_alone<J: RunName, G: Gate>(
     Ok(())
 }
 
-// Makes an entry for each thread that can make one and wasn't refused before, from one that can move and isn't known to be
-// held up to the next. Says whether it made any. What came of an entry is told in a place that each of
-// them uses.
+// Makes entries until no thread can make one: turn after turn, of threads that can move and aren't known to be held up. What
+// came of an entry is told in a place that each of them uses.
 #[inline(always)]
-fn run_round<J: RunName, G: Gate>(
+fn take_turns<J: RunName, G: Gate>(
     shared: &mut Shared<J>,
     refused: &mut [bool],
     waiting: &mut Waiting,
@@ -135,28 +133,65 @@ fn run_round<J: RunName, G: Gate>(
     gate: &G,
     piece: &mut Piece<J>,
     told: &mut Result<Attempt, RunFault>,
-) -> Result<bool, RunFault>
+) -> Result<(), RunFault>
     requires image { image.now ≡ J.program }
     requires room { length refused.old ≡ suc most_threads }
     requires past { AllPast J.program J.limit (log_state shared.old) refused.old }
     requires waits { AllWait J.program (log_state shared.old).concrete waiting.old }
-    ensures past { OnOk result (AllPast J.program J.limit (log_state shared.new) refused.new) }
-    ensures waits { OnOk result (AllWait J.program (log_state shared.new).concrete waiting.new) }
-    ensures made { IfOk result (λ made. made ≡ true
-        → HasGrown J.limit (log_state shared.old) (log_state shared.new)) }
-    ensures none { IfOk result (λ made. made ≡ false → Idle J.program J.limit (log_state shared.new)) }
+    ensures ok { OnOk result (Idle J.program J.limit (log_state shared.new)) }
     ensures err { IfErr result (λ fault. CanFail J.program J.outside J.limit fault) }
 {
-    let before = shared.steps();
-    let mut last = 0;
-    while let Some(t) = waiting.next_behind(shared.piece_machine(), last) {
-        take_turn(shared, refused, waiting, image, share, gate, t, piece, told)?;
-        last = t;
+    // So many steps were taken when a round last ended behind a turn without an entry, or before the first turn.
+    let mut before = shared.steps();
+    let Some(mut t) = waiting.next_behind(shared.piece_machine(), 0) else {
+        return Ok(());
+    };
+    loop {
+        let made = take_turn(shared, refused, waiting, image, share, gate, t, piece, told)?;
+        if made {
+            let Some(u) = waiting.next_around(shared.piece_machine(), t) else {
+                return Ok(());
+            };
+            t = u;
+        } else {
+            let Some(u) = next_untried(shared, waiting, &mut before, t) else {
+                return Ok(());
+            };
+            t = u;
+        }
     }
-    Ok(shared.steps() != before)
 }
 
-// Makes the next entry of thread `t`, which can move, and keeps who waits for which bucket.
+// Whose turn it is behind thread `t`, which could make no entry. At a round's end it is nobody's where no entry was made
+// since `before`, so that all threads were tried. Apart, since most turns make an entry, and needn't ask that.
+#[cold]
+#[inline(never)]
+fn next_untried<J: RunName>(
+    shared: &Shared<J>,
+    waiting: &Waiting,
+    before: &mut u32,
+    t: u32,
+) -> Option<u32>
+    requires thread { (0 < t) × (t ≤ most_threads) }
+    requires waits { AllWait J.program (log_state shared.now).concrete waiting.now }
+    requires tried { AreTried J.program J.limit before.old (log_state shared.now) (t + 1) }
+    requires within { before.old ≤ J.limit }
+    ensures next { IsTurn J.program J.limit before.new (log_state shared.now) result }
+    ensures on { IfSome result (λ u. (before.new ≡ before.old × (t < u)) ⊎ (before.old < before.new)) }
+    ensures within { before.new ≤ J.limit }
+{
+    if let Some(u) = waiting.next_behind(shared.piece_machine(), t) {
+        return Some(u);
+    }
+    let steps = shared.steps();
+    if steps == *before {
+        return None;
+    }
+    *before = steps;
+    waiting.next_behind(shared.piece_machine(), 0)
+}
+
+// Makes the next entry of thread `t`, which can move, and keeps who waits for which bucket. Says whether it made one.
 #[inline(always)]
 fn take_turn<J: RunName, G: Gate>(
     shared: &mut Shared<J>,
@@ -168,7 +203,7 @@ fn take_turn<J: RunName, G: Gate>(
     t: u32,
     piece: &mut Piece<J>,
     told: &mut Result<Attempt, RunFault>,
-) -> Result<(), RunFault>
+) -> Result<bool, RunFault>
     requires image { image.now ≡ J.program }
     requires room { length refused.old ≡ suc most_threads }
     requires thread { (0 < t) × (t ≤ most_threads) }
@@ -178,16 +213,16 @@ fn take_turn<J: RunName, G: Gate>(
     requires waits { AllWait J.program (log_state shared.old).concrete waiting.old }
     ensures past { OnOk result (AllPast J.program J.limit (log_state shared.new) refused.new) }
     ensures waits { OnOk result (AllWait J.program (log_state shared.new).concrete waiting.new) }
-    ensures turned { OnOk result (HasTurned J.program J.limit (log_state shared.old) (log_state shared.new) t) }
+    ensures turned { IfOk result (λ made. HasTurned made J.program J.limit (log_state shared.old) (log_state shared.new) t) }
     ensures err { IfErr result (λ fault. CanFail J.program J.outside J.limit fault) }
 {
     if attempt_entry::<J, G, InRounds>(shared, refused, image, share, gate, t, piece, told) {
         waiting.follow_access(shared.piece_machine(), t);
-        return Ok(());
+        return Ok(true);
     }
     let attempt = (*told)?;
     waiting.follow(shared.piece_machine(), t, attempt);
-    Ok(())
+    Ok(attempt.is_made())
 }
 
 /// Makes the next entry of thread `t`, if it can make one and wasn't refused before. Says whether it did. A thread whose

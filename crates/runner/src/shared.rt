@@ -50,7 +50,8 @@ use words::{BUCKETS, MOST_LOCAL_STEPS};
 pub struct Shared<J: RunName> {
     machine: PieceMachine,
     log: PackedLog,
-    steps: u32,
+    // How many steps may be taken yet, within the limit.
+    left: u32,
     // How many entries are kills.
     kills: u32,
     limit: u32,
@@ -76,7 +77,7 @@ impl<J: RunName> Model for Shared<J> {
     ghost view = { λ s. record { log = s.log.items; room = s.log.room; machine = s.machine; given = s.given } };
 
     ghost invariant = { λ s. IsLegal J.program J.outside J.limit s.machine.view.program
-        (parts s.machine) s.log.items s.steps s.limit s.kills
+        (parts s.machine) s.log.items s.left s.limit s.kills
         × IsCounted J.parts s.book.total s.rest.parts s.rest.amount s.given s.log.items };
 }
 
@@ -101,7 +102,7 @@ impl<J: RunName> Shared<J> {
         Ok(Shared {
             machine,
             log: PackedLog::new(alloc),
-            steps: 0,
+            left: limit,
             kills: 0,
             limit,
             book,
@@ -184,7 +185,7 @@ impl<J: RunName> Shared<J> {
         ensures value { result ≡ cost self.now.log }
         ensures within { result ≤ J.limit }
     {
-        self.steps
+        self.limit - self.left
     }
 
     /// How many entries of the log are kills.
@@ -325,7 +326,7 @@ impl<J: RunName> Shared<J> {
         };
         self.log
             .push_plain(t, count, access_name(access.kind), access.value);
-        self.steps += count + 1;
+        self.left -= count + 1;
         share.count_one(&mut self.book);
         true
     }
@@ -374,7 +375,7 @@ impl<J: RunName> Shared<J> {
             &piece.here,
             piece.count,
         );
-        self.steps += piece.count + 1;
+        self.left -= piece.count + 1;
         share.count_one(&mut self.book);
         true
     }
@@ -395,7 +396,7 @@ impl<J: RunName> Shared<J> {
         if !self.stands(t, piece) || !machine.can_move(t) {
             return false;
         }
-        self.limit - self.steps > piece.count
+        self.left > piece.count
     }
 
     // The same of a piece with any step.
@@ -430,7 +431,7 @@ impl<J: RunName> Shared<J> {
         ) else {
             return Err(RunFault::Memory);
         };
-        self.steps += count + u32::from(shared);
+        self.left -= count + u32::from(shared);
         share.count_one(&mut self.book);
         Ok(())
     }
@@ -456,13 +457,13 @@ impl<J: RunName> Shared<J> {
         if self.machine.machine().asleep(t).is_none() {
             return Err(RunFault::CannotMove);
         }
-        if self.steps == self.limit {
+        if self.left == 0 {
             return Err(RunFault::Limit);
         }
         if enter_outside(&mut self.machine, &mut self.log, t, &mut self.event).is_err() {
             return Err(RunFault::Memory);
         }
-        self.steps += 1;
+        self.left -= 1;
         share.count_one(&mut self.book);
         Ok(())
     }
@@ -488,13 +489,13 @@ impl<J: RunName> Shared<J> {
         if !self.machine.machine().is_made(t) {
             return Err(RunFault::CannotMove);
         }
-        if self.limit == self.steps {
+        if self.left == 0 {
             return Err(RunFault::Limit);
         }
         if enter_kill(&mut self.machine, &mut self.log, t, &mut self.event).is_err() {
             return Err(RunFault::Memory);
         }
-        self.steps += 1;
+        self.left -= 1;
         self.kills += 1;
         share.count_one(&mut self.book);
         Ok(())
@@ -523,14 +524,14 @@ impl<J: RunName> Shared<J> {
         ensures { MatchBool result (cost self.now.log + suc most_local_steps ≤ J.limit)
             (J.limit < cost self.now.log + suc most_local_steps) }
     {
-        self.limit - self.steps > MOST_LOCAL_STEPS
+        self.left > MOST_LOCAL_STEPS
     }
 
     /// Whether the limit leaves room for one step more.
     pub(crate) fn has_step_left(&self) -> bool
         ensures { MatchBool result (cost self.now.log < J.limit) (cost self.now.log ≡ J.limit) }
     {
-        self.steps < self.limit
+        self.left > 0
     }
 
     /// Lets a piece begin anew where thread `t` is, if it can move, and says whether it can.
@@ -596,12 +597,12 @@ impl<J: RunName> Shared<J> {
         if let Some(access) = access {
             let name = access_name(access.kind);
             self.log.push_small(t, local, name, access.value);
-            self.steps += local + 1;
+            self.left -= local + 1;
             share.count_one(&mut self.book);
             return true;
         }
         let (machine, event) = (&mut self.machine, &mut self.event);
-        self.steps += end_walk(machine, &mut self.log, t, local, event, told);
+        self.left -= end_walk(machine, &mut self.log, t, local, event, told);
         share.count_one(&mut self.book);
         false
     }
@@ -708,7 +709,7 @@ impl<J: RunName> Shared<J> {
         let (machine, log) = (&mut self.machine, &mut self.log);
         match take_call(machine, log, t, request, &mut self.event, told) {
             Ok(steps) => {
-                self.steps += steps;
+                self.left -= steps;
                 share.count_one(&mut self.book);
             }
             Err(obstacle) => *told = Ok(obstacle.attempt()),
@@ -743,7 +744,7 @@ impl<J: RunName> Shared<J> {
             Err(obstacle) => Ok(obstacle.attempt()),
             Ok((taken, outcome)) => {
                 push_taken(&mut self.log, t, taken, &self.event);
-                self.steps += taken.local + u32::from(is_shared(taken.behind));
+                self.left -= taken.local + u32::from(is_shared(taken.behind));
                 share.count_one(&mut self.book);
                 let attempt = attempt_of(taken, &self.event);
                 outcome.and(Ok(attempt))
@@ -771,7 +772,7 @@ impl<J: RunName> Shared<J> {
             None => {}
         }
         let shared = !is_local(&next);
-        if self.limit - self.steps < count + u32::from(shared) {
+        if self.left < count + u32::from(shared) {
             return Some(RunFault::Limit);
         }
         None

@@ -9,8 +9,6 @@ pub end_round-requires-clause-past : goal.end_round-requires-clause-past
 end_round-requires-clause-past g c = λ lifetimes within.
     none_past g.J.RunName.program g.J.RunName.limit (suc most_threads) (log_state c.run_first.new.shared)
 
-pub loop-init : goal.loop-init
-loop-init g c = record {
-  past = c.in_ok-end_round.ensures.past;
-  waits = c.new-waiting.ensures g.J.RunName.program (log_state c.end_round.new.shared).concrete;
-}
+pub take_turns-requires-clause-waits : goal.take_turns-requires-clause-waits
+take_turns-requires-clause-waits g c = λ lifetimes within.
+    c.new-waiting.ensures g.J.RunName.program (log_state c.end_round.new.shared).concrete

@@ -1,15 +1,15 @@
-use Rattle.std.proofs.Common.{◌≡◌, ◌∙◌, IfOk, true, false, ap, inl, inr, refl, sym, subst}
-use Rattle.std.proofs.lemmas.Bool.{cases_Bool}
+use Rattle.std.proofs.Common.{◌≡◌, ◌∙◌, Bool, IfOk, true, false, ap, refl, sym, subst}
 use Rattle.machine.specs.ConcreteSteps.{can_move}
 use Rattle.piece_machine.specs.PieceConcrete.{PieceConcrete}
 use Rattle.runner.specs.Attempts.{TriedSo, is_made}
 use Rattle.runner.specs.Reports.{IsStopped}
-use Rattle.runner.specs.Rounds.{HasGrown}
+use Rattle.runner.specs.Rounds.{HasGrown, HasTurned}
 use Rattle.runner.specs.Views.{log_state}
 use Rattle.runner.specs.Waits.{AllWait}
 use Rattle.runner.specs.declared.attempt.Attempt.{Attempt}
 use Rattle.runner.specs.declared.attempt.Attempt.TheVariants.{Accessed}
 use Rattle.runner.proofs.Noting.{legal_buckets}
+use Rattle.runner.proofs.RoundSteps.{turned_so}
 use Rattle.runner.proofs.rounds.take_turn.Goals as goal
 
 pub follow_access-requires-clause-buckets : goal.follow_access-requires-clause-buckets
@@ -35,7 +35,7 @@ returns-then-attempt_entry-clause-waits g c =
     (subst (λ (k : PieceConcrete). TriedSo p old c.args.t Accessed k) (sym here) c.if-attempt_entry.ensures.tried))
 
 pub returns-then-attempt_entry-clause-turned : goal.returns-then-attempt_entry-clause-turned
-returns-then-attempt_entry-clause-turned g c = inl (c.if-attempt_entry.ensures.made refl)
+returns-then-attempt_entry-clause-turned g c = c.if-attempt_entry.ensures.made refl
 
 pub returns-clause-turned : goal.returns-clause-turned
 returns-clause-turned g c =
@@ -48,7 +48,7 @@ returns-clause-turned g c =
     × (can_move (log_state c.attempt_entry.new.shared).concrete.concrete c.args.t ≡ true
     → IsStopped g.J.RunName.program g.J.RunName.limit (log_state c.attempt_entry.new.shared).log
     (log_state c.attempt_entry.new.shared).concrete c.args.t))) is e.none in
-    elim (cases_Bool (is_made c.in_ok-attempt.attempt)) [
-      | inl y ↦ inl (made y)
-      | inr n ↦ inr (none n)
-    ]
+    subst (λ (b : Bool). HasTurned b g.J.RunName.program g.J.RunName.limit (log_state c.args.shared.now)
+    (log_state c.attempt_entry.new.shared) c.args.t) (sym c.is_made.ensures)
+    (turned_so (is_made c.in_ok-attempt.attempt) g.J.RunName.program g.J.RunName.limit (log_state c.args.shared.now)
+    (log_state c.attempt_entry.new.shared) c.args.t made none)

@@ -26,7 +26,7 @@ invariant_of-self-2 g c =
     let counted = c.self.invariant.1 in
     let grows = ap length e.ensures.enters.grows in (
       keeps_access p g.J.RunName.outside s.machine.view.program m.new.machine.view.program e.new.machine.view.program limit h
-          (parts m.new.machine) m.new.log.items e.new.log.items (parts e.new.machine) a c.args.t s.steps s.limit s.kills
+          (parts m.new.machine) m.new.log.items e.new.log.items (parts e.new.machine) a c.args.t s.left s.limit s.kills
           m.ensures.program m.ensures.same.0 m.ensures.same.1 e.ensures.program c.self.invariant.0 c.piece.invariant.0
           fine.0 fine.1 fine.2 e.ensures.enters,
       record {

@@ -38,7 +38,7 @@ invariant_of-self-2 g c =
     let counted = c.self.invariant.1 in
     let grows = ap length c.in-Ok.ensures.log in (
       keeps p g.J.RunName.outside s.machine.view.program c.enter.new.machine.view.program limit h c.enter.new.log.items
-          (parts c.enter.new.machine) a c.args.t s.steps s.limit s.kills c.from.result event
+          (parts c.enter.new.machine) a c.args.t s.left s.limit s.kills c.from.result event
           c.in-Ok.ensures.program c.self.invariant.0 c.piece.invariant.0 fine c.in-Ok.ensures.gives
           c.in-Ok.ensures.log (c.from.ensures ∙ is_shared c.in-Ok.shared c.enter.new.event),
       record {
@@ -68,6 +68,6 @@ returns-clause-legal g c =
     (subst (λ (x : SharedView). IsFine p limit (log_state x) c.args.t c.args.piece.now)
     (sym c.self.view_is) c.in_default.ensures.none) in
     (keeps p g.J.RunName.outside s.machine.view.program c.enter.new.machine.view.program limit h c.enter.new.log.items
-    (parts c.enter.new.machine) a c.args.t s.steps s.limit s.kills c.from.result (event_if c.in-Ok.shared c.enter.new.event)
+    (parts c.enter.new.machine) a c.args.t s.left s.limit s.kills c.from.result (event_if c.in-Ok.shared c.enter.new.event)
     c.in-Ok.ensures.program c.self.invariant.0 c.piece.invariant.0 fine c.in-Ok.ensures.gives
     c.in-Ok.ensures.log (c.from.ensures ∙ is_shared c.in-Ok.shared c.enter.new.event)).legal

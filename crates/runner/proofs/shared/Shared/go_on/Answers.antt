@@ -1,5 +1,5 @@
 -- The log has one entry more.
-use Rattle.std.proofs.Common.{◌≡◌, true, ◌≤◌, ◌<◌, ◌+◌, [], ◌∷◌, ◌++◌, ℕ, length, length-append, Some, ap, refl, sym, subst, ◌∙◌}
+use Rattle.std.proofs.Common.{◌≡◌, true, ◌≤◌, ◌<◌, ◌+◌, ◌-◌, [], ◌∷◌, ◌++◌, ℕ, length, length-append, Some, ap, refl, sym, subst, ◌∙◌}
 use Rattle.std.proofs.Common.{IfOk, arith}
 use Rattle.std.proofs.lemmas.Result.{IfOk-weaker, on_ok_weaker}
 use Rattle.isa.specs.Programs.{Program}
@@ -54,7 +54,7 @@ invariant_of-self-in-Some g c =
     let grows = c.push_small.ensures.entries
     ∙ ap (λ kind. m.new.self.items ++ entry t n (Some (plain kind told.value)) ∷ []) c.access_name-name.ensures in (
       keeps_entry g.J.RunName.program g.J.RunName.outside q q w.new.machine.view.program limit k k (parts w.new.machine)
-          s.log.items m.new.self.items c.push_small.new.self.items e s.steps s.limit s.kills 1 c.self.invariant.0 room refl
+          s.log.items m.new.self.items c.push_small.new.self.items e s.left s.limit s.kills 1 c.self.invariant.0 room refl
           refl m.ensures.same w.ensures.program enters w.ensures.turn grows refl,
       record {
         total = omega (
@@ -93,10 +93,10 @@ invariant_of-self-2 g c =
     let one : Entry = ended.entry in
     let enters = subst (λ (x : Program). EntersOwn x k one new) w.ensures.program ended.enters in
     let grows = ap length ended.grows in (
-      subst (λ (n : ℕ). IsLegal p may limit e.new.machine.view.program new e.new.log.items (s.steps + n) s.limit s.kills)
+      subst (λ (n : ℕ). IsLegal p may limit e.new.machine.view.program new e.new.log.items (s.left - n) s.limit s.kills)
           (sym ended.costs)
           (keeps_entry p may q q e.new.machine.view.program limit k k new s.log.items m.new.self.items e.new.log.items one
-          s.steps s.limit s.kills (event_cost one.event) c.self.invariant.0 room refl refl m.ensures.same
+          s.left s.limit s.kills (event_cost one.event) c.self.invariant.0 room refl refl m.ensures.same
           (e.ensures.program ∙ w.ensures.program) enters (omega (arith, ended.local, w.ensures.turn)) ended.grows
           (event_byte one.event)),
       record {
@@ -132,7 +132,7 @@ returns-clause-err g c =
     let walked = (none_so w.result.1 w.ensures.walked c.in_default.not-Some).0 in
     let ended : EndsWalk q' k t n m.new.self.items (parts e.new.machine) e.new.log.items e.result e.new.told =
     e.ensures.ends k (walked_as q q' k (parts w.new.machine) t n w.ensures.program walked) in
-    fails_can p g.J.RunName.outside q g.J.RunName.limit k s.log.items s.steps s.limit s.kills t n e.new.told
+    fails_can p g.J.RunName.outside q g.J.RunName.limit k s.log.items s.left s.limit s.kills t n e.new.told
     c.self.invariant.0 moves w.ensures.turn
     (if_err _ (λ (f : RunFault). FailsAfter q k t n f) e.new.told
     (λ f h. subst (λ (x : Program). FailsAfter x k t n f) w.ensures.program

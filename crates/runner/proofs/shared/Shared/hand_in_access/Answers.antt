@@ -41,7 +41,7 @@ invariant_of-self-2 g c =
     } in
     let counted = c.self.invariant.1 in (
       keeps_access p g.J.RunName.outside s.machine.view.program s.machine.view.program new.view.program limit h
-          (parts s.machine) s.log.items c.push_plain.new.self.items (parts new) a t s.steps s.limit s.kills
+          (parts s.machine) s.log.items c.push_plain.new.self.items (parts new) a t s.left s.limit s.kills
           refl refl refl c.access.ensures.program c.self.invariant.0 c.piece.invariant.0
           fine.0 fine.1 fine.2 enters,
       record {

@@ -23,8 +23,8 @@ invariant_of-self-2 g c =
     (entry c.args.t 0 (Some e.new.event)) e.new.event fewer refl took.1 took.2 c.self.invariant.0.own in
     let grows = ap length took.2 in (
       keeps_outside g.J.RunName.program g.J.RunName.outside s.machine.view.program e.new.machine.view.program g.J.RunName.limit
-          (parts s.machine) (parts e.new.machine) s.log.items e.new.log.items c.args.t s.steps s.limit s.kills
-          (s.kills + 1) e.new.event c.self.invariant.0 e.ensures.program (λ e. c.if-self.false (sym e)) (inr took.1) took.2
+          (parts s.machine) (parts e.new.machine) s.log.items e.new.log.items c.args.t s.left s.limit s.kills
+          (s.kills + 1) e.new.event c.self.invariant.0 e.ensures.program c.if-self-eq0.false (inr took.1) took.2
           (omega (arith, one_kill s.machine.view.program (parts s.machine) (parts e.new.machine) c.args.t e.new.event took.1)) has,
       record {
         total = omega (
@@ -51,8 +51,8 @@ returns-clause-legal g c =
     let has = only_kill s.machine.view.program (parts s.machine) (parts e.new.machine) g.J.RunName.outside s.log.items e.new.log.items
     (entry c.args.t 0 (Some e.new.event)) e.new.event fewer refl took.1 took.2 c.self.invariant.0.own in
     (keeps_outside g.J.RunName.program g.J.RunName.outside s.machine.view.program e.new.machine.view.program g.J.RunName.limit
-    (parts s.machine) (parts e.new.machine) s.log.items e.new.log.items c.args.t s.steps s.limit s.kills
-    (s.kills + 1) e.new.event c.self.invariant.0 e.ensures.program (λ e. c.if-self.false (sym e)) (inr took.1) took.2
+    (parts s.machine) (parts e.new.machine) s.log.items e.new.log.items c.args.t s.left s.limit s.kills
+    (s.kills + 1) e.new.event c.self.invariant.0 e.ensures.program c.if-self-eq0.false (inr took.1) took.2
     (omega (arith, one_kill s.machine.view.program (parts s.machine) (parts e.new.machine) c.args.t e.new.event took.1)) has).legal
 
 pub returns-clause-ok : goal.returns-clause-ok
@@ -71,5 +71,5 @@ returns-clause-ok g c =
       event = e.new.event;
       gives = ap (λ (q : Program). kill_piece q (parts s.machine) c.args.t) (sym v.program) ∙ took.1;
       log = took.2;
-      within = omega (arith, more, v.counted, v.within, v.limit_is, c.if-self.false);
+      within = omega (arith, more, v.counted, v.limit_is, c.if-self-eq0.false);
     })

@@ -1,5 +1,5 @@
 -- A piece that would pass the limit can't come in, if its step is an access.
-use Rattle.std.proofs.Common.{◌-◌, arith, subst}
+use Rattle.std.proofs.Common.{arith, subst}
 use Rattle.std.proofs.lemmas.Bool.{ltb-false}
 use Rattle.runner.specs.Entries.{BringsNoAccess}
 use Rattle.runner.specs.Views.{PieceView, SharedView}
@@ -19,4 +19,4 @@ returns-clause-none g c =
     λ past. subst (λ (y : SharedView). BringsNoAccess p limit y t c.args.piece.now) c.self.view_is
     (subst (λ (x : PieceView). BringsNoAccess p limit old t x) c.piece.view_is
     (brings_none p limit old t a
-    (λ access stands moves fits. omega (arith, ltb-false i.count (s.limit - s.steps) past, fits, legal.counted, legal.limit_is, legal.within))))
+    (λ access stands moves fits. omega (arith, ltb-false i.count s.left past, fits, legal.counted, legal.limit_is))))

@@ -30,10 +30,10 @@ returns-then-self-count-clause-some g c =
     (sym (ap (λ (x : PieceView). x.here) c.piece.view_is) j))) in
     subst (λ (x : SharedView). RefusesEntry p limit (log_state x) c.args.t c.args.piece.now Limit) c.self.view_is
     (subst (λ (x : PieceView). RefusesEntry p limit h c.args.t x Limit) c.piece.view_is
-    (past_limit p s.machine.view.program limit h a c.args.t s.steps s.limit c.from.result
+    (past_limit p s.machine.view.program limit h a c.args.t s.left s.limit c.from.result
     c.is_local-shared.result v.program stands moves (c.in-None.ensures i.here there is)
     (c.is_local-shared.ensures (look s.machine.view.program c.args.t i.here) is)
-    c.from.ensures v.counted v.limit_is v.within c.if-self-count.true))
+    c.from.ensures v.counted v.limit_is c.if-self-count.true))
 
 pub returns-clause-none : goal.returns-clause-none
 returns-clause-none g c =
@@ -55,10 +55,10 @@ returns-clause-none g c =
     (sym (ap (λ (x : PieceView). x.here) c.piece.view_is) j))) in
     subst (λ (x : SharedView). IsFine p limit (log_state x) c.args.t c.args.piece.now) c.self.view_is
     (subst (λ (x : PieceView). IsFine p limit h c.args.t x) c.piece.view_is
-    (in_limit p s.machine.view.program limit h a c.args.t s.steps s.limit c.from.result
+    (in_limit p s.machine.view.program limit h a c.args.t s.left s.limit c.from.result
     c.is_local-shared.result v.program stands moves (c.in-None.ensures i.here there is)
     (c.is_local-shared.ensures (look s.machine.view.program c.args.t i.here) is)
-    c.from.ensures v.counted v.limit_is v.within c.if-self-count.false))
+    c.from.ensures v.counted v.limit_is c.if-self-count.false))
 
 pub returns-in-Some-CannotMove-clause-some : goal.returns-in-Some-CannotMove-clause-some
 returns-in-Some-CannotMove-clause-some g c =

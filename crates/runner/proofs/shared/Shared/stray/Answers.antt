@@ -16,8 +16,8 @@ invariant_of-self-2 g c =
     (entry c.args.t 0 (Some e.new.event)) e.new.event c.requires.strays refl took.1 took.2 c.self.invariant.0.own in
     let grows = ap length took.2 in (
       keeps_outside g.J.RunName.program g.J.RunName.outside s.machine.view.program e.new.machine.view.program g.J.RunName.limit
-          (parts s.machine) (parts e.new.machine) s.log.items e.new.log.items c.args.t s.steps s.limit s.kills
-          s.kills e.new.event c.self.invariant.0 e.ensures.program c.if-self.false (inl took.1) took.2
+          (parts s.machine) (parts e.new.machine) s.log.items e.new.log.items c.args.t s.left s.limit s.kills
+          s.kills e.new.event c.self.invariant.0 e.ensures.program c.if-self-eq0.false (inl took.1) took.2
           (omega (arith, stray_kills (parts s.machine) (parts e.new.machine) c.args.t e.new.event took.1)) has,
       record {
         total = omega (
@@ -42,6 +42,6 @@ returns-clause-legal g c =
     let has = only_stray (parts s.machine) (parts e.new.machine) g.J.RunName.outside s.log.items e.new.log.items
     (entry c.args.t 0 (Some e.new.event)) e.new.event c.requires.strays refl took.1 took.2 c.self.invariant.0.own in
     (keeps_outside g.J.RunName.program g.J.RunName.outside s.machine.view.program e.new.machine.view.program g.J.RunName.limit
-    (parts s.machine) (parts e.new.machine) s.log.items e.new.log.items c.args.t s.steps s.limit s.kills
-    s.kills e.new.event c.self.invariant.0 e.ensures.program c.if-self.false (inl took.1) took.2
+    (parts s.machine) (parts e.new.machine) s.log.items e.new.log.items c.args.t s.left s.limit s.kills
+    s.kills e.new.event c.self.invariant.0 e.ensures.program c.if-self-eq0.false (inl took.1) took.2
     (omega (arith, stray_kills (parts s.machine) (parts e.new.machine) c.args.t e.new.event took.1)) has).legal

@@ -1,5 +1,5 @@
 -- The log has one entry more, or nothing has changed.
-use Rattle.std.proofs.Common.{◌≡◌, true, ◌≤◌, ◌<◌, ◌+◌, [], ◌∷◌, ℕ, length, length-append, ap, refl, sym, subst, ◌∙◌, arith}
+use Rattle.std.proofs.Common.{◌≡◌, true, ◌≤◌, ◌<◌, ◌+◌, ◌-◌, [], ◌∷◌, ℕ, length, length-append, ap, refl, sym, subst, ◌∙◌, arith}
 use Rattle.std.proofs.Common.{IfOk}
 use Rattle.std.proofs.lemmas.Result.{IfOk-weaker, on_ok_weaker}
 use Rattle.isa.specs.Programs.{Program}
@@ -43,10 +43,10 @@ invariant_of-self-in-Ok g c =
     let ended : EndsWalk q k c.args.t 0 m.new.self.items new e.new.log.items c.in-Ok.steps e.new.told = c.in-Ok.ensures.ends in
     let one : Entry = ended.entry in
     let grows = ap length ended.grows in (
-      subst (λ (n : ℕ). IsLegal p may limit e.new.machine.view.program new e.new.log.items (s.steps + n) s.limit s.kills)
+      subst (λ (n : ℕ). IsLegal p may limit e.new.machine.view.program new e.new.log.items (s.left - n) s.limit s.kills)
           (sym ended.costs)
           (keeps_entry p may q q e.new.machine.view.program limit k k new s.log.items m.new.self.items e.new.log.items one
-          s.steps s.limit s.kills (event_cost one.event) c.self.invariant.0 room refl refl m.ensures.same
+          s.left s.limit s.kills (event_cost one.event) c.self.invariant.0 room refl refl m.ensures.same
           c.in-Ok.ensures.program ended.enters (omega (arith, ended.local)) ended.grows (event_byte one.event)),
       record {
         total = omega (
@@ -70,7 +70,7 @@ returns-in-Ok-clause-err g c =
     let k = parts s.machine in
     let moves = subst (λ (x : SharedView). can_move (log_state x).concrete.concrete c.args.t ≡ true) (sym c.self.view_is)
     c.requires.thread in
-    breaks_can g.J.RunName.program g.J.RunName.outside q q g.J.RunName.limit k k s.log.items s.steps s.limit s.kills
+    breaks_can g.J.RunName.program g.J.RunName.outside q q g.J.RunName.limit k k s.log.items s.left s.limit s.kills
     c.args.t 0 c.take_call.new.told c.self.invariant.0 refl refl moves (omega arith) c.in-Ok.ensures.breaks
 
 pub returns-in-Ok-clause-made : goal.returns-in-Ok-clause-made

@@ -29,7 +29,7 @@ invariant_of-self-in-Ok g c =
     let entry : Entry = taken_entry c.args.t taken e.new.event in (
       keeps_entry g.J.RunName.program g.J.RunName.outside s.machine.view.program m.new.machine.view.program
           e.new.machine.view.program limit (parts s.machine) (parts m.new.machine)
-          (parts e.new.machine) s.log.items m.new.log.items c.push_taken.new.log.items entry s.steps
+          (parts e.new.machine) s.log.items m.new.log.items c.push_taken.new.log.items entry s.left
           s.limit s.kills c.from.result
           c.self.invariant.0 room m.ensures.program m.ensures.same.0 m.ensures.same.1 c.in-Ok.ensures.program
           c.in-Ok.ensures.enters c.in-Ok.ensures.turn c.push_taken.ensures (c.from.ensures ∙ ap bool_byte (c.is_shared.ensures e.new.event)),
@@ -58,7 +58,7 @@ returns-in-Ok-clause-err g c =
     and_err (λ fault. CanFail g.J.RunName.program g.J.RunName.outside g.J.RunName.limit fault) c.in-Ok.outcome c.attempt_of-attempt.result c.and.result
     c.and.ensures
     (breaks_can g.J.RunName.program g.J.RunName.outside s.machine.view.program m.new.machine.view.program
-    g.J.RunName.limit (parts s.machine) (parts m.new.machine) s.log.items s.steps s.limit s.kills c.args.t
+    g.J.RunName.limit (parts s.machine) (parts m.new.machine) s.log.items s.left s.limit s.kills c.args.t
     c.in-Ok.taken.local c.in-Ok.outcome c.self.invariant.0 m.ensures.program m.ensures.same.0 moves c.in-Ok.ensures.turn
     c.in-Ok.ensures.breaks)
 
