@@ -17,6 +17,12 @@ use std::marker::Model;
 // For so many entries room is made at once.
 const GROWTH: usize = 64;
 
+// A log of so many entries, 256 KiB, is long: for its heads 32 MiB more are asked for at once, where they can be had. Pages of
+// memory are given as they are written, and a block that seldom moves can have large ones nearly everywhere.
+const LONG: usize = 1 << 15;
+
+const LONG_GROWTH: usize = 1 << 22;
+
 // The most words of sets that an entry has: those of two sets of several threads.
 const SET_WORDS: usize = 32;
 
@@ -142,7 +148,7 @@ impl PackedLog {
         ensures few { OnOk result (length self.new.items < 2 ^ 64) }
         ensures same { self.new.items ≡ self.old.items }
     {
-        self.heads.reserve(GROWTH)?;
+        grow_heads(&mut self.heads)?;
         self.sets.reserve(GROWTH * SET_WORDS)?;
         self.wide.reserve(GROWTH)?;
         self.spare = GROWTH;
@@ -235,6 +241,19 @@ impl PackedLog {
         }
         Ok(entries)
     }
+}
+
+// Makes room for several heads.
+fn grow_heads(heads: &mut Vec<u64>) -> Result<(), AllocError>
+    ensures room { OnOk result (vec_len heads.new + 64 ≤ vec_capacity heads.new) }
+    ensures kept { vec_capacity heads.old ≤ vec_capacity heads.new }
+    ensures same { heads.new.items ≡ heads.old.items }
+{
+    let room = heads.capacity() - heads.len();
+    if room < GROWTH && heads.len() >= LONG && heads.reserve(LONG_GROWTH).is_ok() {
+        return Ok(());
+    }
+    heads.reserve(GROWTH)
 }
 
 // The last entry of packed ones.
