@@ -213,7 +213,7 @@ breaks_can p may q q' limit k k' log left limited killed t count (Err fault) leg
       breaks = b.breaks;
     })
 
--- a fault behind the local left of a turn
+-- a fault behind the local steps of a turn
 pub fails_can : {T : Type 0} → (p : Program) (may : Outside) (q : Program) (limit : ℕ) (k : PieceConcrete)
     (log : List Entry) (left limited killed t count : ℕ) (r : Result T RunFault)
     → IsLegal p may limit q k log left limited killed → can_move k.concrete t ≡ true → count ≤ 256
