@@ -5,3 +5,4 @@ pub mod Running
 pub mod Uppermost
 pub mod Trying
 pub mod OwnSteps
+pub mod NoWords

@@ -7,7 +7,7 @@ ghost use Rattle.locals.specs.Uses.{AreBlank, IsBlank};
 ghost use Rattle.locals.specs.Views.{running};
 
 use crate::activation::{Activation, MOST_CALLERS, MOST_OPERANDS};
-use crate::frame::{Frame, Locals, copy_frames, same_frames};
+use crate::frame::{FEW, Frame, Locals, copy_frames, same_frames};
 use crate::stack::Stack;
 
 impl Activation {
@@ -47,8 +47,40 @@ impl Activation {
         self.used.max(other.used)
     }
 
-    /// Becomes a copy of another, in its place.
+    /// Becomes a copy of another, in its place. Most have few operands and as many frames as before: that takes no call.
+    #[inline(always)]
     pub fn copy_from(&mut self, other: &Activation)
+        ensures { self.new ≡ other.now }
+    {
+        if self.operands.is_few()
+            && other.operands.is_few()
+            && self.callers.len() == other.callers.len()
+            && self.used_with(other) <= FEW
+        {
+            self.copy_few(other);
+        } else {
+            self.copy_any(other);
+        }
+    }
+
+    // The same of such a one.
+    #[inline(always)]
+    fn copy_few(&mut self, other: &Activation)
+        requires operands { (length self.old.operands ≤ 2) × (length other.now.operands ≤ 2) }
+        requires callers { length self.old.callers ≡ length other.now.callers }
+        ensures { self.new ≡ other.now }
+    {
+        let used = self.used_with(other);
+        self.place = other.place;
+        self.operands.copy_few(&other.operands);
+        self.locals.copy_from(&other.locals, used);
+        copy_as_many(&mut self.callers, &other.callers, used);
+        self.used = other.used;
+    }
+
+    // The same of any other.
+    #[inline(never)]
+    fn copy_any(&mut self, other: &Activation)
         ensures { self.new ≡ other.now }
     {
         let used = self.used_with(other);
@@ -92,8 +124,18 @@ fn copy_callers(to: &mut Stack<Frame, MOST_CALLERS>, from: &Stack<Frame, MOST_CA
     ensures { to.new ≡ from.now }
 {
     if to.len() == from.len() {
-        copy_frames(to.items.as_mut_slice(), from.as_slice(), used);
+        copy_as_many(to, from, used);
     } else {
         to.copy_from(from);
     }
+}
+
+#[inline(always)]
+fn copy_as_many(to: &mut Stack<Frame, MOST_CALLERS>, from: &Stack<Frame, MOST_CALLERS>, used: usize)
+    requires same { length to.old ≡ length from.now }
+    requires within { used ≤ most_locals }
+    requires blank { AreBlank used to.old × AreBlank used from.now }
+    ensures { to.new ≡ from.now }
+{
+    copy_frames(to.items.as_mut_slice(), from.as_slice(), used);
 }

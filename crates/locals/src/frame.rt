@@ -8,8 +8,8 @@ use crate::activation::MOST_CALLERS;
 use crate::stack::Stack;
 use isa::Slot;
 
-// As many locals are copied without a call where no more are in use.
-const FEW: usize = 8;
+/// As many locals are copied without a call where no more are in use.
+pub const FEW: usize = 8;
 
 /// How many locals a frame has, besides the one of the templates.
 pub const LOCALS: usize = isa::MOST_LOCALS as usize;

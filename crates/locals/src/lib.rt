@@ -14,6 +14,7 @@ mod local_run;
 mod progress;
 mod request;
 mod sequence;
+mod sequence_run;
 mod sequences;
 mod stack;
 mod stepping;

@@ -1,5 +1,5 @@
 ghost use Rattle.std.specs.Prelude.{◌≡◌, ◌≢◌, ◌≤◌, ◌<◌, ℕ, MatchBool, Some, None, is_some, length, reverse};
-ghost use Rattle.std.specs.Prelude.{IfSome, MatchOption};
+ghost use Rattle.std.specs.Prelude.{[], IfSome, MatchOption};
 ghost use Rattle.words.specs.declared.outcome.Cause.TheVariants.{Faulted, Killed};
 ghost use Rattle.robustexit.specs.declared.phase.ExitPhase.TheVariants.{Ended};
 ghost use Rattle.locals.specs.Accesses.{accessing};
@@ -255,6 +255,38 @@ impl Local {
         match &mut self.stage {
             Stage::Running(activation) => {
                 let (count, failed) = activation.run(image, t, budget);
+                if let Some(fault) = failed {
+                    self.die(fault);
+                }
+                count
+            }
+            Stage::Dying(_) | Stage::Exiting(_) => 0,
+        }
+    }
+
+    /// The same away from the words, frequent sequences in one go. The sequences are those of the image, and `nothing` is a
+    /// memory without a word.
+    #[inline(always)]
+    pub fn run_by_sequences(
+        &mut self,
+        image: &Image,
+        sequences: &Sequences,
+        t: u32,
+        budget: u32,
+        nothing: &mut Mem,
+    ) -> u32
+        requires noted { AreSequences image.now.code sequences.now }
+        requires nothing { nothing.old ≡ [] }
+        ensures reached { local_after image.now t result self.old ≡ Some self.new }
+        ensures within { result ≤ budget }
+        ensures whole { result < budget → local_step image.now t self.new ≡ None }
+        ensures nothing { nothing.new ≡ [] }
+    {
+        match &mut self.stage {
+            Stage::Running(activation) => {
+                let (count, failed) = activation.run_by_sequences(
+                    image, sequences, t, budget, nothing,
+                );
                 if let Some(fault) = failed {
                     self.die(fault);
                 }

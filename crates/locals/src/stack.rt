@@ -1,8 +1,11 @@
 ghost use Rattle.std.specs.Prelude.{◌≡◌, ◌+◌, ◌<◌, ◌≤◌, ◌==◌, [], ◌∷◌, drop, length, reverse, take, nat_lt};
-ghost use Rattle.std.specs.Prelude.{slice_get, IfSome, IfNone, option_copied};
+ghost use Rattle.std.specs.Prelude.{slice_get, IfSome, IfNone, MatchBool, option_copied};
 
 use arrayvec::ArrayVec;
 use std::marker::Model;
+
+// So many items are few.
+const FEW: usize = 2;
 
 /// A stack of at most `N` items, which takes no memory beyond its own. Contracts see its items from the top one down.
 #[derive(Drop)]
@@ -49,7 +52,32 @@ impl<T: Copy + Default + Drop, const N: usize> Stack<T, N> {
         }
     }
 
-    /// Becomes a copy of another, in its place. As many items as it has are written over, and not taken off first.
+    /// Whether it has few items.
+    #[inline(always)]
+    pub fn is_few(&self) -> bool
+        ensures { MatchBool result (length self.now ≤ 2) (2 < length self.now) }
+    {
+        self.items.len() <= FEW
+    }
+
+    /// Becomes a copy of another, in its place, where both have few items: so many are written without a call.
+    #[inline(always)]
+    pub fn copy_few(&mut self, other: &Stack<T, N>)
+        requires { (length self.old ≤ 2) × (length other.now ≤ 2) }
+        ensures { self.new ≡ other.now }
+    {
+        let _upper = self.items.pop();
+        let _lower = self.items.pop();
+        let from = other.items.as_slice();
+        if !from.is_empty() {
+            self.items.push(from[0]);
+        }
+        if from.len() > 1 {
+            self.items.push(from[1]);
+        }
+    }
+
+    /// The same of any number. As many items as it has are written over, and not taken off first.
     pub fn copy_from(&mut self, other: &Stack<T, N>)
         ensures { self.new ≡ other.now }
     {

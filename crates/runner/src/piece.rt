@@ -1,7 +1,9 @@
 ghost use Rattle.words.specs.Limits.{most_local_steps};
-ghost use Rattle.std.specs.Prelude.{◌≡◌, ◌≤◌, ◌<◌, ◌+◌, true, MatchOption, Some, None};
+ghost use Rattle.std.specs.Prelude.{◌≡◌, ◌≤◌, ◌<◌, ◌+◌, [], true, MatchOption, Some, None};
 ghost use Rattle.locals.specs.Accesses.{accessing};
 ghost use Rattle.locals.specs.Looks.{look};
+ghost use Rattle.locals.specs.Requests.{next_step_of};
+ghost use Rattle.locals.specs.Sequences.{AreSequences};
 ghost use Rattle.locals.specs.Steps.{local_step, local_after};
 ghost use Rattle.locals.specs.Threads.{Exits};
 ghost use Rattle.machine.specs.ConcreteSteps.{can_move};
@@ -11,11 +13,11 @@ ghost use Rattle.robustexit.specs.declared.phase.ExitPhase.TheVariants.{Ended};
 
 use crate::naming::RunName;
 use isa::Image;
-use locals::{Access, Local};
+use locals::{Access, Local, NextStep, Sequences};
 use piece_machine::PieceMachine;
 use robustexit::ExitPhase;
 use std::marker::{Model, PhantomData};
-use words::MOST_LOCAL_STEPS;
+use words::{MOST_LOCAL_STEPS, Mem};
 
 /// A thread away from the machine, between two entries of the log of run `J`. Its type keeps that it has come to where
 /// it is by as many local steps of the run's program as it counts.
@@ -70,6 +72,34 @@ impl<J: RunName> Piece<J> {
     {
         let budget = MOST_LOCAL_STEPS - self.count;
         self.count += self.here.run(image, self.thread, budget);
+    }
+
+    /// The same with frequent sequences of instructions taken in one go. The sequences are those of the image, and `nothing`
+    /// is a memory without a word.
+    pub fn go_on_by_sequences(&mut self, image: &Image, sequences: &Sequences, nothing: &mut Mem)
+        requires image { image.now ≡ J.program }
+        requires noted { AreSequences J.program.code sequences.now }
+        requires nothing { nothing.old ≡ [] }
+        ensures same { (self.new.thread ≡ self.old.thread) × (self.new.origin ≡ self.old.origin) }
+        ensures reached { local_after J.program self.new.thread self.new.count self.new.origin
+            ≡ Some self.new.here }
+        ensures within { self.new.count ≤ most_local_steps }
+        ensures whole { self.new.count < most_local_steps
+            → local_step J.program self.new.thread self.new.here ≡ None }
+        ensures nothing { nothing.new ≡ [] }
+    {
+        let left = MOST_LOCAL_STEPS - self.count;
+        self.count += self
+            .here
+            .run_by_sequences(image, sequences, self.thread, left, nothing);
+    }
+
+    /// What its next step is.
+    pub fn next_step(&self, image: &Image) -> NextStep
+        requires { image.now ≡ J.program }
+        ensures { result ≡ next_step_of (look J.program self.now.thread self.now.here) }
+    {
+        self.here.next_step(image, self.thread)
     }
 
     /// How many local steps it took.

@@ -317,7 +317,8 @@ impl<J: RunName> Shared<J> {
         if !self.log.has_room() {
             return false;
         }
-        if !self.may_access(t, piece) {
+        // Whether its next step is an access is told as it is made, since for most it is.
+        if !self.is_fine(t, piece) {
             return false;
         }
         let count = piece.count;
@@ -387,13 +388,18 @@ impl<J: RunName> Shared<J> {
             × (cost self.now.log + (piece.now.count + 1) ≤ J.limit) }
         ensures access { result ≡ true
             → is_some (accessing (look J.program t piece.now.here) self.now.machine.view.words) ≡ true }
+    {
+        self.machine.machine().has_access_at(t, &piece.here) && self.is_fine(t, piece)
+    }
+
+    // Whether the piece can come in, if its next step is an access to a word.
+    fn is_fine(&self, t: u32, piece: &Piece<J>) -> bool
+        ensures fine { result ≡ true → Stands (log_state self.now) t piece.now
+            × (can_move (log_state self.now).concrete.concrete t ≡ true)
+            × (cost self.now.log + (piece.now.count + 1) ≤ J.limit) }
         ensures none { result ≡ false → BringsNoAccess J.program J.limit self.now t piece.now }
     {
-        let machine = self.machine.machine();
-        if !machine.has_access_at(t, &piece.here) {
-            return false;
-        }
-        if !self.stands(t, piece) || !machine.can_move(t) {
+        if !self.stands(t, piece) || !self.machine.machine().can_move(t) {
             return false;
         }
         self.left > piece.count

@@ -2,8 +2,9 @@ ghost use Rattle.std.specs.Prelude.{◌≤◌, length, IfOk};
 
 use crate::failure::Failure;
 use isa::{Image, decode};
-use locals::{NextStep, opening_local, run_local};
-use std::alloc::Global;
+use locals::{Local, NextStep, Sequences, opening_local, run_local};
+use std::alloc::{AllocError, Global};
+use words::Mem;
 
 // The thread whose local steps are taken.
 const THREAD: u32 = 5;
@@ -14,7 +15,8 @@ const MOST_STEPS: u32 = 1000;
 // The most operands of a thread.
 const MOST_OPERANDS: usize = 512;
 
-/// Prints how many local steps a thread takes from the start of a code, and the step that it comes to.
+/// Prints how many local steps a thread takes from the start of a code, and the step that it comes to; and whether it is
+/// elsewhere by sequences of instructions.
 pub fn show_code(rt: &HostRuntime, row: &str) -> Result<(), Failure> {
     let image = image_of(rt.alloc(), row)?;
     let operands = operands_of(rt.alloc(), row)?;
@@ -26,7 +28,26 @@ pub fn show_code(rt: &HostRuntime, row: &str) -> Result<(), Failure> {
     );
     let next = local.next_step(&image, THREAD);
     println!(rt; "  {steps} local steps, {next:?}")?;
+    let (by_sequences, taken) = led_by_sequences(rt.alloc(), &image, operands.as_slice())?;
+    if taken != steps || !by_sequences.equals(&local) {
+        println!(rt; "  by sequences {taken}")?;
+    }
     Ok(())
+}
+
+// Where the same thread comes by sequences of instructions, and how many steps it took.
+fn led_by_sequences(
+    alloc: Global,
+    image: &Image,
+    operands: &[u32],
+) -> Result<(Local, u32), AllocError>
+    requires { length operands.now ≤ 512 }
+{
+    let sequences = Sequences::new(alloc, image)?;
+    let mut nothing = Mem::new(alloc, 0)?;
+    let mut local = opening_local(0, operands);
+    let taken = local.run_by_sequences(image, &sequences, THREAD, MOST_STEPS, &mut nothing);
+    Ok((local, taken))
 }
 
 /// Prints the first step of a thread at the start of a code, and what comes of the answer 0.

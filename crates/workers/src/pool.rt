@@ -193,7 +193,7 @@ impl<J: RunName> Pool<J> {
     ) -> bool {
         for _ in rt.forever() {
             turns.take(image_ref, gate, t);
-            match self.hand_in(rt, gate, t, turns, share) {
+            match self.hand_in(rt, image_ref, gate, t, turns, share) {
                 After::Goes => {}
                 After::Sleeps => return true,
                 After::Ends => return false,
@@ -221,7 +221,7 @@ impl<J: RunName> Pool<J> {
             }
             drop(shared_run);
             parker.park(rt);
-            self.precedence.take(&self.lookout, t);
+            self.precedence.take(rt, &self.lookout, t);
         }
         After::Ends
     }
@@ -230,6 +230,7 @@ impl<J: RunName> Pool<J> {
     fn hand_in<R: Wait, G: Gate>(
         &self,
         rt: &R,
+        image_ref: &ImageRef<J>,
         gate: &G,
         t: u32,
         turns: &mut Turns<J>,
@@ -237,26 +238,28 @@ impl<J: RunName> Pool<J> {
     ) -> After
         ensures { IsAfresh t turns.new.pieces.items result }
     {
-        let few = turns.are_few();
-        self.precedence.take(&self.lookout, t);
+        let keeps = turns.keep_precedence(image_ref);
+        self.precedence.take(rt, &self.lookout, t);
         let mut shared_run = self.lock(rt);
         // As most turns are. It concerns nobody.
         if shared_run.hand_in_access(t, turns, share) {
             drop(shared_run);
-            self.precedence.pass_on(t, few, &mut turns.entries);
+            self.precedence.pass_on(t, keeps, &mut turns.entries);
             return After::Goes;
         }
-        self.hand_in_any(gate, t, turns, share, shared_run)
+        self.hand_in_any(rt, gate, t, turns, share, keeps, shared_run)
     }
 
     // The same of any turns, under the lock.
     #[inline(never)]
-    fn hand_in_any<G: Gate>(
+    fn hand_in_any<R: Wait, G: Gate>(
         &self,
+        rt: &R,
         gate: &G,
         t: u32,
         turns: &mut Turns<J>,
         share: &mut Share<J>,
+        keeps: bool,
         shared_run: MutexGuard<'_, CachePadded<SharedRun<J>>>,
     ) -> After
         ensures { IsAfresh t turns.new.pieces.items result }
@@ -264,7 +267,6 @@ impl<J: RunName> Pool<J> {
         let Some(parker) = self.parkers.get(t as usize) else {
             return After::Ends;
         };
-        let few = turns.are_few();
         let mut shared_run = shared_run;
         let calls = parker.calls();
         let after = shared_run.hand_in(t, turns, share, parker, gate);
@@ -277,7 +279,7 @@ impl<J: RunName> Pool<J> {
         let is_over = after != After::Goes && self.is_over(&shared_run);
         drop(shared_run);
         self.precedence
-            .pass_on(t, few && after == After::Goes, &mut turns.entries);
+            .pass_on(t, keeps && after == After::Goes, &mut turns.entries);
         if turns.concern_others() {
             self.tell_others(turns);
         }
@@ -285,7 +287,7 @@ impl<J: RunName> Pool<J> {
             self.end();
         }
         if after == After::Sleeps && parker.look(&self.lookout, calls) {
-            self.precedence.take(&self.lookout, t);
+            self.precedence.take(rt, &self.lookout, t);
         }
         after
     }

@@ -2,12 +2,10 @@ use crate::lookout::Lookout;
 use crossbeam_utils::CachePadded;
 use std::hint::spin_loop;
 use std::sync::atomic::{AtomicU64, Ordering};
+use std::sync::{Mutex, Wait};
 
 // For how many moments a worker leaves the lock to the one with precedence.
-const LOOKS: u32 = 4000;
-
-// How many entries a worker makes before it gives precedence up, so that others have their turn.
-const MOST_ENTRIES: u32 = 256;
+const LOOKS: u32 = 20_000;
 
 /// Which worker has precedence: the others leave the lock to it, for a while. So it makes entry after entry, and what
 /// the lock keeps stays in its processor's memory. It is a courtesy: nothing rests on it but speed.
@@ -15,6 +13,8 @@ const MOST_ENTRIES: u32 = 256;
 pub struct Precedence {
     // The thread whose worker has it, or 0.
     holder: CachePadded<AtomicU64>,
+    // Where one looks for it, and the others sleep.
+    room: CachePadded<Mutex<()>>,
 }
 
 impl Precedence {
@@ -22,34 +22,32 @@ impl Precedence {
     pub fn new() -> Precedence {
         Precedence {
             holder: CachePadded::new(AtomicU64::new(0)),
+            room: CachePadded::new(Mutex::new(())),
         }
     }
 
     /// Takes it for the worker of thread `t`: at once where nobody else has it, else when that one gives it up, and
     /// after a while anyhow. Where there is no place to look from, it is left where it is.
-    pub fn take(&self, lookout: &Lookout, t: u32) {
+    pub fn take<R: Wait>(&self, rt: &R, lookout: &Lookout, t: u32) {
         let me = u64::from(t);
         if !lookout.has_places() || self.holder.load(Ordering::SeqCst) == me || self.claim(me) {
             return;
         }
-        if !lookout.enter() {
-            return;
-        }
+        let _room = self.room.lock(rt);
         for _ in 0..LOOKS {
             if self.claim(me) {
-                break;
+                return;
             }
             spin_loop();
         }
-        lookout.leave();
         self.holder.store(me, Ordering::SeqCst);
     }
 
     /// Gives it up, if the worker of thread `t` has it. One that goes on with few steps between its entries keeps it,
     /// up to a number of entries. The worker counts them itself, so that nothing shared is written at an entry.
-    pub fn pass_on(&self, t: u32, goes_on: bool, entries: &mut u32) {
-        if goes_on && *entries < MOST_ENTRIES {
-            *entries += 1;
+    pub fn pass_on(&self, t: u32, keeps: bool, entries: &mut u32) {
+        if keeps {
+            *entries = entries.saturating_add(1);
             return;
         }
         *entries = 0;

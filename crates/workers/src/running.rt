@@ -2,13 +2,13 @@ ghost use Rattle.std.specs.Prelude.{◌≡◌, IfOk, IfErr};
 ghost use Rattle.runner.specs.Logs.{nothing_outside};
 ghost use Rattle.runner.specs.Reports.{IsReport, CanFail};
 
-use crate::image_ref::ImageRef;
+use crate::image_ref::{ImageRef, RunSequences};
 use crate::pool::Pool;
 use crate::shared_run::SharedRun;
 use isa::Image;
 use runner::{PARTS, Report, RunFault, RunName, Shared, finish};
 use std::alloc::Global;
-use std::marker::{Brand, PhantomData};
+use std::marker::Brand;
 use std::sync::Wait;
 use std::sync::ledger::Blank;
 use std::thread::Threads;
@@ -60,10 +60,10 @@ fn run_as<J: RunName + Send + Sync, R: Threads + Wait + Sync, G: Gate>(
     let Ok(pool) = Pool::new(rt, alloc, SharedRun::new(shared, kept)) else {
         return Err(RunFault::Memory);
     };
-    let image_ref = ImageRef {
-        image,
-        of: PhantomData,
+    let Ok(sequences) = RunSequences::new(alloc, image) else {
+        return Err(RunFault::Memory);
     };
+    let image_ref = ImageRef { image, sequences };
     pool.start(rt, alloc, &image_ref, gate);
     let (shared, fault, mut kept) = pool.into_shared_run().into_parts();
     if let Some(fault) = fault {

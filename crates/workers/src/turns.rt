@@ -6,15 +6,22 @@ ghost use Rattle.workers.specs.Taken.{AreTurns, IsTurn, IsGrown, StartsAt, idle}
 use crate::bucket_waiters::BucketWaiters;
 use crate::image_ref::ImageRef;
 use crate::shared_run::WakeReason;
+use locals::{NextStep, Request};
 use runner::{Piece, RunName};
 use std::alloc::{AllocError, Global};
-use words::{Gate, MOST_LOCAL_STEPS};
+use words::{Gate, MOST_LOCAL_STEPS, Mem};
 
 // How many turns a worker takes at most before it hands them in. Each has a piece of some 12 kilobytes.
 const MOST_TURNS: usize = 16;
 
 // How many local steps are few: it takes less time to take them than to hand the lock to and fro.
 const FEW_STEPS: u32 = 64;
+
+// Behind so many entries a worker gives precedence up as soon as its thread gives a lock up.
+const MANY_ENTRIES: u32 = 1024;
+
+// And behind so many anyhow.
+const MOST_ENTRIES: u32 = 1152;
 
 /// The turns of one thread that its worker has taken and not handed in: a piece for each, which began where the one
 /// before has come. So the lock is taken once for all of them.
@@ -30,8 +37,16 @@ pub struct Turns<J: RunName> {
     pub freed: BucketWaiters,
     /// How many entries were made since its worker gave precedence up.
     pub entries: u32,
+    nothing: NoWords,
     ghost some: { 0 < vec_len pieces },
     ghost within: { taken ≤ vec_len pieces },
+}
+
+// A memory without a word, on which a worker takes local steps: the words are under the lock.
+#[derive(Drop)]
+struct NoWords {
+    mem: Mem,
+    ghost none: { mem ≡ [] },
 }
 
 impl<J: RunName> Turns<J> {
@@ -41,12 +56,16 @@ impl<J: RunName> Turns<J> {
     {
         let mut pieces = Vec::new(alloc);
         pieces.push(Piece::idle(t))?;
+        let nothing = NoWords {
+            mem: Mem::new(alloc, 0)?,
+        };
         Ok(Turns {
             pieces,
             taken: 0,
             wake_reason: WakeReason::new(),
             freed: BucketWaiters::new(),
             entries: 0,
+            nothing,
         })
     }
 
@@ -60,6 +79,22 @@ impl<J: RunName> Turns<J> {
     /// Whether few local steps were taken: fewer than others could take meanwhile with profit.
     pub fn are_few(&self) -> bool {
         self.taken == 1 && self.pieces[0].count() < FEW_STEPS
+    }
+
+    /// Whether its worker keeps precedence behind its entry: where few steps were taken, up to a number of entries, and then
+    /// until its thread gives a lock up. One that gave precedence up with a lock held would hold others up by that lock.
+    pub fn keep_precedence(&self, image_ref: &ImageRef<J>) -> bool {
+        self.are_few()
+            && (self.entries < MANY_ENTRIES
+                || self.entries < MOST_ENTRIES && !self.give_lock_up(image_ref))
+    }
+
+    // Whether the next step is a swap, by which a lock is given up.
+    fn give_lock_up(&self, image_ref: &ImageRef<J>) -> bool {
+        matches!(
+            self.pieces[0].next_step(image_ref.image),
+            NextStep::Shared(Request::Swap(..))
+        )
     }
 
     /// Whether the last entry concerns another thread or the calling one, or somebody waited for a bucket until one was
@@ -76,7 +111,7 @@ impl<J: RunName> Turns<J> {
     pub fn take<G: Gate>(&mut self, image_ref: &ImageRef<J>, gate: &G, t: u32)
         ensures { AreTurns J.program self.old.pieces.items self.new.pieces.items self.new.taken }
     {
-        self.taken = take_turns(&mut self.pieces, image_ref, gate, t);
+        self.taken = take_turns(&mut self.pieces, image_ref, &mut self.nothing, gate, t);
     }
 }
 
@@ -84,28 +119,39 @@ impl<J: RunName> Turns<J> {
 fn take_turns<J: RunName, G: Gate>(
     pieces: &mut Vec<Piece<J>>,
     image_ref: &ImageRef<J>,
+    nothing: &mut NoWords,
     gate: &G,
     t: u32,
 ) -> usize
     requires { 0 < vec_len pieces.old }
     ensures { AreTurns J.program pieces.old.items pieces.new.items result }
 {
-    take_turn(&mut pieces[0], image_ref, gate, t);
+    take_turn(&mut pieces[0], image_ref, nothing, gate, t);
     let mut taken = 1;
     while pieces[taken - 1].count() == MOST_LOCAL_STEPS && has_piece(pieces, taken, t) {
         follow(pieces, taken);
-        take_turn(&mut pieces[taken], image_ref, gate, t);
+        take_turn(&mut pieces[taken], image_ref, nothing, gate, t);
         taken += 1;
     }
     taken
 }
 
 // Takes a turn, or what is left of one.
-fn take_turn<J: RunName, G: Gate>(piece: &mut Piece<J>, image_ref: &ImageRef<J>, gate: &G, t: u32)
+fn take_turn<J: RunName, G: Gate>(
+    piece: &mut Piece<J>,
+    image_ref: &ImageRef<J>,
+    nothing: &mut NoWords,
+    gate: &G,
+    t: u32,
+)
     ensures same { (piece.new.thread ≡ piece.old.thread) × (piece.new.origin ≡ piece.old.origin) }
     ensures turn { IsTurn J.program piece.new }
 {
-    piece.go_on(image_ref.image);
+    piece.go_on_by_sequences(
+        image_ref.image,
+        image_ref.sequences.list(),
+        &mut nothing.mem,
+    );
     gate.pass(t);
 }
 

@@ -26,7 +26,7 @@ invariant_of-self-2 g c =
     × (can_move (log_state y).concrete.concrete t ≡ true) × (cost y.log + (x.count + 1) ≤ limit) in
     let old : SharedView = record { log = s.log.items; room = s.log.room; machine = s.machine; given = s.given } in
     let fine : Fine a old = subst (λ (x : PieceView). Fine x old) (sym c.piece.view_is)
-    (subst (λ (y : SharedView). Fine c.args.piece.now y) (sym c.self.view_is) (c.if-not-may_access.ensures.fine (λ i. true))) in
+    (subst (λ (y : SharedView). Fine c.args.piece.now y) (sym c.self.view_is) (c.if-not-is_fine.ensures.fine (λ i. true))) in
     let done = subst (λ (u : ℕ). DoneFrom told s.machine u a.here new c.access.new.self.here) fine.0.0
     (subst (λ (x : PieceView). DoneFrom told s.machine x.thread x.here new c.access.new.self.here) (sym c.piece.view_is)
     c.in-Some.ensures.made.0) in

@@ -2,7 +2,7 @@ use Rattle.std.proofs.Common.{subst, sym, reverse}
 use Rattle.std.proofs.lemmas.List.{reverse-reverse}
 use Rattle.locals.specs.Uses.{AreBlank}
 use Rattle.locals.proofs.Blanks.{backwards}
-use Rattle.locals.proofs.copying.copy_callers.Goals as goal
+use Rattle.locals.proofs.copying.copy_as_many.Goals as goal
 
 pub copy_frames-requires-clause-blank : goal.copy_frames-requires-clause-blank
 copy_frames-requires-clause-blank c =

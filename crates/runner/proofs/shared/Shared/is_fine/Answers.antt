@@ -4,7 +4,7 @@ use Rattle.std.proofs.lemmas.Bool.{ltb-false}
 use Rattle.runner.specs.Entries.{BringsNoAccess}
 use Rattle.runner.specs.Views.{PieceView, SharedView}
 use Rattle.runner.proofs.Handing.{brings_none}
-use Rattle.runner.proofs.shared.Shared.may_access.Goals as goal
+use Rattle.runner.proofs.shared.Shared.is_fine.Goals as goal
 
 pub returns-clause-none : goal.returns-clause-none
 returns-clause-none g c =
