@@ -232,7 +232,7 @@ set_same (y ∷ ys) zero x h = ap (λ z. z ∷ ys) (sym (same y x h))
 set_same (y ∷ ys) (suc n) x h = ap (λ zs. y ∷ zs) (set_same ys n x h)
 
 -- a thread that is put where it stands stays there
-stays : (threads : List Thread) (t : ℕ) (x : Thread) → thread_at threads t ≡ Some x
+pub stays : (threads : List Thread) (t : ℕ) (x : Thread) → thread_at threads t ≡ Some x
     → slice_set threads (t - 1) x ≡ threads
 stays threads zero x h = absurd cc
 stays threads (suc n) x h =
@@ -345,7 +345,7 @@ alive_of p t x words a h is =
     let q : accessing (look p t (Exits Ended)) words ≡ Some a = ap (λ y. accessing (look p t y) words) (sym is) ∙ h in
     absurd cc
 
-put_twice : {A : Type 0} → (xs : List A) (i : ℕ) (x y : A) → slice_set (slice_set xs i x) i y ≡ slice_set xs i y
+pub put_twice : {A : Type 0} → (xs : List A) (i : ℕ) (x y : A) → slice_set (slice_set xs i x) i y ≡ slice_set xs i y
 put_twice [] i x y = refl
 put_twice (z ∷ zs) zero x y = refl
 put_twice (z ∷ zs) (suc i) x y = ap (λ ws. z ∷ ws) (put_twice zs i x y)

@@ -25,4 +25,5 @@ pub mod Orders
 pub mod Bits
 pub mod Ables
 pub mod Accessing
+pub mod Committing
 pub mod Walking

@@ -15,3 +15,4 @@ pub mod ConcretePieces
 pub mod Determined
 pub mod LocalRuns
 pub mod Accessing
+pub mod Speculation

@@ -20,6 +20,7 @@ ghost use Rattle.machine.specs.Runs.{has_ended};
 ghost use Rattle.machine.specs.ConcreteSteps.{step_of, can_move, fault_at};
 ghost use Rattle.machine.specs.ConcreteOutside.{kill_of, stray_of};
 ghost use Rattle.machine.specs.Accessing.{AccessesFrom, HasNoAccess, MakesAccess, told_access};
+ghost use Rattle.machine.specs.Speculation.{Committed, FindsAll, SpeculatesAll};
 ghost use Rattle.machine.specs.LocalRuns.{RunsOn, WalksOn};
 ghost use Rattle.machine.specs.ThreadSets.{IsLeastFrom};
 ghost use Rattle.machine.specs.Views.{concrete, AllEnded, IsQuiet, variable_address, address_of, printed_by};
@@ -30,6 +31,7 @@ use crate::call_step::{CallProgress, CallStep};
 use crate::common::Common;
 use crate::event::{Event, EventName, StepFault};
 use crate::parts::{opening_threads, step_parts, variable};
+use crate::speculation::{SpeculativeAccess, commit_accesses};
 use crate::thread_bits::ThreadBits;
 use crate::thread_step::{take_access, take_walk};
 use futexcalls::{FutexCall, FutexPhase};
@@ -337,6 +339,23 @@ impl Machine {
         let access = take_access(&self.image, &mut self.common, t, local)?;
         self.threads[t as usize - 1].copy_from(local);
         Some(access)
+    }
+
+    /// Takes in accesses that thread `t`, which can move, made ahead of the machine, from where it stands up to this state:
+    /// each is made behind its local steps, and the thread stands there. It does where each finds the word that it found.
+    /// Else nothing has changed.
+    pub fn commit(&mut self, t: u32, accesses: &[SpeculativeAccess], there: &Local) -> bool
+        requires moves { can_move (concrete self.old) t ≡ true }
+        requires speculates { (x : Thread) → thread_of (concrete self.old) t ≡ Some x
+            → SpeculatesAll self.old.program t x accesses.now there.now }
+        ensures made { result ≡ true → Committed self.old t accesses.now self.new there.now }
+        ensures none { result ≡ false → (self.new ≡ self.old) × (FindsAll accesses.now self.old.words → ⊥) }
+    {
+        if !commit_accesses(&mut self.common, accesses) {
+            return false;
+        }
+        self.threads[t as usize - 1].copy_from(there);
+        true
     }
 
     /// Whether the next step of thread `t` is an access to a word of the memory, if its local steps led it here.

@@ -140,12 +140,26 @@ impl PackedLog {
         self.spare > 0
     }
 
+    /// Makes room for so many entries more at least, from 0 to 64.
+    #[inline(always)]
+    pub fn make_room_for(&mut self, count: usize) -> Result<(), AllocError>
+        requires { count ≤ 64 }
+        ensures room { OnOk result (count ≤ self.new.room) }
+        ensures few { OnOk result (length self.new.items + count ≤ 2 ^ 64) }
+        ensures same { self.new.items ≡ self.old.items }
+    {
+        if self.spare >= count {
+            return Ok(());
+        }
+        self.grow()
+    }
+
     // Makes room for several entries, so that the vectors are asked seldom.
     #[cold]
     #[inline(never)]
     fn grow(&mut self) -> Result<(), AllocError>
-        ensures room { OnOk result (1 ≤ self.new.room) }
-        ensures few { OnOk result (length self.new.items < 2 ^ 64) }
+        ensures room { OnOk result (64 ≤ self.new.room) }
+        ensures few { OnOk result (length self.new.items + 64 ≤ 2 ^ 64) }
         ensures same { self.new.items ≡ self.old.items }
     {
         grow_heads(&mut self.heads)?;

@@ -16,3 +16,4 @@ pub mod Fronts
 pub mod Committed
 pub mod Counts
 pub mod Accessed
+pub mod Speculated

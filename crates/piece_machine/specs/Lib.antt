@@ -3,3 +3,4 @@ pub mod PieceViews
 pub mod PieceDetermined
 pub mod PieceTaken
 pub mod PieceFronts
+pub mod Speculated

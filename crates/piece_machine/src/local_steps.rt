@@ -1,16 +1,21 @@
 //! What threads of a machine in pieces do in their place: their local steps, and accesses to words.
-ghost use Rattle.std.specs.Prelude.{◌≡◌, ◌-◌, true, Ok, None, IfSome, MatchOption, slice_set};
+ghost use Rattle.std.specs.Prelude.{◌≡◌, ◌-◌, true, false, Ok, Some, None, IfSome, MatchOption, slice_set};
 ghost use Rattle.locals.specs.Accesses.{accessing};
 ghost use Rattle.locals.specs.Looks.{look};
+ghost use Rattle.locals.specs.Threads.{Thread};
 ghost use Rattle.machine.specs.Accessing.{HasNoAccess, told_access};
 ghost use Rattle.machine.specs.ConcreteSteps.{can_move};
 ghost use Rattle.machine.specs.LocalRuns.{RunsOn};
+ghost use Rattle.machine.specs.Speculation.{FindsAll, SpeculatesAll};
+ghost use Rattle.machine.specs.States.{thread_of};
 ghost use Rattle.machine.specs.Views.{concrete};
 ghost use Rattle.piece_machine.specs.PieceConcrete.{piece_of};
 ghost use Rattle.piece_machine.specs.PieceViews.{DoneFrom, GoesTo, HasNoLocal, WalksFrom, parts};
+ghost use Rattle.piece_machine.specs.Speculated.{CommittedFrom};
 
 use crate::piece_machine::PieceMachine;
 use locals::{Access, Local};
+use machine::SpeculativeAccess;
 
 impl PieceMachine {
     /// Puts thread `t`, which can move, where its local steps led, by a copy in its place. A thread within a call takes
@@ -78,5 +83,19 @@ impl PieceMachine {
         ensures program { self.new.view.program ≡ self.old.view.program }
     {
         self.machine.access_from(t, local)
+    }
+
+    /// Takes in accesses that thread `t`, which can move, made ahead of the machine, from where it stands up to this state:
+    /// each is made behind its local steps, and the thread stands there. It does where each finds the word that it found.
+    /// Else nothing has changed.
+    pub fn commit(&mut self, t: u32, accesses: &[SpeculativeAccess], there: &Local) -> bool
+        requires moves { can_move (concrete self.old.view) t ≡ true }
+        requires speculates { (x : Thread) → thread_of (concrete self.old.view) t ≡ Some x
+            → SpeculatesAll self.old.view.program t x accesses.now there.now }
+        ensures made { result ≡ true → CommittedFrom self.old t accesses.now self.new there.now }
+        ensures none { result ≡ false → (self.new ≡ self.old) × (FindsAll accesses.now self.old.view.words → ⊥) }
+        ensures program { self.new.view.program ≡ self.old.view.program }
+    {
+        self.machine.commit(t, accesses, there)
     }
 }

@@ -1,0 +1,88 @@
+-- A thread that goes on ahead of the machine, and what comes of its accesses, which come in together.
+use Rattle.std.specs.Prelude.{ℕ, ◌≡◌, ◌≤◌, ◌+◌, List, [], ◌∷◌, ◌++◌, Option, Some, None, length, true}
+use Rattle.std.specs.List.{sum_by}
+use Rattle.words.specs.declared.mem.Addr.{Addr}
+use Rattle.isa.specs.Programs.{Program}
+use Rattle.locals.specs.declared.request.NextStep.{NextStep}
+use Rattle.locals.specs.declared.request.NextStep.TheVariants as next
+use Rattle.locals.specs.declared.request.Request.{Request}
+use Rattle.locals.specs.declared.request.Request.TheVariants as told
+use Rattle.locals.specs.Accesses.{accessing}
+use Rattle.locals.specs.Looks.{Look}
+use Rattle.locals.specs.Steps.{local_after}
+use Rattle.locals.specs.Threads.{Thread}
+use Rattle.machine.specs.declared.event.Entry.{Entry}
+use Rattle.machine.specs.declared.speculation.SpeculativeAccess.{SpeculativeAccess}
+use Rattle.machine.specs.Accessing.{told_access}
+use Rattle.machine.specs.ConcreteSteps.{can_move}
+use Rattle.machine.specs.Speculation.{Finds, FindsAll, SpeculatesAll, word_put}
+use Rattle.machine.specs.States.{thread_of}
+use Rattle.runner.specs.Entries.{Takes}
+use Rattle.runner.specs.Logs.{cost}
+use Rattle.runner.specs.Views.{PieceView, LogState, SharedView, log_state}
+
+-- a thread ahead of the machine: where it began, the accesses that it made since, and where it has come after so many local
+-- steps behind the last one
+pub record SpeculationView : Type 0 where
+  pub thread : ℕ
+  pub origin : Thread
+  pub made : List SpeculativeAccess
+  pub count : ℕ
+  pub here : Thread
+
+-- they led it there
+pub record HasCome (p : Program) (s : SpeculationView) : Type 0 where
+  pub last : Thread
+  pub all : SpeculatesAll p s.thread s.origin s.made last
+  pub goes : local_after p s.thread s.count last ≡ Some s.here
+
+-- one that begins at a state of a thread
+abbrev pub speculation_at : ℕ → Thread → SpeculationView
+speculation_at t x = record { thread = t; origin = x; made = []; count = 0; here = x }
+
+-- the address of the word that a request reads or writes, if it is an access, and that of a step
+abbrev pub request_address : Request → Option Addr
+request_address (told.Load a) = Some a
+request_address (told.Store a v) = Some a
+request_address (told.Swap a v) = Some a
+request_address (told.CompareSwap a expected new) = Some a
+request_address (told.FetchOr a v) = Some a
+request_address (told.FetchAdd a v) = Some a
+request_address request = None
+
+abbrev pub step_address : NextStep → Option Addr
+step_address (next.Shared request) = request_address request
+step_address step = None
+
+-- what comes next is this access wherever its word is there, and leads to the state
+abbrev pub IsAccess : Look → SpeculativeAccess → Thread → Type 0
+IsAccess l a y = (words : List ℕ) → Finds a words
+    → accessing l words ≡ Some (record { told = a.access; words = word_put a words; thread = y })
+
+-- the entry of an access, and those of several
+abbrev pub access_entry : ℕ → SpeculativeAccess → Entry
+access_entry t a = record { thread = t; local = a.local; event = Some (told_access a.access) }
+
+abbrev pub access_entries : ℕ → List SpeculativeAccess → List Entry
+access_entries t [] = []
+access_entries t (a ∷ rest) = access_entry t a ∷ access_entries t rest
+
+-- their steps
+abbrev pub access_cost : List SpeculativeAccess → ℕ
+access_cost made = sum_by (λ a. a.local + 1) made
+
+-- they came in, one after the other, each as a piece
+abbrev pub TakesAll : Program → ℕ → LogState → ℕ → List SpeculativeAccess → LogState → Type 0
+TakesAll p limit old t [] new = new ≡ old
+TakesAll p limit old t (a ∷ rest) new =
+    (piece : PieceView) × (mid : LogState) × (piece.count ≡ a.local) × Takes p limit old t piece mid
+    × TakesAll p limit mid t rest new
+
+-- they can come in, within the limit
+pub record IsReady (limit : ℕ) (s : SharedView) (t : ℕ) (a : SpeculationView) : Type 0 where
+  pub thread : a.thread ≡ t
+  pub stands : thread_of (log_state s).concrete.concrete t ≡ Some a.origin
+  pub moves : can_move (log_state s).concrete.concrete t ≡ true
+  pub whole : a.count ≡ 0
+  pub within : cost s.log + access_cost a.made ≤ limit
+  pub finds : FindsAll a.made s.machine.view.words
