@@ -1,5 +1,5 @@
 -- Accesses that a thread made ahead of the machine are steps in pieces, one after the other.
-use Rattle.std.proofs.Common.{◌≡◌, ℕ, List, [], ◌∷◌, true, Some, ap, refl, sym, subst, ◌∙◌}
+use Rattle.std.proofs.Common.{◌≡◌, ℕ, List, [], ◌∷◌, true, Some, ap, sym, subst, ◌∙◌}
 use Rattle.futexcalls.specs.declared.pieces.FutexPhase.{FutexPhase}
 use Rattle.locals.specs.Threads.{Thread}
 use Rattle.machine.specs.declared.speculation.SpeculativeAccess.{SpeculativeAccess}

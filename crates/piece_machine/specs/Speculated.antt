@@ -16,7 +16,7 @@ CommitsFrom v t x (a ∷ rest) v' y =
 
 -- the same from where it stood
 pub record CommittedFrom (v : PieceView) (t : ℕ) (made : List SpeculativeAccess) (v' : PieceView) (y : Thread) : Type 0
-    where
-  pub origin : Thread
-  pub stands : thread_of (concrete v.view) t ≡ Some origin
-  pub commits : CommitsFrom v t origin made v' y
+  where
+    pub origin : Thread
+    pub stands : thread_of (concrete v.view) t ≡ Some origin
+    pub commits : CommitsFrom v t origin made v' y

@@ -3,6 +3,9 @@ pub mod Handing
 pub mod Beside
 pub mod Owning
 pub mod Growing
+pub mod Accesses
+pub mod Speculating
+pub mod Committing
 pub mod Unrolling
 pub mod OneByOne
 pub mod Passing

@@ -2,6 +2,7 @@ pub mod Views
 pub mod Logs
 pub mod Legal
 pub mod Entries
+pub mod Speculations
 pub mod Nexts
 pub mod Afters
 pub mod Attempts

@@ -1,7 +1,8 @@
 -- A thread that goes on ahead of the machine, and what comes of its accesses, which come in together.
-use Rattle.std.specs.Prelude.{ℕ, ◌≡◌, ◌≤◌, ◌+◌, List, [], ◌∷◌, ◌++◌, Option, Some, None, length, true}
+use Rattle.std.specs.Prelude.{ℕ, suc, ◌≡◌, ◌≤◌, ◌+◌, ◌*◌, List, [], ◌∷◌, Option, Some, None, length, true}
 use Rattle.std.specs.List.{sum_by}
 use Rattle.words.specs.declared.mem.Addr.{Addr}
+use Rattle.words.specs.Limits.{most_local_steps}
 use Rattle.isa.specs.Programs.{Program}
 use Rattle.locals.specs.declared.request.NextStep.{NextStep}
 use Rattle.locals.specs.declared.request.NextStep.TheVariants as next
@@ -31,10 +32,11 @@ pub record SpeculationView : Type 0 where
   pub here : Thread
 
 -- they led it there
-pub record HasCome (p : Program) (s : SpeculationView) : Type 0 where
+pub record HasCome (p : Program) (t : ℕ) (origin : Thread) (made : List SpeculativeAccess) (count : ℕ) (here : Thread)
+    : Type 0 where
   pub last : Thread
-  pub all : SpeculatesAll p s.thread s.origin s.made last
-  pub goes : local_after p s.thread s.count last ≡ Some s.here
+  pub all : SpeculatesAll p t origin made last
+  pub goes : local_after p t count last ≡ Some here
 
 -- one that begins at a state of a thread
 abbrev pub speculation_at : ℕ → Thread → SpeculationView
@@ -71,6 +73,13 @@ access_entries t (a ∷ rest) = access_entry t a ∷ access_entries t rest
 abbrev pub access_cost : List SpeculativeAccess → ℕ
 access_cost made = sum_by (λ a. a.local + 1) made
 
+-- so many steps they are, a turn of local ones before each at most; and so many accesses come in together at most
+pub record IsPriced (made : List SpeculativeAccess) (count cost : ℕ) : Type 0 where
+  pub cost_is : cost ≡ access_cost made
+  pub turn : count ≤ most_local_steps
+  pub few : length made ≤ 32
+  pub bound : cost ≤ length made * suc most_local_steps
+
 -- they came in, one after the other, each as a piece
 abbrev pub TakesAll : Program → ℕ → LogState → ℕ → List SpeculativeAccess → LogState → Type 0
 TakesAll p limit old t [] new = new ≡ old
@@ -78,11 +87,18 @@ TakesAll p limit old t (a ∷ rest) new =
     (piece : PieceView) × (mid : LogState) × (piece.count ≡ a.local) × Takes p limit old t piece mid
     × TakesAll p limit mid t rest new
 
--- they can come in, within the limit
-pub record IsReady (limit : ℕ) (s : SharedView) (t : ℕ) (a : SpeculationView) : Type 0 where
+-- they are thread t's, which stands where they began, and have room within the limit
+pub record IsAtHand (limit : ℕ) (s : SharedView) (t : ℕ) (a : SpeculationView) : Type 0 where
   pub thread : a.thread ≡ t
   pub stands : thread_of (log_state s).concrete.concrete t ≡ Some a.origin
   pub moves : can_move (log_state s).concrete.concrete t ≡ true
   pub whole : a.count ≡ 0
   pub within : cost s.log + access_cost a.made ≤ limit
-  pub finds : FindsAll a.made s.machine.view.words
+
+-- they can come in: each finds its word
+abbrev pub IsReady : ℕ → SharedView → ℕ → SpeculationView → Type 0
+IsReady limit s t a = IsAtHand limit s t a × FindsAll a.made s.machine.view.words
+
+-- thread t stands at a state, and can move
+abbrev pub Goes : SharedView → ℕ → Thread → Type 0
+Goes s t x = (thread_of (log_state s).concrete.concrete t ≡ Some x) × (can_move (log_state s).concrete.concrete t ≡ true)

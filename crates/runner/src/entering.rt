@@ -9,10 +9,11 @@ ghost use Rattle.machine.specs.Views.{concrete};
 ghost use Rattle.piece_machine.specs.PieceConcrete.{kill_piece, stray_piece};
 ghost use Rattle.piece_machine.specs.PieceViews.{GoesTo, parts};
 ghost use Rattle.runner.specs.Entries.{EntersAccess, entry_end, event_if};
+ghost use Rattle.runner.specs.Speculations.{access_entries};
 
 use crate::stepping::is_local;
 use locals::{Local, NextStep};
-use machine::{Event, access_name};
+use machine::{Event, SpeculativeAccess, access_name};
 use packed_log::PackedLog;
 use piece_machine::PieceMachine;
 use std::alloc::AllocError;
@@ -71,6 +72,19 @@ pub fn enter_access(
         Some(access) => log.push_plain(t, count, access_name(access.kind), access.value),
         None => unreachable!(),
     }
+}
+
+/// Puts an entry for each of these accesses of thread `t` at the end of a log, which has room for them.
+pub fn push_accesses(log: &mut PackedLog, t: u32, made: &[SpeculativeAccess])
+    requires { length made.now ≤ log.old.room }
+    ensures { log.new.items ≡ log.old.items ++ access_entries t made.now }
+{
+    let Some((first, rest)) = made.split_first() else {
+        return;
+    };
+    let name = access_name(first.access.kind);
+    log.push_plain(t, first.local, name, first.access.value);
+    push_accesses(log, t, rest);
 }
 
 /// Takes in a wake of thread `t`, which sleeps, from outside, as one entry of the log.

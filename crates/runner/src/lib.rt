@@ -1,6 +1,7 @@
 //! Threads that make entries in one log, on one machine.
 #![tactic(auto)]
 
+mod ahead;
 mod attempt;
 mod caller;
 mod calling;
@@ -22,6 +23,7 @@ mod schedule;
 mod seeded;
 mod share;
 mod shared;
+mod speculation;
 mod stepping;
 mod thread_bits;
 
@@ -38,3 +40,4 @@ pub use schedule::{ScheduleFault, Turn, follow};
 pub use seeded::run_by_seed;
 pub use share::{PARTS, Share};
 pub use shared::Shared;
+pub use speculation::{MOST_ACCESSES, Speculation};

@@ -1,4 +1,4 @@
-ghost use Rattle.std.specs.Prelude.{◌≡◌, ◌+◌, ◌<◌, ◌^◌};
+ghost use Rattle.std.specs.Prelude.{◌≡◌, ◌+◌, ◌<◌, ◌≤◌, ◌^◌};
 
 use crate::naming::RunName;
 use std::marker::Model;
@@ -68,5 +68,16 @@ impl<J: RunName> Share<J> {
         book.audit(&mut self.inner);
         book.add(&mut self.inner, 1);
         self.count += 1;
+    }
+
+    /// Counts so many entries more.
+    pub(crate) fn count_all(&mut self, book: &mut Book<J>, count: usize)
+        requires { book.old.total + count ≤ 2 ^ 64 }
+        ensures count { self.new ≡ record self.old { count = self.old.count + count } }
+        ensures total { book.new.total ≡ book.old.total + count }
+    {
+        book.audit(&mut self.inner);
+        book.add(&mut self.inner, count as u64);
+        self.count += count as u128;
     }
 }

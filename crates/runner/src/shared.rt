@@ -1,6 +1,6 @@
 ghost use Rattle.words.specs.Limits.{most_local_steps};
 ghost use Rattle.std.specs.Prelude.{suc, ◌≡◌, ◌≢◌, ◌≤◌, ◌<◌, ◌+◌, ◌⊎◌, [], length, true, false, Some, None, Ok, IfOk};
-ghost use Rattle.std.specs.Prelude.{IfErr, OnOk, IfSome, IfNone, MatchBool, MatchOption, is_some};
+ghost use Rattle.std.specs.Prelude.{◌++◌, IfErr, OnOk, OnErr, IfSome, IfNone, MatchBool, MatchOption, is_some};
 ghost use Rattle.locals.specs.Accesses.{accessing};
 ghost use Rattle.locals.specs.Looks.{look};
 ghost use Rattle.locals.specs.Requests.{next_step_of, short_call};
@@ -13,6 +13,7 @@ ghost use Rattle.runner.specs.Attempts.{TriedSo, came, is_made};
 ghost use Rattle.runner.specs.Logs.{HasOnly, Runs, cost, kills_in, opening};
 ghost use Rattle.runner.specs.Entries.{Takes, TakesOutside, RefusesEntry, RefusesOutside, IsFine, Stands};
 ghost use Rattle.runner.specs.Entries.{TakesKill, RefusesKill, Begins, BringsNoAccess, TellsAccess};
+ghost use Rattle.runner.specs.Speculations.{Goes, IsAtHand, IsReady, TakesAll, access_entries, speculation_at};
 ghost use Rattle.runner.specs.Nexts.{IsNext};
 ghost use Rattle.runner.specs.Afters.{IsAfter};
 ghost use Rattle.runner.specs.declared.next.After;
@@ -23,13 +24,14 @@ ghost use Rattle.runner.specs.Views.{log_state};
 
 use crate::attempt::Attempt;
 use crate::calm_places::CalmPlaces;
-use crate::entering::{enter, enter_access, enter_kill, enter_outside, make_room};
+use crate::entering::{enter, enter_access, enter_kill, enter_outside, make_room, push_accesses};
 use crate::fault::RunFault;
 use crate::in_place::{attempt_of, end_walk, is_shared, push_taken, take_call, take_if_free, walk};
 use crate::naming::RunName;
 use crate::next::{After, Next};
 use crate::piece::Piece;
 use crate::share::{PARTS, Share};
+use crate::speculation::Speculation;
 use crate::stepping::is_local;
 use isa::Image;
 use locals::{Local, NextStep, Request};
@@ -330,6 +332,63 @@ impl<J: RunName> Shared<J> {
         self.left -= count + 1;
         share.count_one(&mut self.book);
         true
+    }
+
+    /// Takes in the accesses of a thread that went ahead, all together: an entry for each, which the share counts. Then it
+    /// begins anew where they led. Answers whether they came in: they do where it is thread `t`'s, began where that is, took
+    /// no local step behind its last access, has room within the limit, and each access finds its word. Else nothing has
+    /// changed.
+    pub fn commit(
+        &mut self,
+        t: u32,
+        speculation: &mut Speculation<J>,
+        share: &mut Share<J>,
+    ) -> Result<bool, AllocError>
+        ensures made { IfOk result (λ came. came ≡ true
+            → TakesAll J.program J.limit (log_state self.old) t speculation.old.made (log_state self.new)
+            × (self.new.log ≡ self.old.log ++ access_entries t speculation.old.made)
+            × (share.new ≡ record share.old { count = share.old.count + length speculation.old.made })
+            × (speculation.new ≡ speculation_at t speculation.old.here)
+            × Goes self.new t speculation.old.here) }
+        ensures away { IfOk result (λ came. came ≡ false → IsReady J.limit self.old t speculation.old → ⊥) }
+        ensures none { IfOk result (λ came. came ≡ false → (log_state self.new ≡ log_state self.old)
+            × (speculation.new ≡ speculation.old) × (share.new ≡ share.old)) }
+        ensures err { OnErr result ((log_state self.new ≡ log_state self.old)
+            × (speculation.new ≡ speculation.old) × (share.new ≡ share.old)) }
+        ensures given { self.new.given ≡ self.old.given }
+        ensures legal { Runs J.program (opening J.program) self.new.log
+            (log_state self.new).concrete }
+        ensures within { cost self.new.log ≤ J.limit }
+    {
+        if !self.is_ready(t, speculation) {
+            return Ok(false);
+        }
+        let count = speculation.made.len();
+        self.log.make_room_for(count)?;
+        let made = speculation.made.as_slice();
+        if !self.machine.commit(t, made, &speculation.here) {
+            return Ok(false);
+        }
+        push_accesses(&mut self.log, t, made);
+        self.left -= speculation.cost;
+        share.count_all(&mut self.book, count);
+        speculation.settle();
+        Ok(true)
+    }
+
+    // Whether the accesses can come in, if each finds its word.
+    fn is_ready(&self, t: u32, speculation: &Speculation<J>) -> bool
+        ensures ready { result ≡ true → IsAtHand J.limit self.now t speculation.now }
+        ensures away { result ≡ false → IsAtHand J.limit self.now t speculation.now → ⊥ }
+    {
+        let machine = self.machine.machine();
+        speculation.thread == t
+            && t > 0
+            && t <= machine.threads()
+            && speculation.count == 0
+            && self.left >= speculation.cost
+            && machine.can_move(t)
+            && machine.local(t).equals(&speculation.origin)
     }
 
     /// The same, and the piece stays as it is.

@@ -1,0 +1,164 @@
+ghost use Rattle.std.specs.Prelude.{◌≡◌, ◌≤◌, ◌++◌, ◌∷◌, [], length, true, false, IfOk};
+ghost use Rattle.locals.specs.Sequences.{AreSequences};
+ghost use Rattle.machine.specs.declared.speculation.SpeculativeAccess.{SpeculativeAccess as Made};
+ghost use Rattle.locals.specs.Threads.{Exits};
+ghost use Rattle.robustexit.specs.declared.phase.ExitPhase.TheVariants.{Ended};
+ghost use Rattle.runner.specs.Speculations.{speculation_at};
+
+use crate::ahead::make_access;
+use crate::naming::RunName;
+use crate::piece::Piece;
+use isa::Image;
+use locals::{Local, Sequences};
+use machine::SpeculativeAccess;
+use robustexit::ExitPhase;
+use std::alloc::{AllocError, Global};
+use std::marker::{Model, PhantomData};
+use words::{MOST_LOCAL_STEPS, Mem};
+
+/// How many accesses a thread makes ahead of the machine at most before they are taken in.
+pub const MOST_ACCESSES: usize = 32;
+
+/// A thread ahead of the machine of run `J`: it takes local steps, and makes accesses on words of its own, which needn't be
+/// the machine's. Its type keeps that the run's program leads it so wherever each access finds the word that it found.
+#[derive(Drop)]
+pub struct Speculation<J: RunName> {
+    pub(crate) thread: u32,
+    pub(crate) origin: Local,
+    // With room for `MOST_ACCESSES`.
+    pub(crate) made: Vec<SpeculativeAccess>,
+    // How many local steps it took behind the last of them.
+    pub(crate) count: u32,
+    pub(crate) here: Local,
+    // The steps of the accesses, with the local ones before each.
+    pub(crate) cost: u32,
+    pub(crate) of: PhantomData<J>,
+}
+
+impl<J: RunName> Model for Speculation<J> {
+    ghost use Rattle.std.specs.Prelude.{◌≡◌, ◌≤◌, length, vec_capacity};
+    ghost use Rattle.words.specs.Limits.{most_local_steps};
+    ghost use Rattle.runner.specs.Speculations.{SpeculationView, HasCome, IsPriced};
+
+    ghost Value = { SpeculationView };
+
+    ghost view = { λ s. record { thread = s.thread; origin = s.origin; made = s.made.items; count = s.count; here = s.here } };
+
+    ghost invariant = { λ s. HasCome J.program s.thread s.origin s.made.items s.count s.here
+        × IsPriced s.made.items s.count s.cost × (32 ≤ vec_capacity s.made) };
+}
+
+impl<J: RunName> Speculation<J> {
+    /// None of thread `t` yet: as if it had ended, to be begun anew.
+    pub fn idle(alloc: Global, t: u32) -> Result<Speculation<J>, AllocError>
+        ensures { IfOk result (λ s. s ≡ speculation_at t (Exits Ended)) }
+    {
+        Ok(Speculation {
+            thread: t,
+            origin: Local::exiting(ExitPhase::Ended),
+            made: Vec::with_capacity(alloc, MOST_ACCESSES)?,
+            count: 0,
+            here: Local::exiting(ExitPhase::Ended),
+            cost: 0,
+            of: PhantomData,
+        })
+    }
+
+    /// Begins anew where a piece began.
+    pub fn begin(&mut self, piece: &Piece<J>)
+        ensures { self.new ≡ speculation_at piece.now.thread piece.now.origin }
+    {
+        self.thread = piece.thread;
+        self.origin.copy_from(&piece.origin);
+        self.made.clear();
+        self.count = 0;
+        self.here.copy_from(&piece.origin);
+        self.cost = 0;
+    }
+
+    /// Begins anew where it began.
+    pub fn restart(&mut self)
+        ensures { self.new ≡ speculation_at self.old.thread self.old.origin }
+    {
+        self.made.clear();
+        self.count = 0;
+        self.here.copy_from(&self.origin);
+        self.cost = 0;
+    }
+
+    /// Begins anew where it has come.
+    pub(crate) fn settle(&mut self)
+        ensures { self.new ≡ speculation_at self.old.thread self.old.here }
+    {
+        self.made.clear();
+        self.count = 0;
+        self.origin.copy_from(&self.here);
+        self.cost = 0;
+    }
+
+    /// Goes on by local steps and the access to a word behind them, which it makes on these words. Answers whether it made
+    /// one: it does unless a turn of local steps is over, another step comes, the address lies outside the words, or there
+    /// are `MOST_ACCESSES` already. The sequences are those of the image, and `nothing` is a memory without a word.
+    pub fn go_on(
+        &mut self,
+        image: &Image,
+        sequences: &Sequences,
+        nothing: &mut Mem,
+        words: &mut Mem,
+    ) -> bool
+        requires image { image.now ≡ J.program }
+        requires noted { AreSequences J.program.code sequences.now }
+        requires nothing { nothing.old ≡ [] }
+        ensures same { (self.new.thread ≡ self.old.thread) × (self.new.origin ≡ self.old.origin) }
+        ensures made { result ≡ true → (self.new.count ≡ 0)
+            × ((made : Made) × (self.new.made ≡ self.old.made ++ made ∷ [])) }
+        ensures none { result ≡ false → self.new.made ≡ self.old.made }
+        ensures nothing { nothing.new ≡ [] }
+    {
+        self.run(image, sequences, nothing);
+        self.access(image, words)
+    }
+
+    // Takes local steps until another step comes, or a turn of them is over.
+    fn run(&mut self, image: &Image, sequences: &Sequences, nothing: &mut Mem)
+        requires image { image.now ≡ J.program }
+        requires noted { AreSequences J.program.code sequences.now }
+        requires nothing { nothing.old ≡ [] }
+        ensures same { (self.new.thread ≡ self.old.thread) × (self.new.origin ≡ self.old.origin)
+            × (self.new.made ≡ self.old.made) }
+        ensures nothing { nothing.new ≡ [] }
+    {
+        let left = MOST_LOCAL_STEPS - self.count;
+        self.count += self
+            .here
+            .run_by_sequences(image, sequences, self.thread, left, nothing);
+    }
+
+    // Makes the access to a word that comes next, if one does.
+    fn access(&mut self, image: &Image, words: &mut Mem) -> bool
+        requires image { image.now ≡ J.program }
+        ensures same { (self.new.thread ≡ self.old.thread) × (self.new.origin ≡ self.old.origin) }
+        ensures made { result ≡ true → (self.new.count ≡ 0)
+            × ((made : Made) × (self.new.made ≡ self.old.made ++ made ∷ [])) }
+        ensures none { result ≡ false → self.new ≡ self.old }
+    {
+        if self.made.len() >= MOST_ACCESSES {
+            return false;
+        }
+        let count = self.count;
+        let Some(made) = make_access(&mut self.here, image, self.thread, count, words) else {
+            return false;
+        };
+        self.made.push_reserved(made);
+        self.cost += count + 1;
+        self.count = 0;
+        true
+    }
+
+    /// The accesses that it made.
+    pub fn made(&self) -> &[SpeculativeAccess]
+        ensures { result.now ≡ self.now.made }
+    {
+        self.made.as_slice()
+    }
+}
