@@ -1,14 +1,16 @@
 -- What comes of the turns that a worker hands in.
-use Rattle.std.specs.Prelude.{ℕ, ◌≡◌, ◌⊎◌, ◌+◌, Bool, true, false, List, [], ◌∷◌, take, slice_get, Option, Some, None, is_some}
+use Rattle.std.specs.Prelude.{ℕ, ◌≡◌, ◌⊎◌, ◌+◌, Bool, true, false, List, [], ◌∷◌, ◌++◌, length, take, slice_get, Option, Some, None, is_some}
 use Rattle.std.specs.Prelude.{MatchOption}
 use Rattle.isa.specs.Programs.{Program}
 use Rattle.machine.specs.ConcreteSteps.{can_move}
+use Rattle.machine.specs.declared.speculation.SpeculativeAccess.{SpeculativeAccess}
 use Rattle.runner.specs.declared.fault.RunFault.{RunFault}
 use Rattle.runner.specs.declared.fault.RunFault.TheVariants.{Stray, CannotMove, Limit}
 use Rattle.runner.specs.declared.next.After.{After}
 use Rattle.runner.specs.declared.next.After.TheVariants.{Goes, Sleeps, Ends}
 use Rattle.runner.specs.Afters.{IsAfter}
 use Rattle.runner.specs.Entries.{Takes, RefusesEntry}
+use Rattle.runner.specs.Speculations.{TakesAll, access_entries}
 use Rattle.runner.specs.Views.{PieceView, LogState, ShareView, log_state}
 use Rattle.workers.specs.declared.bucket_waiters.BucketWaiters.{BucketWaiters}
 use Rattle.workers.specs.BucketWaiters.{nobody, with_waiter, joined}
@@ -103,3 +105,19 @@ IsAfresh t pieces Goes =
     × (piece.here ≡ piece.origin)
 IsAfresh t pieces Sleeps = Unit {0}
 IsAfresh t pieces Ends = Unit {0}
+
+-- the run is as it was
+pub record IsUntouched (old new : SharedRunView) : Type 0 where
+  pub run : log_state new.shared ≡ log_state old.shared
+  pub fault : new.fault ≡ old.fault
+  pub waits : (new.waiting ≡ old.waiting) × (new.freed ≡ old.freed)
+
+-- accesses that a thread made ahead came in together, each as an entry, which the share counts. They concern nobody
+pub record ComeInTogether (p : Program) (limit : ℕ) (old : SharedRunView) (t : ℕ) (made : List SpeculativeAccess)
+    (new : SharedRunView) (share share' : ShareView) : Type 0 where
+  pub goes_on : old.fault ≡ None
+  pub takes : TakesAll p limit (log_state old.shared) t made (log_state new.shared)
+  pub log : new.shared.log ≡ old.shared.log ++ access_entries t made
+  pub fault : new.fault ≡ None
+  pub counted : share' ≡ record share { count = share.count + length made }
+  pub waits : (new.waiting ≡ old.waiting) × (new.freed ≡ old.freed)

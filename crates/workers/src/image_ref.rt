@@ -14,6 +14,8 @@ pub struct ImageRef<'a, J: RunName> {
     pub image: &'a Image,
     /// The frequent sequences of its instructions.
     pub sequences: RunSequences<J>,
+    /// How many words its memory has.
+    pub memory: usize,
     ghost is: { image.now ≡ J.program },
 }
 

@@ -2,10 +2,12 @@
 //! lock.
 #![tactic(auto)]
 
+mod ahead;
 mod bucket_waiters;
 mod hiring;
 mod image_ref;
 mod lookout;
+mod no_words;
 mod parker;
 mod pool;
 mod precedence;

@@ -3,8 +3,8 @@ use std::sync::atomic::{AtomicU64, Ordering};
 use std::thread;
 use std::thread::Threads;
 
-/// Places for workers that look for what they wait for, for a while, before they sleep: one fewer than there are
-/// processors, so that those who look keep none from those who work.
+/// Places for workers that look for the lock or for a call, for a while, before they sleep: one fewer than there are
+/// processors, so that those who look keep none from those who work. Who looks for precedence takes none.
 #[derive(Drop)]
 pub struct Lookout {
     places: u64,

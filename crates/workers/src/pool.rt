@@ -181,7 +181,7 @@ impl<J: RunName> Pool<J> {
         share
     }
 
-    // Goes on until the thread sleeps. Answers whether it does: else the worker ends.
+    // Goes on until the thread sleeps, or its worker has to look where it is. Answers whether it does: else the worker ends.
     fn go_on<R: Wait, G: Gate>(
         &self,
         rt: &R,
@@ -192,6 +192,13 @@ impl<J: RunName> Pool<J> {
         share: &mut Share<J>,
     ) -> bool {
         for _ in rt.forever() {
+            if turns.ahead.is_going() {
+                if self.go_ahead(rt, image_ref, gate, t, turns, share) {
+                    continue;
+                }
+                // From where its thread is.
+                return true;
+            }
             turns.take(image_ref, gate, t);
             match self.hand_in(rt, image_ref, gate, t, turns, share) {
                 After::Goes => {}
@@ -200,6 +207,49 @@ impl<J: RunName> Pool<J> {
             }
         }
         false
+    }
+
+    // Lets thread `t` go ahead, and hands in the accesses that it made. Answers whether its worker goes on so.
+    fn go_ahead<R: Wait, G: Gate>(
+        &self,
+        rt: &R,
+        image_ref: &ImageRef<J>,
+        gate: &G,
+        t: u32,
+        turns: &mut Turns<J>,
+        share: &mut Share<J>,
+    ) -> bool {
+        let goes = turns.go_ahead(image_ref, gate, t) && self.commit(rt, t, turns, share);
+        if !goes {
+            turns.ahead.stop();
+        }
+        goes
+    }
+
+    // Takes in the accesses that thread `t` made ahead. Where they don't come in its worker looks at their words anew. Answers
+    // whether it goes on so.
+    fn commit<R: Wait>(
+        &self,
+        rt: &R,
+        t: u32,
+        turns: &mut Turns<J>,
+        share: &mut Share<J>,
+    ) -> bool {
+        let count = turns.ahead.len();
+        let keeps = turns.keep_precedence_ahead();
+        self.precedence.take(rt, &self.lookout, t);
+        let mut shared_run = self.lock(rt);
+        let came = matches!(
+            shared_run.commit(t, turns.ahead.speculation(), share),
+            Ok(true)
+        );
+        if !came {
+            turns.ahead.look(shared_run.machine());
+        }
+        drop(shared_run);
+        self.precedence
+            .pass_on(t, keeps, count, &mut turns.entries);
+        turns.ahead.note_outcome(came)
     }
 
     // Parks until thread `t` can move and its worker waits for no bucket, or nobody is left to call it. Then it goes on
@@ -244,7 +294,8 @@ impl<J: RunName> Pool<J> {
         // As most turns are. It concerns nobody.
         if shared_run.hand_in_access(t, turns, share) {
             drop(shared_run);
-            self.precedence.pass_on(t, keeps, &mut turns.entries);
+            self.precedence.pass_on(t, keeps, 1, &mut turns.entries);
+            turns.note_access(keeps, image_ref);
             return After::Goes;
         }
         self.hand_in_any(rt, gate, t, turns, share, keeps, shared_run)
@@ -279,8 +330,12 @@ impl<J: RunName> Pool<J> {
         let is_over = after != After::Goes && self.is_over(&shared_run);
         drop(shared_run);
         self.precedence
-            .pass_on(t, keeps && after == After::Goes, &mut turns.entries);
+            .pass_on(t, keeps && after == After::Goes, 1, &mut turns.entries);
+        if after != After::Goes {
+            turns.ahead.stop();
+        }
         if turns.concern_others() {
+            turns.ahead.stop();
             self.tell_others(turns);
         }
         if is_over {

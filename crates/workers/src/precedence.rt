@@ -5,7 +5,7 @@ use std::sync::atomic::{AtomicU64, Ordering};
 use std::sync::{Mutex, Wait};
 
 // For how many moments a worker leaves the lock to the one with precedence.
-const LOOKS: u32 = 20_000;
+const LOOKS: u32 = 40_000;
 
 /// Which worker has precedence: the others leave the lock to it, for a while. So it makes entry after entry, and what
 /// the lock keeps stays in its processor's memory. It is a courtesy: nothing rests on it but speed.
@@ -43,11 +43,11 @@ impl Precedence {
         self.holder.store(me, Ordering::SeqCst);
     }
 
-    /// Gives it up, if the worker of thread `t` has it. One that goes on with few steps between its entries keeps it,
-    /// up to a number of entries. The worker counts them itself, so that nothing shared is written at an entry.
-    pub fn pass_on(&self, t: u32, keeps: bool, entries: &mut u32) {
+    /// Gives it up behind so many entries, if the worker of thread `t` has it and doesn't keep it (`Turns::keep_precedence`).
+    /// The worker counts its entries itself, so that nothing shared is written at one.
+    pub fn pass_on(&self, t: u32, keeps: bool, count: usize, entries: &mut usize) {
         if keeps {
-            *entries = entries.saturating_add(1);
+            *entries = entries.saturating_add(count);
             return;
         }
         *entries = 0;

@@ -54,6 +54,7 @@ fn run_as<J: RunName + Send + Sync, R: Threads + Wait + Sync, G: Gate>(
     let Ok(mut shared) = Shared::<J>::new(alloc, image, limit, blank) else {
         return Err(RunFault::Memory);
     };
+    let memory = shared.machine().memory_len();
     let Some(kept) = shared.share() else {
         unreachable!()
     };
@@ -63,7 +64,11 @@ fn run_as<J: RunName + Send + Sync, R: Threads + Wait + Sync, G: Gate>(
     let Ok(sequences) = RunSequences::new(alloc, image) else {
         return Err(RunFault::Memory);
     };
-    let image_ref = ImageRef { image, sequences };
+    let image_ref = ImageRef {
+        image,
+        sequences,
+        memory,
+    };
     pool.start(rt, alloc, &image_ref, gate);
     let (shared, fault, mut kept) = pool.into_shared_run().into_parts();
     if let Some(fault) = fault {

@@ -1,21 +1,24 @@
 ghost use Rattle.std.specs.Prelude.{◌≡◌, ◌≤◌, ◌<◌, ◌+◌, length, take, true, false, is_some, Some, None, IfSome, IfNone};
-ghost use Rattle.std.specs.Prelude.{◌⊎◌, MatchBool, unwrap_or};
+ghost use Rattle.std.specs.Prelude.{◌⊎◌, MatchBool, IfOk, OnErr, unwrap_or};
 ghost use Rattle.words.specs.Limits.{most_threads};
 ghost use Rattle.machine.specs.ConcreteSteps.{can_move};
 ghost use Rattle.machine.specs.ThreadSets.{IsLeastFrom, IsThread};
+ghost use Rattle.machine.specs.Views.{concrete};
+ghost use Rattle.runner.specs.Speculations.{IsReady, speculation_at};
 ghost use Rattle.runner.specs.declared.fault.RunFault.TheVariants.{Memory};
 ghost use Rattle.runner.specs.declared.next.After.TheVariants.{Goes};
 ghost use Rattle.workers.specs.SharedRuns.{HasCause, KeepsWorkers, StartsWorker, is_able, state_of};
 ghost use Rattle.workers.specs.BucketWaiters.{nobody};
 ghost use Rattle.workers.specs.Handed.{ComesIn, StaysAway, ComeIn, StopsAt, IsNextOf, IsNextOfFirst};
-ghost use Rattle.workers.specs.Handed.{FirstComesIn, Frees, noted};
+ghost use Rattle.workers.specs.Handed.{ComeInTogether, FirstComesIn, Frees, IsUntouched, noted};
 ghost use Rattle.workers.specs.WakeReasons.{Concerns, gives_up, gives_up_by, last_event, nobody_concerned};
 
 use crate::bucket_waiters::BucketWaiters;
 use crate::parker::Parker;
 use crate::turns::Turns;
-use machine::{EventName, ThreadSet};
-use runner::{After, Piece, RunFault, RunName, Share, Shared, run_alone};
+use machine::{EventName, Machine, ThreadSet};
+use runner::{After, Piece, RunFault, RunName, Share, Shared, Speculation, run_alone};
+use std::alloc::AllocError;
 use std::marker::Model;
 use words::Gate;
 
@@ -222,6 +225,38 @@ impl<J: RunName> SharedRun<J> {
             return false;
         }
         self.shared.hand_in_access(t, &mut turns.pieces[0], share)
+    }
+
+    /// Takes in the accesses that thread `t` made ahead of the machine, all together, where others were made. They concern
+    /// nobody, and who waits for a bucket still does. Answers whether they came in: else nothing has changed.
+    pub fn commit(
+        &mut self,
+        t: u32,
+        speculation: &mut Speculation<J>,
+        share: &mut Share<J>,
+    ) -> Result<bool, AllocError>
+        ensures made { IfOk result (λ came. came ≡ true
+            → ComeInTogether J.program J.limit self.old t speculation.old.made self.new share.old share.new
+            × (speculation.new ≡ speculation_at t speculation.old.here)) }
+        ensures away { IfOk result (λ came. came ≡ false → (is_some self.old.fault ≡ true)
+            ⊎ (IsReady J.limit self.old.shared t speculation.old → ⊥)) }
+        ensures none { IfOk result (λ came. came ≡ false → IsUntouched self.old self.new
+            × (speculation.new ≡ speculation.old) × (share.new ≡ share.old)) }
+        ensures err { OnErr result (IsUntouched self.old self.new
+            × (speculation.new ≡ speculation.old) × (share.new ≡ share.old)) }
+        ensures workers { KeepsWorkers self.old self.new }
+    {
+        if self.fault.is_some() {
+            return Ok(false);
+        }
+        self.shared.commit(t, speculation, share)
+    }
+
+    /// The machine, which is where the log leads.
+    pub fn machine(&self) -> &Machine
+        ensures { concrete result.now ≡ state_of self.now }
+    {
+        self.shared.machine()
     }
 
     // Takes in these pieces of thread `t`, up to one that is refused, and says how its worker goes on where one is.

@@ -3,13 +3,15 @@ ghost use Rattle.machine.specs.ThreadSets.{set_of};
 ghost use Rattle.workers.specs.BucketWaiters.{nobody};
 ghost use Rattle.workers.specs.Taken.{AreTurns, IsTurn, IsGrown, StartsAt, idle};
 
+use crate::ahead::Ahead;
 use crate::bucket_waiters::BucketWaiters;
 use crate::image_ref::ImageRef;
+use crate::no_words::NoWords;
 use crate::shared_run::WakeReason;
 use locals::{NextStep, Request};
 use runner::{Piece, RunName};
 use std::alloc::{AllocError, Global};
-use words::{Gate, MOST_LOCAL_STEPS, Mem};
+use words::{Gate, MOST_LOCAL_STEPS};
 
 // How many turns a worker takes at most before it hands them in. Each has a piece of some 12 kilobytes.
 const MOST_TURNS: usize = 16;
@@ -18,10 +20,10 @@ const MOST_TURNS: usize = 16;
 const FEW_STEPS: u32 = 64;
 
 // Behind so many entries a worker gives precedence up as soon as its thread gives a lock up.
-const MANY_ENTRIES: u32 = 1024;
+const MANY_ENTRIES: usize = 4096;
 
 // And behind so many anyhow.
-const MOST_ENTRIES: u32 = 1152;
+const MOST_ENTRIES: usize = 4224;
 
 /// The turns of one thread that its worker has taken and not handed in: a piece for each, which began where the one
 /// before has come. So the lock is taken once for all of them.
@@ -36,17 +38,12 @@ pub struct Turns<J: RunName> {
     /// Who waited for a bucket until one was given up.
     pub freed: BucketWaiters,
     /// How many entries were made since its worker gave precedence up.
-    pub entries: u32,
+    pub entries: usize,
+    /// What its worker does ahead of the machine.
+    pub ahead: Ahead<J>,
     nothing: NoWords,
     ghost some: { 0 < vec_len pieces },
     ghost within: { taken ≤ vec_len pieces },
-}
-
-// A memory without a word, on which a worker takes local steps: the words are under the lock.
-#[derive(Drop)]
-struct NoWords {
-    mem: Mem,
-    ghost none: { mem ≡ [] },
 }
 
 impl<J: RunName> Turns<J> {
@@ -56,15 +53,14 @@ impl<J: RunName> Turns<J> {
     {
         let mut pieces = Vec::new(alloc);
         pieces.push(Piece::idle(t))?;
-        let nothing = NoWords {
-            mem: Mem::new(alloc, 0)?,
-        };
+        let nothing = NoWords::new(alloc)?;
         Ok(Turns {
             pieces,
             taken: 0,
             wake_reason: WakeReason::new(),
             freed: BucketWaiters::new(),
             entries: 0,
+            ahead: Ahead::new(alloc, t)?,
             nothing,
         })
     }
@@ -87,6 +83,29 @@ impl<J: RunName> Turns<J> {
         self.are_few()
             && (self.entries < MANY_ENTRIES
                 || self.entries < MOST_ENTRIES && !self.give_lock_up(image_ref))
+    }
+
+    /// The same behind accesses that were made ahead.
+    pub fn keep_precedence_ahead(&self) -> bool {
+        self.entries < MANY_ENTRIES
+            || self.entries < MOST_ENTRIES && !self.ahead.ends_by_swap()
+    }
+
+    /// Notes that the first piece came in as an access, and its worker has precedence or not. Behind many such entries it goes
+    /// ahead.
+    pub fn note_access(&mut self, keeps: bool, image_ref: &ImageRef<J>)
+        ensures { self.new.pieces ≡ self.old.pieces }
+    {
+        if keeps {
+            self.ahead.note(&self.pieces[0], image_ref.memory);
+        } else {
+            self.ahead.stop();
+        }
+    }
+
+    /// Goes ahead, and answers whether there are accesses to be handed in.
+    pub fn go_ahead<G: Gate>(&mut self, image_ref: &ImageRef<J>, gate: &G, t: u32) -> bool {
+        self.ahead.go_on(image_ref, &mut self.nothing, gate, t)
     }
 
     // Whether the next step is a swap, by which a lock is given up.
