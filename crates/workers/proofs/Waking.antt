@@ -1,7 +1,6 @@
 -- Whom the last entry concerns, by what is read of it.
 use Rattle.std.proofs.Common.{◌≡◌, ◌≢◌, ◌∙◌, ◌-◌, ◌++◌, ℕ, Bool, false, List, [], ◌∷◌, length, slice_get, Option, Some, None}
 use Rattle.std.proofs.Common.{MatchBool, refl, ap, arith, length-append, subst, sym}
-use Rattle.locals.specs.declared.access.Access.{Access}
 use Rattle.locals.specs.declared.access.AccessKind.{AccessKind}
 use Rattle.locals.specs.declared.access.AccessKind.TheVariants as kind
 use Rattle.machine.specs.Accessing.{access_name, told_access}

@@ -228,13 +228,7 @@ impl<J: RunName> Pool<J> {
 
     // Takes in the accesses that thread `t` made ahead. Where they don't come in its worker looks at their words anew. Answers
     // whether it goes on so.
-    fn commit<R: Wait>(
-        &self,
-        rt: &R,
-        t: u32,
-        turns: &mut Turns<J>,
-        share: &mut Share<J>,
-    ) -> bool {
+    fn commit<R: Wait>(&self, rt: &R, t: u32, turns: &mut Turns<J>, share: &mut Share<J>) -> bool {
         let count = turns.ahead.len();
         let keeps = turns.keep_precedence_ahead();
         self.precedence.take(rt, &self.lookout, t);
@@ -247,8 +241,7 @@ impl<J: RunName> Pool<J> {
             turns.ahead.look(shared_run.machine());
         }
         drop(shared_run);
-        self.precedence
-            .pass_on(t, keeps, count, &mut turns.entries);
+        self.precedence.pass_on(t, keeps, count, &mut turns.entries);
         turns.ahead.note_outcome(came)
     }
 

@@ -87,8 +87,7 @@ impl<J: RunName> Turns<J> {
 
     /// The same behind accesses that were made ahead.
     pub fn keep_precedence_ahead(&self) -> bool {
-        self.entries < MANY_ENTRIES
-            || self.entries < MOST_ENTRIES && !self.ahead.ends_by_swap()
+        self.entries < MANY_ENTRIES || self.entries < MOST_ENTRIES && !self.ahead.ends_by_swap()
     }
 
     /// Notes that the first piece came in as an access, and its worker has precedence or not. Behind many such entries it goes
