@@ -32,6 +32,8 @@ pub enum AccessKind {
 pub struct Access {
     /// Its kind.
     pub kind: AccessKind,
+    /// Its address.
+    pub address: Addr,
     /// The word that was stored, or, of each other kind, the word that was there before.
     pub value: u32,
 }
@@ -118,6 +120,7 @@ impl Activation {
         self.answer_access(1, value);
         Some(Access {
             kind: AccessKind::Load,
+            address: a,
             value,
         })
     }
@@ -137,6 +140,7 @@ impl Activation {
         words.store(a, value);
         Some(Access {
             kind: AccessKind::Store,
+            address: a,
             value,
         })
     }
@@ -155,6 +159,7 @@ impl Activation {
         self.answer_access(2, value);
         Some(Access {
             kind: AccessKind::Swap,
+            address: a,
             value,
         })
     }
@@ -173,6 +178,7 @@ impl Activation {
         self.answer_access(3, value);
         Some(Access {
             kind: AccessKind::CompareSwap,
+            address: a,
             value,
         })
     }
@@ -191,6 +197,7 @@ impl Activation {
         self.answer_access(2, value);
         Some(Access {
             kind: AccessKind::FetchOr,
+            address: a,
             value,
         })
     }
@@ -209,6 +216,7 @@ impl Activation {
         self.answer_access(2, value);
         Some(Access {
             kind: AccessKind::FetchAdd,
+            address: a,
             value,
         })
     }

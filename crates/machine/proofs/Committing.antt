@@ -16,7 +16,7 @@ use Rattle.machine.proofs.Accessing.{after_view, from_returns, put_twice, shows_
 -- the memory is as long as before
 pub as_long : (made : List SpeculativeAccess) (words : List ℕ) → length (words_after made words) ≡ length words
 as_long [] words = refl
-as_long (a ∷ rest) words = as_long rest (word_put a words) ∙ length-set words a.address.0 a.after
+as_long (a ∷ rest) words = as_long rest (word_put a words) ∙ length-set words a.access.address.0 a.after
 
 -- who can move hasn't ended
 moves_alive : (o : Option ℕ) (x : Thread) → thread_can_move o (Some x) ≡ true → x ≢ Exits Ended

@@ -15,11 +15,12 @@ use Rattle.machine.specs.Views.{View, concrete}
 -- the word is there that an access wants; a store wants none
 abbrev pub Finds : SpeculativeAccess → List ℕ → Type 0
 Finds a words =
-    (a.address.0 < length words) × ((a.access.kind ≡ Store) ⊎ (slice_get words a.address.0 ≡ Some a.before))
+    (a.access.address.0 < length words)
+    × ((a.access.kind ≡ Store) ⊎ (slice_get words a.access.address.0 ≡ Some a.access.value))
 
 -- the words behind an access
 abbrev pub word_put : SpeculativeAccess → List ℕ → List ℕ
-word_put a words = slice_set words a.address.0 a.after
+word_put a words = slice_set words a.access.address.0 a.after
 
 -- and behind several, one after the other
 abbrev pub words_after : List SpeculativeAccess → List ℕ → List ℕ

@@ -4,20 +4,16 @@ ghost use Rattle.machine.specs.Speculation.{Finds, FindsAll, words_after};
 
 use crate::common::Common;
 use locals::{Access, AccessKind};
-use words::{Addr, Mem};
+use words::Mem;
 
 /// An access to a word that a thread made on words of its own, ahead of the machine. On the machine it is the same where
-/// that has the word before it, and a store is in any case.
+/// the word is there that it found, and a store is in any case.
 #[derive(Clone, Copy, PartialEq, Eq, Debug)]
 pub struct SpeculativeAccess {
     /// How many local steps came before it.
     pub local: u32,
     /// The access, as it is told.
     pub access: Access,
-    /// Its address.
-    pub address: Addr,
-    /// The word before it.
-    pub before: u32,
     /// The word that it left.
     pub after: u32,
 }
@@ -27,8 +23,13 @@ impl SpeculativeAccess {
     fn finds(&self, words: &Mem) -> bool
         ensures { MatchBool result (Finds self.now words.now) (Finds self.now words.now → ⊥) }
     {
-        (self.address.0 as usize) < words.len()
-            && (self.access.kind == AccessKind::Store || words.load(self.address) == self.before)
+        let Access {
+            kind,
+            address,
+            value,
+        } = self.access;
+        (address.0 as usize) < words.len()
+            && (kind == AccessKind::Store || words.load(address) == value)
     }
 }
 
@@ -55,11 +56,12 @@ fn commit_on(words: &mut Mem, accesses: &[SpeculativeAccess]) -> bool
     if !first.finds(words) {
         return false;
     }
-    let found = words.load(first.address);
-    words.store(first.address, first.after);
+    let address = first.access.address;
+    let found = words.load(address);
+    words.store(address, first.after);
     if commit_on(words, rest) {
         return true;
     }
-    words.store(first.address, found);
+    words.store(address, found);
     false
 }

@@ -1,11 +1,15 @@
 -- What a thread ahead of the machine keeps.
-use Rattle.std.proofs.Common.{◌≡◌, ◌≢◌, ◌<◌, ◌+◌, ◌∙◌, ℕ, List, [], ◌∷◌, ◌++◌, length, length-append, Some, ap, refl, sym, subst, arith}
+use Rattle.std.proofs.Common.{◌≡◌, ◌≢◌, ◌<◌, ◌+◌, ◌∙◌, ℕ, List, [], ◌∷◌, ◌++◌, length, length-append, Option, Some, None, ap, refl, sym, subst, arith}
+use Rattle.std.specs.Prelude.{IfSome}
 use Rattle.std.proofs.lemmas.List.Sums.{sum_by-append}
 use Rattle.robustexit.specs.declared.phase.ExitPhase.TheVariants.{Ended}
 use Rattle.isa.specs.Programs.{Program}
+use Rattle.locals.specs.declared.access.Access.{Access}
+use Rattle.locals.specs.Accesses.{accessing}
 use Rattle.locals.specs.Looks.{look}
 use Rattle.locals.specs.Steps.{local_after}
 use Rattle.locals.specs.Threads.{Thread, Exits}
+use Rattle.locals.specs.Walks.{Walks}
 use Rattle.machine.specs.declared.speculation.SpeculativeAccess.{SpeculativeAccess}
 use Rattle.machine.specs.Speculation.{Speculates, SpeculatesAll}
 use Rattle.runner.specs.Speculations.{HasCome, IsAccess, IsPriced, access_cost}
@@ -72,3 +76,22 @@ priced made a n cost h local few =
       few = omega (arith, long, few);
       bound = omega (arith, long, h.bound, h.turn);
     }
+
+-- it walks: to an access, or to where none comes
+pub walked : (p : Program) (t budget count : ℕ) (ws ws' : List ℕ) (old new : Thread) (made : Option Access) (told : Access)
+    → Walks p t budget ws ws' old new count made → made ≡ Some told
+    → (here : Thread) × (local_after p t count old ≡ Some here)
+    × (accessing (look p t here) ws ≡ Some (record { told = told; words = ws'; thread = new }))
+walked p t budget count ws ws' old new (Some x) told w is =
+    let same : x ≡ told = cc in
+    (w.here, w.goes, w.ends ∙ (λ i. Some (record { told = same i; words = ws'; thread = new })))
+walked p t budget count ws ws' old new None told w is = absurd cc
+
+pub stayed : (p : Program) (t budget count : ℕ) (ws ws' : List ℕ) (old new : Thread) (made : Option Access)
+    → Walks p t budget ws ws' old new count made → made ≡ None → local_after p t count old ≡ Some new
+stayed p t budget count ws ws' old new None w is = w.goes ∙ ap (λ (z : Thread). Some z) (sym w.ends.1)
+stayed p t budget count ws ws' old new (Some x) w is = absurd cc
+
+pub alive : {P : Type 0} → (made : Option Access) (told : Access) → made ≡ Some told → IfSome made (λ x. P) → P
+alive (Some x) told is h = h
+alive None told is h = absurd cc

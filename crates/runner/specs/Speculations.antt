@@ -1,13 +1,8 @@
 -- A thread that goes on ahead of the machine, and what comes of its accesses, which come in together.
-use Rattle.std.specs.Prelude.{ℕ, suc, ◌≡◌, ◌≤◌, ◌+◌, ◌*◌, List, [], ◌∷◌, Option, Some, None, length, true}
+use Rattle.std.specs.Prelude.{ℕ, suc, ◌≡◌, ◌≤◌, ◌+◌, ◌*◌, List, [], ◌∷◌, Some, length, true}
 use Rattle.std.specs.List.{sum_by}
-use Rattle.words.specs.declared.mem.Addr.{Addr}
 use Rattle.words.specs.Limits.{most_local_steps}
 use Rattle.isa.specs.Programs.{Program}
-use Rattle.locals.specs.declared.request.NextStep.{NextStep}
-use Rattle.locals.specs.declared.request.NextStep.TheVariants as next
-use Rattle.locals.specs.declared.request.Request.{Request}
-use Rattle.locals.specs.declared.request.Request.TheVariants as told
 use Rattle.locals.specs.Accesses.{accessing}
 use Rattle.locals.specs.Looks.{Look}
 use Rattle.locals.specs.Steps.{local_after}
@@ -41,20 +36,6 @@ pub record HasCome (p : Program) (t : ℕ) (origin : Thread) (made : List Specul
 -- one that begins at a state of a thread
 abbrev pub speculation_at : ℕ → Thread → SpeculationView
 speculation_at t x = record { thread = t; origin = x; made = []; count = 0; here = x }
-
--- the address of the word that a request reads or writes, if it is an access, and that of a step
-abbrev pub request_address : Request → Option Addr
-request_address (told.Load a) = Some a
-request_address (told.Store a v) = Some a
-request_address (told.Swap a v) = Some a
-request_address (told.CompareSwap a expected new) = Some a
-request_address (told.FetchOr a v) = Some a
-request_address (told.FetchAdd a v) = Some a
-request_address request = None
-
-abbrev pub step_address : NextStep → Option Addr
-step_address (next.Shared request) = request_address request
-step_address step = None
 
 -- what comes next is this access wherever its word is there, and leads to the state
 abbrev pub IsAccess : Look → SpeculativeAccess → Thread → Type 0

@@ -1,7 +1,6 @@
 //! Threads that make entries in one log, on one machine.
 #![tactic(auto)]
 
-mod ahead;
 mod attempt;
 mod caller;
 mod calling;

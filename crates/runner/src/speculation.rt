@@ -5,7 +5,6 @@ ghost use Rattle.locals.specs.Threads.{Exits};
 ghost use Rattle.robustexit.specs.declared.phase.ExitPhase.TheVariants.{Ended};
 ghost use Rattle.runner.specs.Speculations.{speculation_at};
 
-use crate::ahead::make_access;
 use crate::naming::RunName;
 use crate::piece::Piece;
 use isa::Image;
@@ -98,59 +97,32 @@ impl<J: RunName> Speculation<J> {
 
     /// Goes on by local steps and the access to a word behind them, which it makes on these words. Answers whether it made
     /// one: it does unless a turn of local steps is over, another step comes, the address lies outside the words, or there
-    /// are `MOST_ACCESSES` already. The sequences are those of the image, and `nothing` is a memory without a word.
-    pub fn go_on(
-        &mut self,
-        image: &Image,
-        sequences: &Sequences,
-        nothing: &mut Mem,
-        words: &mut Mem,
-    ) -> bool
+    /// are `MOST_ACCESSES` already. The sequences are those of the image.
+    pub fn go_on(&mut self, image: &Image, sequences: &Sequences, words: &mut Mem) -> bool
         requires image { image.now ≡ J.program }
         requires noted { AreSequences J.program.code sequences.now }
-        requires nothing { nothing.old ≡ [] }
         ensures same { (self.new.thread ≡ self.old.thread) × (self.new.origin ≡ self.old.origin) }
         ensures made { result ≡ true → (self.new.count ≡ 0)
             × ((made : Made) × (self.new.made ≡ self.old.made ++ made ∷ [])) }
         ensures none { result ≡ false → self.new.made ≡ self.old.made }
-        ensures nothing { nothing.new ≡ [] }
-    {
-        self.run(image, sequences, nothing);
-        self.access(image, words)
-    }
-
-    // Takes local steps until another step comes, or a turn of them is over.
-    fn run(&mut self, image: &Image, sequences: &Sequences, nothing: &mut Mem)
-        requires image { image.now ≡ J.program }
-        requires noted { AreSequences J.program.code sequences.now }
-        requires nothing { nothing.old ≡ [] }
-        ensures same { (self.new.thread ≡ self.old.thread) × (self.new.origin ≡ self.old.origin)
-            × (self.new.made ≡ self.old.made) }
-        ensures nothing { nothing.new ≡ [] }
-    {
-        let left = MOST_LOCAL_STEPS - self.count;
-        self.count += self
-            .here
-            .run_by_sequences(image, sequences, self.thread, left, nothing);
-    }
-
-    // Makes the access to a word that comes next, if one does.
-    fn access(&mut self, image: &Image, words: &mut Mem) -> bool
-        requires image { image.now ≡ J.program }
-        ensures same { (self.new.thread ≡ self.old.thread) × (self.new.origin ≡ self.old.origin) }
-        ensures made { result ≡ true → (self.new.count ≡ 0)
-            × ((made : Made) × (self.new.made ≡ self.old.made ++ made ∷ [])) }
-        ensures none { result ≡ false → self.new ≡ self.old }
     {
         if self.made.len() >= MOST_ACCESSES {
             return false;
         }
-        let count = self.count;
-        let Some(made) = make_access(&mut self.here, image, self.thread, count, words) else {
+        let left = MOST_LOCAL_STEPS - self.count;
+        let (count, access) = self.here.walk(image, sequences, self.thread, left, words);
+        let local = self.count + count;
+        let Some(access) = access else {
+            self.count = local;
             return false;
         };
-        self.made.push_reserved(made);
-        self.cost += count + 1;
+        let after = words.load(access.address);
+        self.made.push_reserved(SpeculativeAccess {
+            local,
+            access,
+            after,
+        });
+        self.cost += local + 1;
         self.count = 0;
         true
     }

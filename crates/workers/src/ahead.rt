@@ -1,9 +1,8 @@
 ghost use Rattle.std.specs.Prelude.{◌≡◌, ◌<◌, length, MatchBool};
 
 use crate::image_ref::ImageRef;
-use crate::no_words::NoWords;
 use locals::AccessKind;
-use machine::{Machine, SpeculativeAccess};
+use machine::Machine;
 use runner::{MOST_ACCESSES, Piece, RunName, Speculation};
 use std::alloc::{AllocError, Global};
 use words::{Addr, Gate, Mem};
@@ -20,6 +19,17 @@ const MOST_REFUSALS: u32 = 4;
 
 // A memory of so many words is copied for a worker, 64 KiB. Of a larger one it makes no access ahead.
 const MOST_WORDS: usize = 16_384;
+
+/// How accesses end that were made ahead.
+#[derive(Clone, Copy, PartialEq, Eq, Debug)]
+pub enum Row {
+    /// There are as many as were wanted.
+    Whole,
+    /// Another step comes, and local steps may stand behind the last access.
+    Cut,
+    /// There is none.
+    Empty,
+}
 
 /// What the worker of a thread does ahead of the machine, where its thread makes access after access: it makes several on
 /// a copy of the words, and hands them in together. The copy needn't be right. Where an access doesn't find on the machine
@@ -117,58 +127,39 @@ impl<J: RunName> Ahead<J> {
         self.refusals < MOST_REFUSALS
     }
 
-    /// Makes accesses, and answers whether there are any to be handed in, with no local step behind the last one. The gate is
-    /// passed before each.
-    pub fn go_on<G: Gate>(
-        &mut self,
-        image_ref: &ImageRef<J>,
-        nothing: &mut NoWords,
-        gate: &G,
-        t: u32,
-    ) -> bool {
+    /// Makes accesses, and answers how its worker goes on with them. The gate is passed before each.
+    pub fn go_on<G: Gate>(&mut self, image_ref: &ImageRef<J>, gate: &G, t: u32) -> Row {
         for _ in 0..self.most {
             gate.pass(t);
-            if !self.make_one(image_ref, nothing) {
-                return self.go_back(image_ref, nothing);
+            if !self.make_one(image_ref) {
+                return if self.len() > 0 { Row::Cut } else { Row::Empty };
+            }
+        }
+        Row::Whole
+    }
+
+    // Makes one access more, if one comes.
+    fn make_one(&mut self, image_ref: &ImageRef<J>) -> bool {
+        self.speculation.go_on(image_ref.image, image_ref.sequences.list(), &mut self.words)
+    }
+
+    /// Begins anew, on words that were looked at anew, and makes as many accesses again as were made, so that there is no local
+    /// step behind the last of them. Answers whether it made them.
+    pub fn make_again(&mut self, image_ref: &ImageRef<J>) -> bool {
+        let count = self.len();
+        self.speculation.restart();
+        for _ in 0..count {
+            if !self.make_one(image_ref) {
+                return false;
             }
         }
         true
     }
 
-    // Makes one access more, if one comes.
-    fn make_one(&mut self, image_ref: &ImageRef<J>, nothing: &mut NoWords) -> bool {
-        self.speculation.go_on(
-            image_ref.image,
-            image_ref.sequences.list(),
-            &mut nothing.mem,
-            &mut self.words,
-        )
-    }
-
-    // Begins anew, and makes as many accesses again as were made: so the local steps behind the last of them are undone.
-    fn go_back(&mut self, image_ref: &ImageRef<J>, nothing: &mut NoWords) -> bool {
-        let count = self.len();
-        self.undo();
-        self.speculation.restart();
-        for _ in 0..count {
-            if !self.make_one(image_ref, nothing) {
-                return false;
-            }
-        }
-        count > 0
-    }
-
-    // Takes the accesses back, the last one first.
-    fn undo(&mut self) {
-        for made in self.speculation.made().iter().rev() {
-            put(&mut self.words, made.address, made.before);
-        }
-    }
-
     /// Looks anew at the words of the accesses that it made.
     pub fn look(&mut self, machine: &Machine) {
         for made in self.speculation.made() {
-            let address = made.address;
+            let address = made.access.address;
             if (address.0 as usize) < machine.memory_len() {
                 put(&mut self.words, address, machine.word(address));
             }

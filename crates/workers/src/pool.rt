@@ -8,6 +8,7 @@ ghost use Rattle.workers.specs.Hirings.{IsDone, asking_for, asked_all, with_fail
 ghost use Rattle.workers.specs.SharedRuns.{state_of};
 ghost use Rattle.workers.specs.Handed.{IsAfresh};
 
+use crate::ahead::Row;
 use crate::bucket_waiters::BucketWaiters;
 use crate::hiring::Hiring;
 use crate::image_ref::ImageRef;
@@ -219,7 +220,14 @@ impl<J: RunName> Pool<J> {
         turns: &mut Turns<J>,
         share: &mut Share<J>,
     ) -> bool {
-        let goes = turns.go_ahead(image_ref, gate, t) && self.commit(rt, t, turns, share);
+        let goes = match turns.ahead.go_on(image_ref, gate, t) {
+            Row::Whole => self.commit(rt, t, turns, share),
+            Row::Cut => {
+                turns.ahead.look(self.lock(rt).machine());
+                turns.ahead.make_again(image_ref) && self.commit(rt, t, turns, share)
+            }
+            Row::Empty => false,
+        };
         if !goes {
             turns.ahead.stop();
         }

@@ -102,11 +102,6 @@ impl<J: RunName> Turns<J> {
         }
     }
 
-    /// Goes ahead, and answers whether there are accesses to be handed in.
-    pub fn go_ahead<G: Gate>(&mut self, image_ref: &ImageRef<J>, gate: &G, t: u32) -> bool {
-        self.ahead.go_on(image_ref, &mut self.nothing, gate, t)
-    }
-
     // Whether the next step is a swap, by which a lock is given up.
     fn give_lock_up(&self, image_ref: &ImageRef<J>) -> bool {
         matches!(

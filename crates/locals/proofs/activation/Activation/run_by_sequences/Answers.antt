@@ -1,4 +1,4 @@
-use Rattle.std.proofs.Common.{◌∙◌, ◌+◌, ◌-◌, ◌≡◌, ◌<◌, List, ℕ, [], MatchOption, None, Some, Option, arith, ap, subst, sym, refl}
+use Rattle.std.proofs.Common.{◌∙◌, ◌+◌, ◌-◌, ◌≡◌, ◌<◌, List, ℕ, MatchOption, None, Some, Option, arith, ap, subst, sym, refl}
 use Rattle.words.specs.declared.outcome.Cause.TheVariants.{Faulted}
 use Rattle.locals.specs.declared.taking.Behind.{Behind}
 use Rattle.locals.specs.Accesses.{accessing}
