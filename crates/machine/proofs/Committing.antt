@@ -1,6 +1,7 @@
 -- Accesses that a thread made ahead of the machine are made on it, one after the other.
-use Rattle.std.proofs.Common.{◌≡◌, ◌≢◌, ◌≤◌, ◌-◌, ◌∙◌, ℕ, true, List, Option, Some, None, [], ◌∷◌, length, length-set}
-use Rattle.std.proofs.Common.{slice_set, refl, ap, sym, subst, arith}
+use Rattle.std.proofs.Common.{◌≡◌, ◌≢◌, ◌≤◌, ◌-◌, ◌∙◌, ◌++◌, ℕ, true, List, Option, Some, None, [], ◌∷◌, length, length-set}
+use Rattle.std.proofs.Common.{slice_set, refl, ap, sym, subst, arith, take, drop}
+use Rattle.std.proofs.lemmas.List.{take-append-drop}
 use Rattle.isa.specs.Programs.{Program}
 use Rattle.robustexit.specs.declared.phase.ExitPhase.TheVariants.{Ended}
 use Rattle.locals.specs.Looks.{look}
@@ -8,7 +9,7 @@ use Rattle.locals.specs.Threads.{Thread, Exits}
 use Rattle.machine.specs.Accessing.{DidAccess, told_access}
 use Rattle.machine.specs.ConcreteSteps.{can_move, thread_can_move}
 use Rattle.machine.specs.declared.speculation.SpeculativeAccess.{SpeculativeAccess}
-use Rattle.machine.specs.Speculation.{Commits, FindsAll, SpeculatesAll, word_put, words_after}
+use Rattle.machine.specs.Speculation.{Commits, FindsAll, LeadsTo, SpeculatesAll, word_put, words_after}
 use Rattle.machine.specs.States.{ConcreteState, thread_at}
 use Rattle.machine.specs.Views.{CommonView, IsWellFormed, ShowsAble, parts_of}
 use Rattle.machine.proofs.Accessing.{after_view, from_returns, put_twice, shows_still, stays}
@@ -17,6 +18,64 @@ use Rattle.machine.proofs.Accessing.{after_view, from_returns, put_twice, shows_
 pub as_long : (made : List SpeculativeAccess) (words : List ℕ) → length (words_after made words) ≡ length words
 as_long [] words = refl
 as_long (a ∷ rest) words = as_long rest (word_put a words) ∙ length-set words a.access.address.0 a.after
+
+-- several behind others
+pub after_both : (xs ys : List SpeculativeAccess) (words : List ℕ)
+    → words_after (xs ++ ys) words ≡ words_after ys (words_after xs words)
+after_both [] ys words = refl
+after_both (x ∷ xs) ys words = after_both xs ys (word_put x words)
+
+pub find_both : (xs ys : List SpeculativeAccess) (words : List ℕ) → FindsAll xs words
+    → FindsAll ys (words_after xs words) → FindsAll (xs ++ ys) words
+find_both [] ys words found others = others
+find_both (x ∷ xs) ys words found others = (found.0, find_both xs ys (word_put x words) found.1 others)
+
+pub found_first : (xs ys : List SpeculativeAccess) (words : List ℕ) → FindsAll (xs ++ ys) words → FindsAll xs words
+found_first [] ys words found = tt
+found_first (x ∷ xs) ys words found = (found.0, found_first xs ys (word_put x words) found.1)
+
+pub found_behind : (xs ys : List SpeculativeAccess) (words : List ℕ) → FindsAll (xs ++ ys) words
+    → FindsAll ys (words_after xs words)
+found_behind [] ys words found = found
+found_behind (x ∷ xs) ys words found = found_behind xs ys (word_put x words) found.1
+
+-- a list is cut in two
+cut_in_two : (n : ℕ) (all xs ys : List SpeculativeAccess) → xs ≡ take n all → ys ≡ drop n all → xs ++ ys ≡ all
+cut_in_two n all xs ys front back = (λ i. front i ++ back i) ∙ take-append-drop n all
+
+-- both parts found their words
+pub made_both : (n : ℕ) (all xs ys : List SpeculativeAccess) (words mid new : List ℕ) → xs ≡ take n all → ys ≡ drop n all
+    → FindsAll xs words × (mid ≡ words_after xs words) → FindsAll ys mid × (new ≡ words_after ys mid)
+    → FindsAll all words × (new ≡ words_after all words)
+made_both n all xs ys words mid new front back one other =
+    let whole = cut_in_two n all xs ys front back in (
+      subst (λ (l : List SpeculativeAccess). FindsAll l words) whole
+          (find_both xs ys words one.0 (subst (λ (w : List ℕ). FindsAll ys w) one.1 other.0)),
+      other.1
+          ∙ (ap (words_after ys) one.1 ∙ (sym (after_both xs ys words) ∙ ap (λ l. words_after l words) whole)),
+    )
+
+-- where a part doesn't find its words all don't
+pub none_first : (n : ℕ) (all xs ys : List SpeculativeAccess) (words : List ℕ) → xs ≡ take n all → ys ≡ drop n all
+    → (FindsAll xs words → ⊥) → FindsAll all words → ⊥
+none_first n all xs ys words front back none found =
+    none (found_first xs ys words
+    (subst (λ (l : List SpeculativeAccess). FindsAll l words) (sym (cut_in_two n all xs ys front back)) found))
+
+pub none_behind : (n : ℕ) (all xs ys : List SpeculativeAccess) (words mid : List ℕ) → xs ≡ take n all → ys ≡ drop n all
+    → mid ≡ words_after xs words → (FindsAll ys mid → ⊥) → FindsAll all words → ⊥
+none_behind n all xs ys words mid front back is none found =
+    let whole = sym (cut_in_two n all xs ys front back) in
+    none (subst (λ (w : List ℕ). FindsAll ys w) (sym is)
+    (found_behind xs ys words (subst (λ (l : List SpeculativeAccess). FindsAll l words) whole found)))
+
+-- they are taken back by the words that were noted
+pub noted : (xs : List SpeculativeAccess) (before none more words mid here : List ℕ) → before ≡ none ++ more → none ≡ []
+    → LeadsTo xs more words mid → here ≡ mid → LeadsTo xs before words here
+noted xs before none more words mid here is empty leads same =
+    let all : before ≡ more = is ∙ ap (λ (l : List ℕ). l ++ more) empty in
+    subst (λ (l : List ℕ). LeadsTo xs l words here) (sym all)
+    (subst (λ (w : List ℕ). LeadsTo xs more words w) (sym same) leads)
 
 -- who can move hasn't ended
 moves_alive : (o : Option ℕ) (x : Thread) → thread_can_move o (Some x) ≡ true → x ≢ Exits Ended

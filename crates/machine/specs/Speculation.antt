@@ -32,6 +32,13 @@ abbrev pub FindsAll : List SpeculativeAccess → List ℕ → Type 0
 FindsAll [] words = ⊤
 FindsAll (a ∷ rest) words = Finds a words × FindsAll rest (word_put a words)
 
+-- the first accesses, one for each word before them, each found its word and led from these words to those
+abbrev pub LeadsTo : List SpeculativeAccess → List ℕ → List ℕ → List ℕ → Type 0
+LeadsTo accesses [] start words = words ≡ start
+LeadsTo [] (b ∷ before) start words = ⊥
+LeadsTo (a ∷ accesses) (b ∷ before) start words =
+    Finds a start × (slice_get start a.access.address.0 ≡ Some b) × LeadsTo accesses before (word_put a start) words
+
 -- local steps lead thread t from x to the access, which it makes so wherever its word is there, and goes on at y
 pub record Speculates (p : Program) (t : ℕ) (x : Thread) (a : SpeculativeAccess) (y : Thread) : Type 0 where
   pub here : Thread
