@@ -12,7 +12,7 @@ use Rattle.locals.specs.Threads.{Thread, Exits}
 use Rattle.locals.specs.Walks.{Walks}
 use Rattle.machine.specs.declared.speculation.SpeculativeAccess.{SpeculativeAccess}
 use Rattle.machine.specs.Speculation.{Speculates, SpeculatesAll}
-use Rattle.runner.specs.Speculations.{HasCome, IsAccess, IsPriced, access_cost}
+use Rattle.runner.specs.Speculations.{HasCome, IsAccess, IsPriced, access_cost, most_accesses}
 use Rattle.runner.proofs.Going.{after_sum}
 
 -- it begins anew
@@ -62,7 +62,7 @@ accessed p t n o x y made a h local is lives =
     record { last = y; all = all_more p t made o h.last y a h.all one; goes = refl }
 
 pub priced : (made : List SpeculativeAccess) (a : SpeculativeAccess) (n cost : ℕ) → IsPriced made n cost → a.local ≡ n
-    → length made < 32 → IsPriced (made ++ a ∷ []) 0 (cost + (n + 1))
+    → length made < most_accesses → IsPriced (made ++ a ∷ []) 0 (cost + (n + 1))
 priced made a n cost h local few =
     let long : length (made ++ a ∷ []) ≡ length made + 1 = length-append made (a ∷ []) in
     record {

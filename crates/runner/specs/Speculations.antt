@@ -1,11 +1,12 @@
 -- A thread that goes on ahead of the machine, and what comes of its accesses, which come in together.
-use Rattle.std.specs.Prelude.{ℕ, suc, ◌≡◌, ◌≤◌, ◌+◌, ◌*◌, List, [], ◌∷◌, Some, length, true}
+use Rattle.std.specs.Prelude.{ℕ, suc, ◌≡◌, ◌≤◌, ◌<◌, ◌+◌, ◌*◌, ◌++◌, List, [], ◌∷◌, Some, None, length, slice_get, true}
 use Rattle.std.specs.List.{sum_by}
 use Rattle.words.specs.Limits.{most_local_steps}
 use Rattle.isa.specs.Programs.{Program}
+use Rattle.locals.specs.declared.access.Access.{Access}
 use Rattle.locals.specs.Accesses.{accessing}
-use Rattle.locals.specs.Looks.{Look}
-use Rattle.locals.specs.Steps.{local_after}
+use Rattle.locals.specs.Looks.{Look, look}
+use Rattle.locals.specs.Steps.{local_after, local_step}
 use Rattle.locals.specs.Threads.{Thread}
 use Rattle.machine.specs.declared.event.Entry.{Entry}
 use Rattle.machine.specs.declared.speculation.SpeculativeAccess.{SpeculativeAccess}
@@ -16,6 +17,10 @@ use Rattle.machine.specs.States.{thread_of}
 use Rattle.runner.specs.Entries.{Takes}
 use Rattle.runner.specs.Logs.{cost}
 use Rattle.runner.specs.Views.{PieceView, LogState, SharedView, log_state}
+
+-- so many accesses of a thread come in together at most
+abbrev pub most_accesses : ℕ
+most_accesses = 64
 
 -- a thread ahead of the machine: where it began, the accesses that it made since, and where it has come after so many local
 -- steps behind the last one
@@ -42,6 +47,28 @@ abbrev pub IsAccess : Look → SpeculativeAccess → Thread → Type 0
 IsAccess l a y = (words : List ℕ) → Finds a words
     → accessing l words ≡ Some (record { told = a.access; words = word_put a words; thread = y })
 
+-- local steps led it to an access behind those before, which it made on these words, and left those
+pub record MakesOne (p : Program) (old : SpeculationView) (words : List ℕ) (new : SpeculationView) (words' : List ℕ)
+    : Type 0 where
+  pub more : ℕ
+  pub before : Thread
+  pub access : Access
+  pub after : ℕ
+  pub goes : local_after p old.thread more old.here ≡ Some before
+  pub makes : accessing (look p old.thread before) words
+      ≡ Some (record { told = access; words = words'; thread = new.here })
+  pub leaves : slice_get words' access.address.0 ≡ Some after
+  pub made : new.made ≡ old.made ++ record { local = old.count + more; access = access; after = after } ∷ []
+
+-- there are as many as come in together, and nothing has changed
+abbrev pub IsFull : SpeculationView → SpeculationView → Type 0
+IsFull old new = (most_accesses ≤ length old.made) × (new ≡ old)
+
+-- no access to one of these words comes next; and unless a turn of local steps is over, no local step does
+pub record HasNoneLeft (p : Program) (s : SpeculationView) (words : List ℕ) : Type 0 where
+  pub none : accessing (look p s.thread s.here) words ≡ None
+  pub whole : s.count < most_local_steps → local_step p s.thread s.here ≡ None
+
 -- the entry of an access, and those of several
 abbrev pub access_entry : ℕ → SpeculativeAccess → Entry
 access_entry t a = record { thread = t; local = a.local; event = Some (told_access a.access) }
@@ -58,7 +85,7 @@ access_cost made = sum_by (λ a. a.local + 1) made
 pub record IsPriced (made : List SpeculativeAccess) (count cost : ℕ) : Type 0 where
   pub cost_is : cost ≡ access_cost made
   pub turn : count ≤ most_local_steps
-  pub few : length made ≤ 32
+  pub few : length made ≤ most_accesses
   pub bound : cost ≤ length made * suc most_local_steps
 
 -- they came in, one after the other, each as a piece

@@ -1,9 +1,8 @@
-ghost use Rattle.std.specs.Prelude.{◌≡◌, ◌≤◌, ◌++◌, ◌∷◌, [], length, true, false, IfOk};
+ghost use Rattle.std.specs.Prelude.{◌≡◌, ◌⊎◌, true, false, IfOk};
 ghost use Rattle.locals.specs.Sequences.{AreSequences};
-ghost use Rattle.machine.specs.declared.speculation.SpeculativeAccess.{SpeculativeAccess as Made};
 ghost use Rattle.locals.specs.Threads.{Exits};
 ghost use Rattle.robustexit.specs.declared.phase.ExitPhase.TheVariants.{Ended};
-ghost use Rattle.runner.specs.Speculations.{speculation_at};
+ghost use Rattle.runner.specs.Speculations.{speculation_at, HasNoneLeft, IsFull, MakesOne};
 
 use crate::naming::RunName;
 use crate::piece::Piece;
@@ -16,7 +15,7 @@ use std::marker::{Model, PhantomData};
 use words::{MOST_LOCAL_STEPS, Mem};
 
 /// How many accesses a thread makes ahead of the machine at most before they are taken in.
-pub const MOST_ACCESSES: usize = 32;
+pub const MOST_ACCESSES: usize = 64;
 
 /// A thread ahead of the machine of run `J`: it takes local steps, and makes accesses on words of its own, which needn't be
 /// the machine's. Its type keeps that the run's program leads it so wherever each access finds the word that it found.
@@ -37,14 +36,14 @@ pub struct Speculation<J: RunName> {
 impl<J: RunName> Model for Speculation<J> {
     ghost use Rattle.std.specs.Prelude.{◌≡◌, ◌≤◌, length, vec_capacity};
     ghost use Rattle.words.specs.Limits.{most_local_steps};
-    ghost use Rattle.runner.specs.Speculations.{SpeculationView, HasCome, IsPriced};
+    ghost use Rattle.runner.specs.Speculations.{SpeculationView, HasCome, IsPriced, most_accesses};
 
     ghost Value = { SpeculationView };
 
     ghost view = { λ s. record { thread = s.thread; origin = s.origin; made = s.made.items; count = s.count; here = s.here } };
 
     ghost invariant = { λ s. HasCome J.program s.thread s.origin s.made.items s.count s.here
-        × IsPriced s.made.items s.count s.cost × (32 ≤ vec_capacity s.made) };
+        × IsPriced s.made.items s.count s.cost × (most_accesses ≤ vec_capacity s.made) };
 }
 
 impl<J: RunName> Speculation<J> {
@@ -103,8 +102,9 @@ impl<J: RunName> Speculation<J> {
         requires noted { AreSequences J.program.code sequences.now }
         ensures same { (self.new.thread ≡ self.old.thread) × (self.new.origin ≡ self.old.origin) }
         ensures made { result ≡ true → (self.new.count ≡ 0)
-            × ((made : Made) × (self.new.made ≡ self.old.made ++ made ∷ [])) }
-        ensures none { result ≡ false → self.new.made ≡ self.old.made }
+            × MakesOne J.program self.old words.old self.new words.new }
+        ensures none { result ≡ false → (self.new.made ≡ self.old.made) × (words.new ≡ words.old)
+            × (IsFull self.old self.new ⊎ HasNoneLeft J.program self.new words.old) }
     {
         if self.made.len() >= MOST_ACCESSES {
             return false;

@@ -1,5 +1,3 @@
-ghost use Rattle.std.specs.Prelude.{◌≡◌, ◌<◌, length, MatchBool};
-
 use crate::image_ref::ImageRef;
 use locals::AccessKind;
 use machine::Machine;
@@ -23,7 +21,7 @@ const MOST_WORDS: usize = 16_384;
 /// How accesses end that were made ahead.
 #[derive(Clone, Copy, PartialEq, Eq, Debug)]
 pub enum Row {
-    /// There are as many as were wanted.
+    /// There are as many as were wanted, or the last one gives a lock up.
     Whole,
     /// Another step comes, and local steps may stand behind the last access.
     Cut,
@@ -127,12 +125,22 @@ impl<J: RunName> Ahead<J> {
         self.refusals < MOST_REFUSALS
     }
 
-    /// Makes accesses, and answers how its worker goes on with them. The gate is passed before each.
-    pub fn go_on<G: Gate>(&mut self, image_ref: &ImageRef<J>, gate: &G, t: u32) -> Row {
+    /// Makes accesses, up to the next one that gives a lock up if that is asked for, and answers how its worker goes on with
+    /// them. The gate is passed before each.
+    pub fn go_on<G: Gate>(
+        &mut self,
+        image_ref: &ImageRef<J>,
+        gate: &G,
+        t: u32,
+        up_to_swap: bool,
+    ) -> Row {
         for _ in 0..self.most {
             gate.pass(t);
             if !self.make_one(image_ref) {
                 return if self.len() > 0 { Row::Cut } else { Row::Empty };
+            }
+            if up_to_swap && self.ends_by_swap() {
+                return Row::Whole;
             }
         }
         Row::Whole

@@ -220,7 +220,8 @@ impl<J: RunName> Pool<J> {
         turns: &mut Turns<J>,
         share: &mut Share<J>,
     ) -> bool {
-        let goes = match turns.ahead.go_on(image_ref, gate, t) {
+        let up_to_swap = turns.are_many();
+        let goes = match turns.ahead.go_on(image_ref, gate, t, up_to_swap) {
             Row::Whole => self.commit(rt, t, turns, share),
             Row::Cut => {
                 turns.ahead.look(self.lock(rt).machine());

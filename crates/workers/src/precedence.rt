@@ -4,8 +4,8 @@ use std::hint::spin_loop;
 use std::sync::atomic::{AtomicU64, Ordering};
 use std::sync::{Mutex, Wait};
 
-// For how many moments a worker leaves the lock to the one with precedence.
-const LOOKS: u32 = 40_000;
+// For how many moments a worker leaves the lock to the one with precedence: longer than that one keeps it.
+const LOOKS: u32 = 160_000;
 
 /// Which worker has precedence: the others leave the lock to it, for a while. So it makes entry after entry, and what
 /// the lock keeps stays in its processor's memory. It is a courtesy: nothing rests on it but speed.

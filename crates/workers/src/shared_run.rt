@@ -227,8 +227,8 @@ impl<J: RunName> SharedRun<J> {
         self.shared.hand_in_access(t, &mut turns.pieces[0], share)
     }
 
-    /// Takes in the accesses that thread `t` made ahead of the machine, all together, where others were made. They concern
-    /// nobody, and who waits for a bucket still does. Answers whether they came in: else nothing has changed.
+    /// Takes in the accesses that thread `t` made ahead of the machine, all together. They concern nobody, and who waits for a
+    /// bucket still does. Answers whether they came in: else nothing has changed.
     pub fn commit(
         &mut self,
         t: u32,

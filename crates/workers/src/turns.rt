@@ -19,11 +19,12 @@ const MOST_TURNS: usize = 16;
 // How many local steps are few: it takes less time to take them than to hand the lock to and fro.
 const FEW_STEPS: u32 = 64;
 
-// Behind so many entries a worker gives precedence up as soon as its thread gives a lock up.
-const MANY_ENTRIES: usize = 4096;
+// Behind so many entries a worker gives precedence up as soon as its thread gives a lock up: some half a millisecond, so that
+// what it takes to give it to another one is little beside it.
+const MANY_ENTRIES: usize = 16_384;
 
 // And behind so many anyhow.
-const MOST_ENTRIES: usize = 4224;
+const MOST_ENTRIES: usize = 16_512;
 
 /// The turns of one thread that its worker has taken and not handed in: a piece for each, which began where the one
 /// before has come. So the lock is taken once for all of them.
@@ -81,13 +82,17 @@ impl<J: RunName> Turns<J> {
     /// until its thread gives a lock up. One that gave precedence up with a lock held would hold others up by that lock.
     pub fn keep_precedence(&self, image_ref: &ImageRef<J>) -> bool {
         self.are_few()
-            && (self.entries < MANY_ENTRIES
-                || self.entries < MOST_ENTRIES && !self.give_lock_up(image_ref))
+            && (!self.are_many() || self.entries < MOST_ENTRIES && !self.give_lock_up(image_ref))
     }
 
     /// The same behind accesses that were made ahead.
     pub fn keep_precedence_ahead(&self) -> bool {
-        self.entries < MANY_ENTRIES || self.entries < MOST_ENTRIES && !self.ahead.ends_by_swap()
+        !self.are_many() || self.entries < MOST_ENTRIES && !self.ahead.ends_by_swap()
+    }
+
+    /// Whether there were many entries since its worker gave precedence up.
+    pub fn are_many(&self) -> bool {
+        self.entries >= MANY_ENTRIES
     }
 
     /// Notes that the first piece came in as an access, and its worker has precedence or not. Behind many such entries it goes

@@ -1,10 +1,10 @@
 -- It goes on by the program: by local steps, and by the access behind them wherever its word is there.
-use Rattle.std.proofs.Common.{◌+◌, ◌-◌, ◌++◌, ◌∷◌, ◌∙◌, [], List, ap, arith, refl, sym, subst}
+use Rattle.std.proofs.Common.{◌+◌, ◌-◌, List, arith, refl, sym, subst}
 use Rattle.isa.specs.Programs.{Program}
 use Rattle.locals.specs.Looks.{look}
 use Rattle.locals.specs.Walks.{Walks}
 use Rattle.machine.specs.declared.speculation.SpeculativeAccess.{SpeculativeAccess}
-use Rattle.runner.specs.Speculations.{HasCome, IsAccess, IsPriced, SpeculationView}
+use Rattle.runner.specs.Speculations.{HasCome, IsAccess, IsPriced, MakesOne, SpeculationView}
 use Rattle.runner.proofs.Accesses.{made_alike}
 use Rattle.runner.proofs.Speculating.{accessed, alive, priced, ran, stayed, walked}
 use Rattle.runner.proofs.speculation.Speculation.go_on.Goals as goal
@@ -67,15 +67,36 @@ invariant_of-self-2 g c =
 pub returns-clause-made : goal.returns-clause-made
 returns-clause-made g c = λ yes.
     let s = c.self.inside in
-    let a : SpeculativeAccess = record {
-      local = s.count + c.walk-count.result.0;
-      access = c.in-Some.access;
+    let p = g.J.RunName.program in
+    let n = c.walk-count.result.0 in
+    let here = c.walk-count.new.self in
+    let words = c.walk-count.new.words in
+    let told = c.in-Some.access in
+    let walks = subst (λ (q : Program). Walks q s.thread (256 - s.count) c.args.words.now words s.here here n
+    c.walk-count.result.1) c.requires.image c.walk-count.ensures.walks in
+    let w = walked p s.thread (256 - s.count) n c.args.words.now words s.here here c.walk-count.result.1 told walks
+    c.in-Some.is in
+    let new : SpeculationView = record {
+      thread = s.thread;
+      origin = s.origin;
+      made = c.push_reserved.new.self.items;
+      count = 0;
+      here = here;
+    } in
+    let one : MakesOne p (record {
+      thread = s.thread;
+      origin = s.origin;
+      made = s.made.items;
+      count = s.count;
+      here = s.here;
+    }) c.args.words.now new words = record {
+      more = n;
+      before = w.0;
+      access = told;
       after = c.load-after.result;
-    } in (
-      refl,
-      (
-        a,
-        c.push_reserved.ensures.items
-            ∙ ap (λ (l : List SpeculativeAccess). l ++ a ∷ []) (ap (λ (x : SpeculationView). x.made) c.self.view_is),
-      ),
-    )
+      goes = w.1;
+      makes = w.2;
+      leaves = c.load-after.ensures;
+      made = c.push_reserved.ensures.items;
+    } in
+    (refl, subst (λ (old : SpeculationView). MakesOne p old c.args.words.now new words) c.self.view_is one)
