@@ -45,11 +45,30 @@ pub fn explain_file<'a, R: Files + AllocGlobal, O: Write>(
         hints,
     };
     let run = explain_text(rt, &text, by, told)?;
+    show_run(rt, &text, &run, by, drawings, places, output, told)
+}
+
+// Prints an explained run, and shows it in other files where they are named. It is lent: a caller that owned it over all that
+// can fail here took the borrow checker minutes.
+fn show_run<'a, R: Files + AllocGlobal, O: Write>(
+    rt: &R,
+    text: &SourceText<'_>,
+    run: &ExplainedRun<'_>,
+    by: ExplainedBy<'a>,
+    drawings: Drawings<'a>,
+    places: bool,
+    output: &mut Counted<O>,
+    told: &mut String,
+) -> Result<Status, Failure<'a>>
+    requires { IsExplainedAs by.entry text.now.bytes.now run.now }
+    ensures { IfOk result
+        (λ s. HasExplained places (HasAll O.contents output.old output.new) s) }
+{
     let lines = action_lines(rt.alloc(), run.checked.names(), run.actions.as_slice())?;
-    let answer = lines_beside(rt.alloc(), &text, &run, places, lines)?;
-    tell_explained(rt.alloc(), told, &text, &run, by);
-    let title = title_of(rt.alloc(), file, by, run.report.verdict)?;
-    put_run(rt, drawings, &text, &run, title.as_str())?;
+    let answer = lines_beside(rt.alloc(), text, run, places, lines)?;
+    tell_explained(rt.alloc(), told, text, run, by);
+    let title = title_of(rt.alloc(), text.file, by, run.report.verdict)?;
+    put_run(rt, drawings, text, run, title.as_str())?;
     write_bytes(output, answer.as_slice())?;
     Ok(status_of(run.report.verdict))
 }

@@ -1,5 +1,5 @@
 ghost use Rattle.std.specs.Prelude.{◌≡◌, ◌≢◌, ◌≤◌, ◌<◌, ◌+◌, ◌-◌, ◌^◌, ◌++◌, ◌∷◌, [], length, slice_get, Some};
-ghost use Rattle.std.specs.Prelude.{OnOk, IfOk, MatchBool, true, is_ok, if◌then◌else◌, option_copied, vec_len, vec_capacity};
+ghost use Rattle.std.specs.Prelude.{OnOk, OnErr, IfOk, MatchBool, true, is_ok, if◌then◌else◌, option_copied, vec_len, vec_capacity};
 ghost use Rattle.machine.specs.ConcreteServing.{plain};
 ghost use Rattle.packed_log.specs.Packing.{entries_of, heads_of, kept, sets_of};
 ghost use Rattle.packed_log.specs.Views.{HasHead, IsPacked as IsPackedIn, Woke, step_of};
@@ -119,11 +119,12 @@ impl PackedLog {
         )
     }
 
-    /// Makes room for one entry more at least.
+    /// Makes room for one entry more at least. Where there is room it can't fail.
     #[inline(always)]
     pub fn make_room(&mut self) -> Result<(), AllocError>
         ensures room { OnOk result (1 ≤ self.new.room) }
         ensures few { OnOk result (length self.new.items < 2 ^ 64) }
+        ensures err { OnErr result ((self.old.room ≡ 0) × (self.new.room ≡ self.old.room)) }
         ensures same { self.new.items ≡ self.old.items }
     {
         if self.spare > 0 {
@@ -140,12 +141,13 @@ impl PackedLog {
         self.spare > 0
     }
 
-    /// Makes room for so many entries more at least, from 0 to 64.
+    /// Makes room for so many entries more at least, from 0 to 64. Where there is room for so many it can't fail.
     #[inline(always)]
     pub fn make_room_for(&mut self, count: usize) -> Result<(), AllocError>
         requires { count ≤ 64 }
         ensures room { OnOk result (count ≤ self.new.room) }
         ensures few { OnOk result (length self.new.items + count ≤ 2 ^ 64) }
+        ensures err { OnErr result ((self.old.room < count) × (self.new.room ≡ self.old.room)) }
         ensures same { self.new.items ≡ self.old.items }
     {
         if self.spare >= count {
@@ -160,6 +162,7 @@ impl PackedLog {
     fn grow(&mut self) -> Result<(), AllocError>
         ensures room { OnOk result (64 ≤ self.new.room) }
         ensures few { OnOk result (length self.new.items + 64 ≤ 2 ^ 64) }
+        ensures err { OnErr result (self.new.room ≡ self.old.room) }
         ensures same { self.new.items ≡ self.old.items }
     {
         grow_heads(&mut self.heads)?;

@@ -1,7 +1,9 @@
 use crate::lists::failure::Failure;
 use log_text::append_log;
-use mesamon::{explain_log_text, run_source};
+use mesamon::{ExplainedRun, explain_log_text, run_source};
+use runner::Report;
 use source_states::accepts;
+use std::alloc::Global;
 use std::io;
 use std::sync::Wait;
 use std::thread::Threads;
@@ -47,15 +49,30 @@ fn is_explained<R: AllocGlobal + Threads + Wait + Sync>(
     rt: &R,
     text: &[u8],
 ) -> Result<bool, Failure> {
-    let Ok(report) = run_source(rt, rt.alloc(), text, STEPS, &OpenGate) else {
-        return Ok(false);
-    };
-    let mut lines = String::new(rt.alloc());
+    match run_source(rt, rt.alloc(), text, STEPS, &OpenGate) {
+        Ok(report) => is_report_explained(rt.alloc(), text, &report),
+        Err(_) => Ok(false),
+    }
+}
+
+// The same of the report of such a run. Reports and explained runs are lent: owned over what can fail they took the borrow
+// checker minutes.
+fn is_report_explained(alloc: Global, text: &[u8], report: &Report) -> Result<bool, Failure> {
+    let mut lines = String::new(alloc);
     append_log(&mut lines, report.log.iter())?;
-    let Ok(run) = explain_log_text(rt.alloc(), text, lines.as_bytes()) else {
-        return Ok(false);
-    };
-    match accepts(rt.alloc(), &run.checked, run.actions.as_slice())? {
+    match explain_log_text(alloc, text, lines.as_bytes()) {
+        Ok(run) => prints_the_same(alloc, &run, report),
+        Err(_) => Ok(false),
+    }
+}
+
+// Whether the source run prints what the run on workers printed.
+fn prints_the_same(
+    alloc: Global,
+    run: &ExplainedRun<'_>,
+    report: &Report,
+) -> Result<bool, Failure> {
+    match accepts(alloc, &run.checked, run.actions.as_slice())? {
         Some(state) => Ok(are_printed(state.printed(), report.output.as_slice())),
         None => Ok(false),
     }

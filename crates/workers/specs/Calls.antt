@@ -28,6 +28,11 @@ pub record AreCalledToo (threads : ThreadSet) (old new : Called) : Type 0 where
 abbrev pub AreTold : ThreadSet → BucketWaiters → Called → Type 0
 AreTold woken freed called = (t : ℕ) → IsThread t → (has woken t || waits freed t) ≡ true → was_called called t ≡ true
 
+-- each of them, but for those whose calls are put off
+abbrev pub AreToldOrPutOff : ThreadSet → BucketWaiters → ThreadSet → Called → Type 0
+AreToldOrPutOff woken freed put_off called = (t : ℕ) → IsThread t → (has woken t || waits freed t) ≡ true
+    → (was_called called t || has put_off t) ≡ true
+
 -- all
 abbrev pub AreAllCalled : Called → Type 0
 AreAllCalled called = (t : ℕ) → IsThread t → was_called called t ≡ true

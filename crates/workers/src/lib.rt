@@ -11,6 +11,7 @@ mod no_words;
 mod parker;
 mod pool;
 mod precedence;
+mod put_off;
 mod running;
 mod shared_run;
 mod turns;

@@ -1,9 +1,10 @@
-ghost use Rattle.std.specs.Prelude.{◌≡◌};
-ghost use Rattle.machine.specs.ThreadSets.{IsThread};
+ghost use Rattle.std.specs.Prelude.{◌≡◌, []};
+ghost use Rattle.machine.specs.ThreadSets.{IsThread, set_of};
 ghost use Rattle.workers.specs.Calls.{nobody_called, with_called};
 
 use crate::bucket_waiters::BucketWaiters;
 use crate::lookout::Lookout;
+use crate::put_off::PutOff;
 use std::hint::spin_loop;
 use std::sync::Wait;
 use std::sync::atomic::{AtomicBool, AtomicU64, Ordering};
@@ -50,8 +51,12 @@ impl Parker {
         }
     }
 
-    /// Parks until the worker is called. A call that came since it was parked last counts.
-    pub fn park<R: Wait>(&self, rt: &R) {
+    /// Parks until the worker is called. A call that came since it was parked last counts. It has put no call off, since
+    /// whom it has to call may be the one who calls it.
+    pub fn park<R: Wait>(&self, rt: &R, put_off: &PutOff)
+        requires { put_off.now ≡ set_of [] }
+    {
+        let _nobody = put_off;
         self.called.park(rt);
     }
 

@@ -1,9 +1,9 @@
-ghost use Rattle.std.specs.Prelude.{ℕ, ◌≡◌, ◌<◌, true, false, is_some, vec_len, None, IfSome, IfNone};
+ghost use Rattle.std.specs.Prelude.{ℕ, ◌≡◌, ◌<◌, true, false, is_some, vec_len, [], None, IfSome, IfNone};
 ghost use Rattle.words.specs.Limits.{most_threads};
 ghost use Rattle.machine.specs.ConcreteSteps.{can_move};
-ghost use Rattle.machine.specs.ThreadSets.{IsThread};
+ghost use Rattle.machine.specs.ThreadSets.{IsThread, set_of};
 ghost use Rattle.workers.specs.BucketWaiters.{IsWhole};
-ghost use Rattle.workers.specs.Calls.{AreTold, AreAllCalled, AreCalledToo, with_called};
+ghost use Rattle.workers.specs.Calls.{AreTold, AreToldOrPutOff, AreAllCalled, AreCalledToo, nobody_called, with_called};
 ghost use Rattle.workers.specs.Hirings.{IsDone, asking_for, asked_all, with_failed};
 ghost use Rattle.workers.specs.SharedRuns.{state_of};
 ghost use Rattle.workers.specs.Handed.{IsAfresh};
@@ -15,6 +15,7 @@ use crate::image_ref::ImageRef;
 use crate::lookout::Lookout;
 use crate::parker::{Called, Parker};
 use crate::precedence::Precedence;
+use crate::put_off::PutOff;
 use crate::shared_run::{SharedRun, WakeReason};
 use crate::turns::Turns;
 use crossbeam_utils::CachePadded;
@@ -179,6 +180,7 @@ impl<J: RunName> Pool<J> {
                 break;
             }
         }
+        self.settle(&mut turns.put_off);
         share
     }
 
@@ -254,14 +256,15 @@ impl<J: RunName> Pool<J> {
         turns.ahead.note_outcome(came)
     }
 
-    // Parks until thread `t` can move and its worker waits for no bucket, or nobody is left to call it. Then it goes on
-    // from the first of its turns.
+    // Calls whom it put off to call, and parks until thread `t` can move and its worker waits for no bucket, or nobody is left
+    // to call it. Then it goes on from the first of its turns.
     fn wake<R: Wait>(&self, rt: &R, t: u32, turns: &mut Turns<J>) -> After
         ensures { IsAfresh t turns.new.pieces.items result }
     {
         let Some(parker) = self.parkers.get(t as usize) else {
             return After::Ends;
         };
+        self.settle(&mut turns.put_off);
         for _ in rt.forever() {
             let shared_run = self.lock(rt);
             if shared_run.is_able(t) {
@@ -272,7 +275,7 @@ impl<J: RunName> Pool<J> {
                 return After::Ends;
             }
             drop(shared_run);
-            parker.park(rt);
+            parker.park(rt, &turns.put_off);
             self.precedence.take(rt, &self.lookout, t);
         }
         After::Ends
@@ -291,6 +294,7 @@ impl<J: RunName> Pool<J> {
         ensures { IsAfresh t turns.new.pieces.items result }
     {
         let keeps = turns.keep_precedence(image_ref);
+        let calls = turns.is_call_due(image_ref);
         self.precedence.take(rt, &self.lookout, t);
         let mut shared_run = self.lock(rt);
         // As most turns are. It concerns nobody.
@@ -298,9 +302,16 @@ impl<J: RunName> Pool<J> {
             drop(shared_run);
             self.precedence.pass_on(t, keeps, 1, &mut turns.entries);
             turns.note_access(keeps, image_ref);
+            if calls {
+                self.settle(&mut turns.put_off);
+            }
             return After::Goes;
         }
-        self.hand_in_any(rt, gate, t, turns, share, keeps, shared_run)
+        let after = self.hand_in_any(rt, gate, t, turns, share, keeps, shared_run);
+        if calls {
+            self.settle(&mut turns.put_off);
+        }
+        after
     }
 
     // The same of any turns, under the lock.
@@ -338,7 +349,10 @@ impl<J: RunName> Pool<J> {
         }
         if turns.concern_others() {
             turns.ahead.stop();
-            self.tell_others(turns);
+            self.settle(&mut turns.put_off);
+            let _called = self.tell_or_put_off(turns, after);
+        } else if after != After::Goes {
+            self.settle(&mut turns.put_off);
         }
         if is_over {
             self.end();
@@ -404,11 +418,42 @@ impl<J: RunName> Pool<J> {
         true
     }
 
-    // Calls whom these turns concern. Apart, since a note of who was called is written whole.
+    // Calls whom these turns concern. Where they woke others alone, and the thread goes on, that is put off. Apart, since a note
+    // of who was called is written whole.
     #[cold]
     #[inline(never)]
-    fn tell_others(&self, turns: &Turns<J>) {
-        let _called = self.tell(&turns.wake_reason, &turns.freed);
+    #[tactic(auto, using(crate::proofs::Calling::put_off_so, crate::proofs::Calling::told_so))]
+    fn tell_or_put_off(&self, turns: &mut Turns<J>, after: After) -> Called
+        requires { turns.old.put_off ≡ set_of [] }
+        ensures told { AreToldOrPutOff turns.old.wake_reason.woken turns.old.freed turns.new.put_off result }
+        ensures same { turns.new.pieces ≡ turns.old.pieces }
+    {
+        if after == After::Goes && turns.may_put_off() {
+            turns.put_off.put(&turns.wake_reason.woken);
+            return Called::new();
+        }
+        self.tell(&turns.wake_reason, &turns.freed)
+    }
+
+    // Calls whom it put off to call.
+    fn settle(&self, put_off: &mut PutOff)
+        ensures { put_off.new ≡ set_of [] }
+    {
+        if !put_off.is_empty() {
+            let _called = self.call_put_off(put_off);
+        }
+    }
+
+    // The same where there is somebody.
+    #[cold]
+    #[inline(never)]
+    fn call_put_off(&self, put_off: &mut PutOff) -> Called
+        ensures called { AreCalledToo put_off.old nobody_called result }
+        ensures none { put_off.new ≡ set_of [] }
+    {
+        let mut called = Called::new();
+        self.call_each(&put_off.take(), &mut called);
+        called
     }
 
     // Calls everybody, where the run is over. Apart for the same reason.

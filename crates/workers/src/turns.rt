@@ -1,4 +1,4 @@
-ghost use Rattle.std.specs.Prelude.{◌≡◌, ◌<◌, ◌≤◌, [], ◌∷◌, vec_len, take, false, IfOk, MatchBool};
+ghost use Rattle.std.specs.Prelude.{◌≡◌, ◌<◌, ◌≤◌, [], ◌∷◌, vec_len, take, true, false, IfOk, MatchBool};
 ghost use Rattle.machine.specs.ThreadSets.{set_of};
 ghost use Rattle.workers.specs.BucketWaiters.{nobody};
 ghost use Rattle.workers.specs.Taken.{AreTurns, IsTurn, IsGrown, StartsAt, idle};
@@ -7,6 +7,7 @@ use crate::ahead::Ahead;
 use crate::bucket_waiters::BucketWaiters;
 use crate::image_ref::ImageRef;
 use crate::no_words::NoWords;
+use crate::put_off::PutOff;
 use crate::shared_run::WakeReason;
 use locals::{NextStep, Request};
 use runner::{Piece, RunName};
@@ -38,6 +39,8 @@ pub struct Turns<J: RunName> {
     pub wake_reason: WakeReason,
     /// Who waited for a bucket until one was given up.
     pub freed: BucketWaiters,
+    /// Whom an entry before woke, and its worker hasn't called yet.
+    pub put_off: PutOff,
     /// How many entries were made since its worker gave precedence up.
     pub entries: usize,
     /// What its worker does ahead of the machine.
@@ -60,6 +63,7 @@ impl<J: RunName> Turns<J> {
             taken: 0,
             wake_reason: WakeReason::new(),
             freed: BucketWaiters::new(),
+            put_off: PutOff::new(),
             entries: 0,
             ahead: Ahead::new(alloc, t)?,
             nothing,
@@ -95,16 +99,27 @@ impl<J: RunName> Turns<J> {
         self.entries >= MANY_ENTRIES
     }
 
-    /// Notes that the first piece came in as an access, and its worker has precedence or not. Behind many such entries it goes
-    /// ahead.
+    /// Notes that the first piece came in as an access, and its worker has precedence or not. Behind many such entries, with no
+    /// call put off, it goes ahead.
     pub fn note_access(&mut self, keeps: bool, image_ref: &ImageRef<J>)
         ensures { self.new.pieces ≡ self.old.pieces }
     {
-        if keeps {
+        if keeps && self.put_off.is_empty() {
             self.ahead.note(&self.pieces[0], image_ref.memory);
         } else {
             self.ahead.stop();
         }
+    }
+
+    /// Counts one more entry for the calls that were put off, and answers whether they are due behind it: where it gives a lock
+    /// up, where many local steps were taken, and behind many entries.
+    pub fn is_call_due(&mut self, image_ref: &ImageRef<J>) -> bool
+        ensures same { (self.new.pieces ≡ self.old.pieces) × (self.new.taken ≡ self.old.taken)
+            × (self.new.put_off ≡ self.old.put_off) }
+        ensures none { self.old.put_off ≡ set_of [] → result ≡ false }
+    {
+        !self.put_off.is_empty()
+            && (self.put_off.count() || !self.are_few() || self.give_lock_up(image_ref))
     }
 
     // Whether the next step is a swap, by which a lock is given up.
@@ -122,6 +137,13 @@ impl<J: RunName> Turns<J> {
             × (self.now.wake_reason.forked ≡ false) × (self.now.freed ≡ nobody) }
     {
         self.wake_reason.forked || !self.wake_reason.woken.is_empty() || !self.freed.is_empty()
+    }
+
+    /// Whether it concerns the threads that it woke, and nobody else: their calls may be put off.
+    pub fn may_put_off(&self) -> bool
+        ensures { result ≡ true → (self.now.wake_reason.forked ≡ false) × (self.now.freed ≡ nobody) }
+    {
+        !self.wake_reason.forked && self.freed.is_empty()
     }
 
     /// Takes turns from the first piece on, until another step than a local one comes, or there is no piece left. The

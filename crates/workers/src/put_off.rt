@@ -1,0 +1,72 @@
+ghost use Rattle.std.specs.Prelude.{◌≡◌, ◌≢◌, [], MatchBool};
+ghost use Rattle.machine.specs.ThreadSets.{set_of};
+
+use machine::ThreadSet;
+use std::marker::Model;
+
+// A call is put off for so many further entries at most: as many as a call of a monitor's procedure takes.
+const MOST_ENTRIES: u32 = 16;
+
+/// Threads that an entry woke and whose workers weren't called yet. A thread that is woken inside a monitor mostly waits for
+/// its lock next: so its worker is called when the one that wakes it gives a lock up, and not before. Contracts see the
+/// threads.
+#[derive(Drop)]
+pub struct PutOff {
+    woken: ThreadSet,
+    // For how many entries.
+    entries: u32,
+}
+
+impl Model for PutOff {
+    ghost use Rattle.machine.specs.declared.thread_set.ThreadSet.{ThreadSet};
+
+    ghost Value = { ThreadSet };
+
+    ghost view = { λ p. p.woken };
+}
+
+impl PutOff {
+    /// No call is put off.
+    pub fn new() -> PutOff
+        ensures { result ≡ set_of [] }
+    {
+        PutOff {
+            woken: ThreadSet::new(),
+            entries: 0,
+        }
+    }
+
+    /// Whether none is.
+    pub fn is_empty(&self) -> bool
+        ensures { MatchBool result (self.now ≡ set_of []) (self.now ≢ set_of []) }
+    {
+        self.woken.is_empty()
+    }
+
+    /// Puts the calls of these threads' workers off. Those that were put off before have been made.
+    pub fn put(&mut self, woken: &ThreadSet)
+        requires { self.old ≡ set_of [] }
+        ensures { self.new ≡ woken.now }
+    {
+        self.woken = *woken;
+        self.entries = 0;
+    }
+
+    /// Counts an entry more, and answers whether they were put off for many.
+    pub fn count(&mut self) -> bool
+        ensures { self.new ≡ self.old }
+    {
+        self.entries = self.entries.saturating_add(1);
+        self.entries > MOST_ENTRIES
+    }
+
+    /// Takes the threads, whose workers are to be called now.
+    pub fn take(&mut self) -> ThreadSet
+        ensures taken { result ≡ self.old }
+        ensures none { self.new ≡ set_of [] }
+    {
+        let woken = self.woken;
+        self.woken.clear();
+        woken
+    }
+}
