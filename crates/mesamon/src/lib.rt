@@ -43,3 +43,4 @@ pub use source_log::{SourceLogFault, explain_log_text, replay_log_text};
 pub use source_run::{RunSourceFault, run_by_seed, run_in_order, run_source};
 pub use source_search::{Progress, Untold};
 pub use status::Status;
+pub use workers::Calls;

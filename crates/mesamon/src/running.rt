@@ -25,6 +25,7 @@ use std::rt::Files;
 use std::sync::Wait;
 use std::thread::Threads;
 use words::OpenGate;
+use workers::Calls;
 
 /// Runs the source text of a file.
 pub fn run_file<'a, R: Files + AllocGlobal + Threads + Wait + Sync, O: Write, E: Write>(
@@ -85,7 +86,7 @@ fn run_by<R: AllocGlobal + Threads + Wait + Sync>(
     ensures { IfOk result (λ report. IsRunOfText text.now (outside_by order) steps report) }
 {
     match order {
-        Order::Workers => run_source(rt, rt.alloc(), text, steps, &OpenGate),
+        Order::Workers => { run_source(rt, rt.alloc(), text, steps, Calls::PutOff, &OpenGate) },
         Order::InOrder => run_in_order(rt.alloc(), text, steps, &OpenGate),
         Order::Seed {
             seed,
@@ -123,7 +124,7 @@ fn run_image<R: AllocGlobal + Threads + Wait + Sync>(
     ensures { IfOk result (λ report. IsReport image.now (outside_by order) steps report) }
 {
     match order {
-        Order::Workers => workers::run(rt, rt.alloc(), image, steps, &OpenGate),
+        Order::Workers => { workers::run(rt, rt.alloc(), image, steps, Calls::PutOff, &OpenGate) },
         Order::InOrder => runner::run_in_order(rt.alloc(), image, steps, &OpenGate),
         Order::Seed {
             seed,

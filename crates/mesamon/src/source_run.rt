@@ -15,6 +15,7 @@ use std::sync::Wait;
 use std::thread::Threads;
 use thiserror::Error;
 use words::Gate;
+use workers::Calls;
 
 /// Why a source text was not run to an end.
 #[derive(Clone, Copy, PartialEq, Eq, Debug, Error)]
@@ -44,7 +45,8 @@ impl From<RunFault> for RunSourceFault {
 }
 
 /// Compiles a source text and runs its image within a limit of steps, with a worker for each thread, as `workers::run`
-/// does. The gate is passed before each entry of the log, with the number of its thread.
+/// does. The gate is passed before each entry of the log, with the number of its thread; `calls` says when a worker calls
+/// those whose threads it woke.
 ///
 /// Some run of the text's program explains the report: it has the same output and the same ends of processes, and
 /// where no thread can move, none of its processes can. No wake comes from outside. A text that `compile` refuses has
@@ -56,6 +58,7 @@ pub fn run_source<R: Threads + Wait + Sync, G: Gate>(
     alloc: Global,
     text: &[u8],
     limit: u32,
+    calls: Calls,
     gate: &G,
 ) -> Result<Report, RunSourceFault>
     ensures report { IfOk result (λ report. IsRunOfText text.now nothing_outside limit report) }
@@ -66,7 +69,7 @@ pub fn run_source<R: Threads + Wait + Sync, G: Gate>(
 {
     logs_are_machine_runs();
     let image = compile(alloc, text)?;
-    Ok(workers::run(rt, alloc, &image, limit, gate)?)
+    Ok(workers::run(rt, alloc, &image, limit, calls, gate)?)
 }
 
 /// The same on the calling thread, as `runner::run_in_order` does: round after round, an entry of each thread that

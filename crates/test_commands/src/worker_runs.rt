@@ -1,6 +1,6 @@
 use crate::lists::failure::Failure;
 use log_text::append_log;
-use mesamon::{ExplainedRun, explain_log_text, run_source};
+use mesamon::{Calls, ExplainedRun, explain_log_text, run_source};
 use runner::Report;
 use source_states::accepts;
 use std::alloc::Global;
@@ -49,7 +49,7 @@ fn is_explained<R: AllocGlobal + Threads + Wait + Sync>(
     rt: &R,
     text: &[u8],
 ) -> Result<bool, Failure> {
-    match run_source(rt, rt.alloc(), text, STEPS, &OpenGate) {
+    match run_source(rt, rt.alloc(), text, STEPS, Calls::PutOff, &OpenGate) {
         Ok(report) => is_report_explained(rt.alloc(), text, &report),
         Err(_) => Ok(false),
     }

@@ -65,6 +65,7 @@ use std::str::SplitWhitespace;
 use std::sync::Wait;
 use std::thread::Threads;
 use words::OpenGate;
+use workers::Calls;
 
 // How often a worker looks for the other at the gate.
 const TURNS: u32 = 10_000_000;
@@ -142,7 +143,7 @@ fn run_workers<R: Threads + Wait + Sync + Print>(
     image: &Image,
     limit: u32,
 ) -> Result<(), Failure> {
-    let report = workers::run(rt, alloc, image, limit, &OpenGate)?;
+    let report = workers::run(rt, alloc, image, limit, Calls::PutOff, &OpenGate)?;
     show_end(rt, &report)?;
     Ok(())
 }
@@ -154,7 +155,7 @@ fn meet_workers<R: Threads + Wait + Sync + Print>(
     limit: u32,
     gate: &Meeting,
 ) -> Result<(), Failure> {
-    let report = workers::run(rt, alloc, image, limit, gate)?;
+    let report = workers::run(rt, alloc, image, limit, Calls::AtOnce, gate)?;
     show_met(rt, gate.was_held(), &report)?;
     Ok(())
 }

@@ -16,4 +16,5 @@ mod running;
 mod shared_run;
 mod turns;
 
+pub use put_off::Calls;
 pub use running::run;

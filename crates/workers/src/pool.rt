@@ -15,7 +15,7 @@ use crate::image_ref::ImageRef;
 use crate::lookout::Lookout;
 use crate::parker::{Called, Parker};
 use crate::precedence::Precedence;
-use crate::put_off::PutOff;
+use crate::put_off::{Calls, PutOff};
 use crate::shared_run::{SharedRun, WakeReason};
 use crate::turns::Turns;
 use crossbeam_utils::CachePadded;
@@ -47,6 +47,7 @@ pub struct Pool<J: RunName> {
     made: Condvar,
     lookout: Lookout,
     precedence: Precedence,
+    calls: Calls,
     ghost parked: { most_threads < vec_len parkers },
 }
 
@@ -55,6 +56,7 @@ impl<J: RunName> Pool<J> {
     pub fn new<R: Threads>(
         rt: &R,
         alloc: Global,
+        calls: Calls,
         shared_run: SharedRun<J>,
     ) -> Result<Pool<J>, AllocError> {
         let mut parkers = Vec::with_capacity(alloc, MOST_THREADS as usize + 1)?;
@@ -67,6 +69,7 @@ impl<J: RunName> Pool<J> {
             made: Condvar::new(),
             lookout: Lookout::new(rt),
             precedence: Precedence::new(),
+            calls,
         })
     }
 
@@ -418,8 +421,8 @@ impl<J: RunName> Pool<J> {
         true
     }
 
-    // Calls whom these turns concern. Where they woke others alone, and the thread goes on, that is put off. Apart, since a note
-    // of who was called is written whole.
+    // Calls whom these turns concern. Where they woke others alone, and the thread goes on, that may be put off. Apart, since a
+    // note of who was called is written whole.
     #[cold]
     #[inline(never)]
     #[tactic(auto, using(crate::proofs::Calling::put_off_so, crate::proofs::Calling::told_so))]
@@ -428,7 +431,7 @@ impl<J: RunName> Pool<J> {
         ensures told { AreToldOrPutOff turns.old.wake_reason.woken turns.old.freed turns.new.put_off result }
         ensures same { turns.new.pieces ≡ turns.old.pieces }
     {
-        if after == After::Goes && turns.may_put_off() {
+        if self.calls == Calls::PutOff && after == After::Goes && turns.may_put_off() {
             turns.put_off.put(&turns.wake_reason.woken);
             return Called::new();
         }

@@ -7,6 +7,17 @@ use std::marker::Model;
 // A call is put off for so many further entries at most: as many as a call of a monitor's procedure takes.
 const MOST_ENTRIES: u32 = 16;
 
+/// When a worker calls the workers of the threads that an entry of its thread woke.
+#[derive(Clone, Copy, PartialEq, Eq, Debug)]
+pub enum Calls {
+    /// As soon as the entry is in the log.
+    AtOnce,
+    /// When its thread gives a lock up, sleeps or ends, or takes many local steps, and behind 16 further entries in any case. It
+    /// takes fewer switches between threads. The gate must not hold a worker up until another one has made an entry: that one
+    /// may not have been called.
+    PutOff,
+}
+
 /// Threads that an entry woke and whose workers weren't called yet. A thread that is woken inside a monitor mostly waits for
 /// its lock next: so its worker is called when the one that wakes it gives a lock up, and not before. Contracts see the
 /// threads.

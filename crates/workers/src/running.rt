@@ -4,6 +4,7 @@ ghost use Rattle.runner.specs.Reports.{IsReport, CanFail};
 
 use crate::image_ref::{ImageRef, RunSequences};
 use crate::pool::Pool;
+use crate::put_off::Calls;
 use crate::shared_run::SharedRun;
 use isa::Image;
 use runner::{PARTS, Report, RunFault, RunName, Shared, finish};
@@ -15,7 +16,8 @@ use std::thread::Threads;
 use words::Gate;
 
 /// Runs an image within a limit of steps, from 0 to 2^32 - 1, with a worker for each thread of the machine that ends
-/// with it. The gate is passed with a thread's number before each entry of it.
+/// with it. The gate is passed with a thread's number before each entry of it, and `calls` says when a worker calls those
+/// whose threads it woke.
 ///
 /// A worker takes local steps by itself, and hands them in under one lock, with the shared step that comes next. The
 /// worker of a thread that sleeps parks until another's entry wakes its thread. One whose entry would pass the limit
@@ -29,12 +31,14 @@ pub fn run<R: Threads + Wait + Sync, G: Gate>(
     alloc: Global,
     image: &Image,
     limit: u32,
+    calls: Calls,
     gate: &G,
 ) -> Result<Report, RunFault>
     ensures ok { IfOk result (λ report. IsReport image.now nothing_outside limit report) }
     ensures err { IfErr result (λ fault. CanFail image.now nothing_outside limit fault) }
 {
-    run_as::<Brand, R, G>(rt, alloc, image, limit, Blank::new(u64::from(PARTS)), gate)
+    let blank = Blank::new(u64::from(PARTS));
+    run_as::<Brand, R, G>(rt, alloc, image, limit, blank, calls, gate)
 }
 
 fn run_as<J: RunName + Send + Sync, R: Threads + Wait + Sync, G: Gate>(
@@ -43,6 +47,7 @@ fn run_as<J: RunName + Send + Sync, R: Threads + Wait + Sync, G: Gate>(
     image: &Image,
     limit: u32,
     blank: Blank,
+    calls: Calls,
     gate: &G,
 ) -> Result<Report, RunFault>
     requires image { image.now ≡ J.program }
@@ -58,7 +63,7 @@ fn run_as<J: RunName + Send + Sync, R: Threads + Wait + Sync, G: Gate>(
     let Some(kept) = shared.share() else {
         unreachable!()
     };
-    let Ok(pool) = Pool::new(rt, alloc, SharedRun::new(shared, kept)) else {
+    let Ok(pool) = Pool::new(rt, alloc, calls, SharedRun::new(shared, kept)) else {
         return Err(RunFault::Memory);
     };
     let Ok(sequences) = RunSequences::new(alloc, image) else {
