@@ -60,7 +60,7 @@ fn show_run<'a, R: Files + AllocGlobal, O: Write>(
     output: &mut Counted<O>,
     told: &mut String,
 ) -> Result<Status, Failure<'a>>
-    requires { IsExplainedAs by.entry text.now.bytes.now run.now }
+    requires { IsExplainedAs by text.now.bytes.now run.now }
     ensures { IfOk result
         (λ s. HasExplained places (HasAll O.contents output.old output.new) s) }
 {
