@@ -86,7 +86,16 @@ fn run_by<R: AllocGlobal + Threads + Wait + Sync>(
     ensures { IfOk result (λ report. IsRunOfText text.now (outside_by order) steps report) }
 {
     match order {
-        Order::Workers => { run_source(rt, rt.alloc(), text, steps, Calls::PutOff, &OpenGate) },
+        Order::Workers => {
+            run_source(
+                rt,
+                rt.alloc(),
+                text,
+                steps,
+                Calls::by_processors(rt),
+                &OpenGate,
+            )
+        },
         Order::InOrder => run_in_order(rt.alloc(), text, steps, &OpenGate),
         Order::Seed {
             seed,
@@ -124,7 +133,16 @@ fn run_image<R: AllocGlobal + Threads + Wait + Sync>(
     ensures { IfOk result (λ report. IsReport image.now (outside_by order) steps report) }
 {
     match order {
-        Order::Workers => { workers::run(rt, rt.alloc(), image, steps, Calls::PutOff, &OpenGate) },
+        Order::Workers => {
+            workers::run(
+                rt,
+                rt.alloc(),
+                image,
+                steps,
+                Calls::by_processors(rt),
+                &OpenGate,
+            )
+        },
         Order::InOrder => runner::run_in_order(rt.alloc(), image, steps, &OpenGate),
         Order::Seed {
             seed,

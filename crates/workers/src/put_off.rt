@@ -3,6 +3,8 @@ ghost use Rattle.machine.specs.ThreadSets.{set_of};
 
 use machine::ThreadSet;
 use std::marker::Model;
+use std::thread;
+use std::thread::Threads;
 
 // A call is put off for so many further entries at most: as many as a call of a monitor's procedure takes.
 const MOST_ENTRIES: u32 = 16;
@@ -12,10 +14,21 @@ const MOST_ENTRIES: u32 = 16;
 pub enum Calls {
     /// As soon as the entry is in the log.
     AtOnce,
-    /// When its thread gives a lock up, sleeps or ends, or takes many local steps, and behind 16 further entries in any case. It
-    /// takes fewer switches between threads. The gate must not hold a worker up until another one has made an entry: that one
-    /// may not have been called.
+    /// When its thread gives a lock up, sleeps or ends, or takes many local steps, and behind 16 further entries in any case. On
+    /// one processor it takes fewer switches between threads. The gate must not hold a worker up until another one has made an
+    /// entry: that one may not have been called.
     PutOff,
+}
+
+impl Calls {
+    /// What takes less time: they are put off where the program may use one processor alone, on which who is called takes the
+    /// place of who calls, and made at once where there are several.
+    pub fn by_processors(rt: &impl Threads) -> Calls {
+        match thread::available_parallelism(rt) {
+            Ok(processors) if processors.get() > 1 => Calls::AtOnce,
+            _ => Calls::PutOff,
+        }
+    }
 }
 
 /// Threads that an entry woke and whose workers weren't called yet. A thread that is woken inside a monitor mostly waits for
