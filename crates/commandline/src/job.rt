@@ -18,7 +18,7 @@ use std::alloc::Global;
 use words::ImageVersion;
 
 /// What a command line asks for.
-#[derive(Clone, Copy, PartialEq, Eq, Debug)]
+#[derive(Clone, Copy)]
 pub enum Job<'a> {
     /// Check the source text of a file.
     Check {

@@ -2,7 +2,7 @@
 pub(crate) const MOST_WORKERS: u32 = 64;
 
 /// Who moves the threads of a run, and in which order.
-#[derive(Clone, Copy, PartialEq, Eq, Debug)]
+#[derive(Clone, Copy)]
 pub enum Order {
     /// A worker for each thread: which goes next is the operating system's choice.
     Workers,
@@ -20,7 +20,7 @@ pub enum Order {
 }
 
 /// How a run goes, and what is kept of it.
-#[derive(Clone, Copy, PartialEq, Eq, Debug)]
+#[derive(Clone, Copy)]
 pub struct RunOptions<'a> {
     /// The most steps of the machine.
     pub steps: u32,
@@ -33,7 +33,7 @@ pub struct RunOptions<'a> {
 }
 
 /// Where a run is drawn, and which of its actions. They count from 1.
-#[derive(Clone, Copy, PartialEq, Eq, Debug)]
+#[derive(Clone, Copy)]
 pub struct ChartOptions<'a> {
     /// The name of the picture's file.
     pub out: &'a str,
@@ -44,7 +44,7 @@ pub struct ChartOptions<'a> {
 }
 
 /// What a replay goes by.
-#[derive(Clone, Copy, PartialEq, Eq, Debug)]
+#[derive(Clone, Copy)]
 pub enum ReplayedBy<'a> {
     /// A schedule.
     Schedule {
@@ -58,7 +58,7 @@ pub enum ReplayedBy<'a> {
 }
 
 /// Which run is explained.
-#[derive(Clone, Copy, PartialEq, Eq, Debug)]
+#[derive(Clone, Copy)]
 pub enum ExplainedBy<'a> {
     /// That in a fixed order.
     Order {

@@ -1,4 +1,5 @@
 use crate::names::{append_member, append_monitor, append_text};
+use crate::text::Text;
 use itoa::Buffer;
 use program::{Member, Names, Program, Role};
 use std::alloc::{AllocError, Global};
@@ -7,7 +8,7 @@ use std::alloc::{AllocError, Global};
 #[derive(Drop)]
 pub(crate) struct Body<'c, 'n> {
     /// What was written.
-    pub out: Vec<u8>,
+    pub out: Text,
     /// The program.
     pub program: &'c Program,
     /// The names that the text gave.
@@ -29,7 +30,7 @@ impl<'c, 'n> Body<'c, 'n> {
         role: Role,
     ) -> Body<'c, 'n> {
         Body {
-            out: Vec::new(alloc),
+            out: Text::new(alloc),
             program,
             names,
             role,
@@ -39,50 +40,50 @@ impl<'c, 'n> Body<'c, 'n> {
     }
 
     /// Writes a text.
-    pub fn text(&mut self, text: &str) -> Result<(), AllocError> {
+    pub fn text(&mut self, text: &str) {
         append_text(&mut self.out, text)
     }
 
     /// Writes a number.
-    pub fn number(&mut self, number: u32) -> Result<(), AllocError> {
+    pub fn number(&mut self, number: u32) {
         self.out
             .extend_from_slice(Buffer::new().format(number).as_bytes())
     }
 
     /// Writes a text, and a number behind it.
-    pub fn numbered(&mut self, text: &str, number: u32) -> Result<(), AllocError> {
-        self.text(text)?;
+    pub fn numbered(&mut self, text: &str, number: u32) {
+        self.text(text);
         self.number(number)
     }
 
     /// Writes what a member is called.
-    pub fn member(&mut self, member: Member) -> Result<(), AllocError> {
+    pub fn member(&mut self, member: Member) {
         append_member(&mut self.out, self.names, member)
     }
 
     /// Writes a text, and the lock of a monitor behind it.
-    pub fn lock(&mut self, text: &str, monitor: u32) -> Result<(), AllocError> {
-        self.text(text)?;
-        append_monitor(&mut self.out, self.names, monitor)?;
+    pub fn lock(&mut self, text: &str, monitor: u32) {
+        self.text(text);
+        append_monitor(&mut self.out, self.names, monitor);
         self.text(".monitor")
     }
 
     /// Begins a line, with this text.
-    pub fn line(&mut self, text: &str) -> Result<(), AllocError> {
+    pub fn line(&mut self, text: &str) {
         for _block in 0..self.blocks {
-            append_text(&mut self.out, "    ")?;
+            append_text(&mut self.out, "    ");
         }
         self.text(text)
     }
 
     /// Opens a block at the end of a line that ends with this text.
-    pub fn open(&mut self, text: &str) -> Result<(), AllocError> {
+    pub fn open(&mut self, text: &str) {
         self.blocks = self.blocks.saturating_add(1);
         self.text(text)
     }
 
     /// Closes a block, with this text on the line.
-    pub fn close(&mut self, text: &str) -> Result<(), AllocError> {
+    pub fn close(&mut self, text: &str) {
         self.blocks = self.blocks.saturating_sub(1);
         self.line(text)
     }

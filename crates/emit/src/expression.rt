@@ -24,16 +24,15 @@ fn function_of(operator: Operator) -> &'static str {
 }
 
 // Begins the call that is an operator.
-fn begin_operator(operator: Operator, body: &mut Body) -> Result<(), AllocError> {
-    body.text(function_of(operator))?;
+fn begin_operator(operator: Operator, body: &mut Body) {
+    body.text(function_of(operator));
     if may_fail(operator) {
         return body.text("self, ");
     }
-    Ok(())
 }
 
 // Begins the call that is an operator before its operand.
-fn begin_unary(operator: UnaryOperator, body: &mut Body) -> Result<(), AllocError> {
+fn begin_unary(operator: UnaryOperator, body: &mut Body) {
     match operator {
         UnaryOperator::Negate => body.text("mesa_negate(self, "),
         UnaryOperator::Not => body.text("mesa_not("),
@@ -41,23 +40,23 @@ fn begin_unary(operator: UnaryOperator, body: &mut Body) -> Result<(), AllocErro
 }
 
 /// Begins the call that finds an element of an array.
-pub(crate) fn begin_element(array: Member, body: &mut Body) -> Result<(), AllocError> {
+pub(crate) fn begin_element(array: Member, body: &mut Body) {
     let size = size_of_array(body.program, array);
-    body.text("mesa_element(self, ")?;
-    body.member(array)?;
-    body.numbered(", ", size)?;
+    body.text("mesa_element(self, ");
+    body.member(array);
+    body.numbered(", ", size);
     body.text(", ")
 }
 
 // Writes where a value is kept, at this depth.
-fn kept_at(depth: u32, body: &mut Body) -> Result<(), AllocError> {
-    body.numbered("kept[", depth)?;
+fn kept_at(depth: u32, body: &mut Body) {
+    body.numbered("kept[", depth);
     body.text("]")
 }
 
 // Writes an operand, or where its value was kept.
 #[cycle(express)]
-fn operand(e: &Expression, kept: bool, depth: u32, body: &mut Body) -> Result<(), AllocError> {
+fn operand(e: &Expression, kept: bool, depth: u32, body: &mut Body) {
     if kept {
         return kept_at(depth, body);
     }
@@ -66,33 +65,33 @@ fn operand(e: &Expression, kept: bool, depth: u32, body: &mut Body) -> Result<()
 
 /// Writes an expression, where the values that it wants were kept from this depth on.
 #[cycle(express)]
-pub(crate) fn express(e: &Expression, depth: u32, body: &mut Body) -> Result<(), AllocError> {
+pub(crate) fn express(e: &Expression, depth: u32, body: &mut Body) {
     match e {
         Expression::Number(number) => body.number(*number),
         Expression::Truth(truth) => body.text(if *truth { "1" } else { "0" }),
         Expression::Local(slot) => body.numbered("local_", *slot),
         Expression::Member(member) => body.member(*member),
         Expression::Element(element) => {
-            body.text("*")?;
-            begin_element(element.array, body)?;
-            operand(&element.index, is_long(&element.index), depth, body)?;
+            body.text("*");
+            begin_element(element.array, body);
+            operand(&element.index, is_long(&element.index), depth, body);
             body.text(")")
         }
         Expression::Unary(operator, inner) => {
-            begin_unary(*operator, body)?;
-            operand(inner, is_long(inner), depth, body)?;
+            begin_unary(*operator, body);
+            operand(inner, is_long(inner), depth, body);
             body.text(")")
         }
         Expression::Both(both) => {
-            begin_operator(both.operator, body)?;
-            operand(&both.left, keeps_left(both), depth, body)?;
-            body.text(", ")?;
+            begin_operator(both.operator, body);
+            operand(&both.left, keeps_left(both), depth, body);
+            body.text(", ");
             operand(
                 &both.right,
                 is_long(&both.right),
                 depth.saturating_add(1),
                 body,
-            )?;
+            );
             body.text(")")
         }
     }
@@ -100,30 +99,29 @@ pub(crate) fn express(e: &Expression, depth: u32, body: &mut Body) -> Result<(),
 
 // Keeps the value of an operand at this depth, where it has to be.
 #[cycle(settle)]
-fn keep(e: &Expression, kept: bool, depth: u32, body: &mut Body) -> Result<(), AllocError> {
+fn keep(e: &Expression, kept: bool, depth: u32, body: &mut Body) {
     if !kept {
-        return Ok(());
+        return;
     }
-    settle(e, depth, body)?;
-    body.line("")?;
-    kept_at(depth, body)?;
-    body.text(" = ")?;
-    express(e, depth, body)?;
-    body.text(";\n")?;
+    settle(e, depth, body);
+    body.line("");
+    kept_at(depth, body);
+    body.text(" = ");
+    express(e, depth, body);
+    body.text(";\n");
     body.kept = body.kept.max(depth.saturating_add(1));
-    Ok(())
 }
 
 /// Writes the statements that keep the values which an expression wants, from this depth on.
 #[cycle(settle)]
-pub(crate) fn settle(e: &Expression, depth: u32, body: &mut Body) -> Result<(), AllocError> {
+pub(crate) fn settle(e: &Expression, depth: u32, body: &mut Body) {
     match e {
         Expression::Element(element) => {
             keep(&element.index, is_long(&element.index), depth, body)
         }
         Expression::Unary(_, inner) => keep(inner, is_long(inner), depth, body),
         Expression::Both(both) => {
-            keep(&both.left, keeps_left(both), depth, body)?;
+            keep(&both.left, keeps_left(both), depth, body);
             keep(
                 &both.right,
                 is_long(&both.right),
@@ -131,31 +129,25 @@ pub(crate) fn settle(e: &Expression, depth: u32, body: &mut Body) -> Result<(), 
                 body,
             )
         }
-        _ => Ok(()),
+        _ => {}
     }
 }
 
 /// Writes the statements that keep the values which arguments want.
-pub(crate) fn settle_arguments(es: &[Expression], body: &mut Body) -> Result<(), AllocError> {
+pub(crate) fn settle_arguments(es: &[Expression], body: &mut Body) {
     let mut depth: u32 = 0;
     for e in es {
-        keep(e, keeps_argument(e, es.len()), depth, body)?;
+        keep(e, keeps_argument(e, es.len()), depth, body);
         depth = depth.saturating_add(1);
     }
-    Ok(())
 }
 
 /// Writes arguments, with a text before each, and another before the first.
-pub(crate) fn express_arguments(
-    es: &[Expression],
-    first: &str,
-    body: &mut Body,
-) -> Result<(), AllocError> {
+pub(crate) fn express_arguments(es: &[Expression], first: &str, body: &mut Body) {
     let mut depth: u32 = 0;
     for e in es {
-        body.text(if depth == 0 { first } else { ", " })?;
-        operand(e, keeps_argument(e, es.len()), depth, body)?;
+        body.text(if depth == 0 { first } else { ", " });
+        operand(e, keeps_argument(e, es.len()), depth, body);
         depth = depth.saturating_add(1);
     }
-    Ok(())
 }

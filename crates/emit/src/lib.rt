@@ -10,6 +10,7 @@ mod procedure;
 mod shape;
 mod simple;
 mod statement;
+mod text;
 mod unit;
 
 pub use unit::emit;

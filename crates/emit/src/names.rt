@@ -1,55 +1,44 @@
+use crate::text::Text;
 use program::{Member, MemberType, Names, Program};
 use std::alloc::AllocError;
 
 /// Appends a text.
-pub(crate) fn append_text(out: &mut Vec<u8>, text: &str) -> Result<(), AllocError> {
+pub(crate) fn append_text(out: &mut Text, text: &str) {
     out.extend_from_slice(text.as_bytes())
 }
 
 /// Appends what a monitor is called in C: its name, which has no underscore, and one, so that it is no other name.
-pub(crate) fn append_monitor(
-    out: &mut Vec<u8>,
-    names: &Names,
-    monitor: u32,
-) -> Result<(), AllocError> {
+pub(crate) fn append_monitor(out: &mut Text, names: &Names, monitor: u32) {
     match names.monitors.get(monitor as usize) {
         None => append_text(out, "unnamed_"),
         Some(naming) => {
-            out.extend_from_slice(naming.name)?;
+            out.extend_from_slice(naming.name);
             append_text(out, "_")
         }
     }
 }
 
 // Appends what a member is called in its monitor.
-fn append_own_name(out: &mut Vec<u8>, names: &Names, member: Member) -> Result<(), AllocError> {
+fn append_own_name(out: &mut Text, names: &Names, member: Member) {
     let Some(naming) = names.monitors.get(member.monitor as usize) else {
-        return Ok(());
+        return;
     };
     match naming.members.get(member.number as usize) {
-        None => Ok(()),
+        None => {}
         Some(name) => out.extend_from_slice(name),
     }
 }
 
 /// Appends what a member is called within its monitor's struct.
-pub(crate) fn append_field(
-    out: &mut Vec<u8>,
-    names: &Names,
-    member: Member,
-) -> Result<(), AllocError> {
-    append_own_name(out, names, member)?;
+pub(crate) fn append_field(out: &mut Text, names: &Names, member: Member) {
+    append_own_name(out, names, member);
     append_text(out, "_")
 }
 
 /// Appends what a member is called in C.
-pub(crate) fn append_member(
-    out: &mut Vec<u8>,
-    names: &Names,
-    member: Member,
-) -> Result<(), AllocError> {
-    append_monitor(out, names, member.monitor)?;
-    append_text(out, ".")?;
+pub(crate) fn append_member(out: &mut Text, names: &Names, member: Member) {
+    append_monitor(out, names, member.monitor);
+    append_text(out, ".");
     append_field(out, names, member)
 }
 

@@ -8,83 +8,70 @@ use program::{Expression, Statement};
 use std::alloc::AllocError;
 
 // Writes a test, and opens the block that is done where it holds.
-fn begin_if(condition: &Expression, body: &mut Body) -> Result<(), AllocError> {
-    settle(condition, 0, body)?;
-    body.line("if (")?;
-    express(condition, 0, body)?;
+fn begin_if(condition: &Expression, body: &mut Body) {
+    settle(condition, 0, body);
+    body.line("if (");
+    express(condition, 0, body);
     body.open(") {\n")
 }
 
 // A test, and what is done where it holds, without the end of its block.
 #[cycle(statements)]
-fn then_part(
-    statements: &[Statement],
-    condition: &Expression,
-    body: &mut Body,
-) -> Result<(), AllocError> {
-    begin_if(condition, body)?;
+fn then_part(statements: &[Statement], condition: &Expression, body: &mut Body) {
+    begin_if(condition, body);
     block(statements, body)
 }
 
 // What is done where a test doesn't hold.
 #[cycle(statements)]
-fn else_part(statements: &[Statement], body: &mut Body) -> Result<(), AllocError> {
-    body.close("")?;
-    body.open("} else {\n")?;
+fn else_part(statements: &[Statement], body: &mut Body) {
+    body.close("");
+    body.open("} else {\n");
     block(statements, body)
 }
 
 // Opens the block of a WHILE; a test for which values are kept stands within it.
-fn begin_while(condition: &Expression, body: &mut Body) -> Result<(), AllocError> {
+fn begin_while(condition: &Expression, body: &mut Body) {
     if !is_long(condition) {
-        body.line("while (")?;
-        express(condition, 0, body)?;
+        body.line("while (");
+        express(condition, 0, body);
         return body.open(") {\n");
     }
-    body.line("")?;
-    body.open("for (;;) {\n")?;
-    settle(condition, 0, body)?;
-    body.line("if (!")?;
-    express(condition, 0, body)?;
-    body.text(")\n")?;
+    body.line("");
+    body.open("for (;;) {\n");
+    settle(condition, 0, body);
+    body.line("if (!");
+    express(condition, 0, body);
+    body.text(")\n");
     body.line("    break;\n")
 }
 
 // A WHILE.
 #[cycle(statements)]
-fn while_statement(
-    statements: &[Statement],
-    condition: &Expression,
-    body: &mut Body,
-) -> Result<(), AllocError> {
-    begin_while(condition, body)?;
-    block(statements, body)?;
+fn while_statement(statements: &[Statement], condition: &Expression, body: &mut Body) {
+    begin_while(condition, body);
+    block(statements, body);
     body.close("}\n")
 }
 
 // A JOIN with an ABORTED part.
 #[cycle(statements)]
-fn join_aborted(
-    aborted: &[Statement],
-    handle: &Expression,
-    into: Option<u32>,
-    body: &mut Body,
-) -> Result<(), AllocError> {
-    begin_join(handle, into, body)?;
-    block(aborted, body)?;
+fn join_aborted(aborted: &[Statement], handle: &Expression, into: Option<u32>, body: &mut Body) {
+    begin_join(handle, into, body);
+    block(aborted, body);
     body.close("}\n")
 }
 
 // A JOIN without an ABORTED part.
-fn join_alone(handle: &Expression, into: Option<u32>, body: &mut Body) -> Result<(), AllocError> {
-    begin_join(handle, into, body)?;
-    body.line("mesa_fault(self, MESA_JOINED_ABORTED);\n")?;
+fn join_alone(handle: &Expression, into: Option<u32>, body: &mut Body) {
+    begin_join(handle, into, body);
+    body.line("mesa_fault(self, MESA_JOINED_ABORTED);\n");
     body.close("}\n")
 }
 
 // A statement.
 #[cycle(statements)]
-fn statement(s: &Statement, body: &mut Body) -> Result<(), AllocError> {
+fn statement(s: &Statement, body: &mut Body) {
     match s {
         Statement::Assign(target, e) => assignment(target, e, body),
         Statement::If {
@@ -92,9 +79,9 @@ fn statement(s: &Statement, body: &mut Body) -> Result<(), AllocError> {
             then_part: statements,
             else_part: others,
         } => {
-            then_part(statements, condition, body)?;
+            then_part(statements, condition, body);
             if let Some(others) = others {
-                else_part(others, body)?;
+                else_part(others, body);
             }
             body.close("}\n")
         }
@@ -131,9 +118,8 @@ fn statement(s: &Statement, body: &mut Body) -> Result<(), AllocError> {
 
 /// Statements, one after another.
 #[cycle(statements)]
-pub(crate) fn block(statements: &[Statement], body: &mut Body) -> Result<(), AllocError> {
+pub(crate) fn block(statements: &[Statement], body: &mut Body) {
     for s in statements {
-        statement(s, body)?;
+        statement(s, body);
     }
-    Ok(())
 }

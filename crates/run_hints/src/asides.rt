@@ -214,9 +214,19 @@ pub fn asides_of(
 ) -> Result<Vec<String>, AllocError> {
     let places = places_of(alloc, text)?;
     let mut follower = Follower::opening(alloc, checked, &places)?;
+    asides_from(alloc, file, checked.names(), &mut follower, actions)
+}
+
+fn asides_from(
+    alloc: Global,
+    file: &str,
+    names: &Names<'_>,
+    follower: &mut Follower<'_, '_>,
+    actions: &[Action],
+) -> Result<Vec<String>, AllocError> {
     let mut asides = Vec::new(alloc);
     for action in actions {
-        let Some(aside) = aside_of(alloc, file, checked.names(), &mut follower, action)? else {
+        let Some(aside) = aside_of(alloc, file, names, follower, action)? else {
             break;
         };
         asides.push(aside)?;

@@ -134,8 +134,18 @@ pub fn end_hints(
 ) -> Result<String, AllocError> {
     let places = places_of(alloc, text)?;
     let mut follower = Follower::opening(alloc, checked, &places)?;
+    hints_of(alloc, file, &mut follower, checked.names(), actions)
+}
+
+fn hints_of(
+    alloc: Global,
+    file: &str,
+    follower: &mut Follower<'_, '_>,
+    names: &Names<'_>,
+    actions: &[Action],
+) -> Result<String, AllocError> {
     follower.pass_all(actions)?;
     let mut out = String::new(alloc);
-    append_all(alloc, &mut out, file, &follower, checked.names())?;
+    append_all(alloc, &mut out, file, follower, names)?;
     Ok(out)
 }

@@ -2,7 +2,7 @@ use crate::ends::append_process;
 use crate::follower::Follower;
 use crate::names::append_number;
 use places::places_of;
-use program::Checked;
+use program::{Checked, Names};
 use source_states::Action;
 use std::alloc::{AllocError, Global};
 
@@ -74,15 +74,43 @@ pub fn entry_hints(
 ) -> Result<String, AllocError> {
     let places = places_of(alloc, text)?;
     let mut follower = Follower::opening(alloc, checked, &places)?;
+    hints_behind(
+        alloc,
+        file,
+        &mut follower,
+        checked.names(),
+        actions,
+        refused,
+    )
+}
+
+fn hints_behind(
+    alloc: Global,
+    file: &str,
+    follower: &mut Follower<'_, '_>,
+    names: &Names<'_>,
+    actions: &[Action],
+    refused: Refused,
+) -> Result<String, AllocError> {
     follower.pass_all(actions)?;
     let mut out = String::new(alloc);
+    append_hints(&mut out, file, follower, names, refused)?;
+    Ok(out)
+}
+
+// Appends the hints to an entry that is refused where a run has come to.
+fn append_hints(
+    out: &mut String,
+    file: &str,
+    follower: &Follower<'_, '_>,
+    names: &Names<'_>,
+    refused: Refused,
+) -> Result<(), AllocError> {
     let process = u64::from(refused.thread());
     let made = follower.state.made();
     if process == 0 || process > made {
-        append_unmade(&mut out, process, made)?;
-        return Ok(out);
+        return append_unmade(out, process, made);
     }
-    append_refusal(&mut out, &follower, refused, process)?;
-    append_process(&mut out, file, &follower, checked.names(), process)?;
-    Ok(out)
+    append_refusal(out, follower, refused, process)?;
+    append_process(out, file, follower, names, process)
 }

@@ -1,7 +1,7 @@
 -- Entries that are taken by the threads and counts of others, and those that can't be.
 use Rattle.std.proofs.Common.{◌≡◌, ℕ, ◌+◌, ◌<◌, ◌≤◌, ◌^◌, ◌⊎◌, List, [], ◌∷◌, ◌++◌, map, take, length, Bool, true}
 use Rattle.std.proofs.Common.{false, Option, Some, None, is_some, Result, Ok, Err, get_or, refl, ap, sym}
-use Rattle.std.proofs.Common.{◌∙◌, subst, arith, inl, inr}
+use Rattle.std.proofs.Common.{◌∙◌, subst, arith, inl, inr, is_ok, IfOk, IfErr}
 use Rattle.std.proofs.lemmas.List.{take_more, take_all, map-append}
 use Rattle.std.proofs.lemmas.List.Sums.{sum_by-append}
 use Rattle.std.proofs.lemmas.Option.{slice_get-get_or}
@@ -18,7 +18,9 @@ use Rattle.piece_machine.specs.PieceViews.{PieceView as MachineView, parts}
 use Rattle.machine.specs.declared.event.StepFault.{StepFault}
 use Rattle.machine.proofs.Placing.{thread_at-put}
 use Rattle.runner.specs.declared.report.Report.{Report}
-use Rattle.runner.specs.LogSchedules.{Shape, shape_of, FollowsLog, IsFollowedLog, CannotTake, IsBadLogEntry}
+use Rattle.runner.specs.LogSchedules.{Shape, shape_of, FollowsLog, IsFollowedLog, CannotTake, IsBadLogEntry, FailsLogAt}
+use Rattle.runner.specs.declared.log_schedule.FollowLogFault.{FollowLogFault}
+use Rattle.runner.specs.declared.log_schedule.FollowLogFault.TheVariants.{Memory}
 use Rattle.runner.specs.Logs.{Runs, Enters, EntersOwn, EntersOutside, Ends, cost, event_cost, opening}
 use Rattle.runner.specs.Logs.{is_kill, is_killing, is_outside}
 use Rattle.runner.specs.Reports.{IsVerdict}
@@ -221,3 +223,31 @@ followed_log p entries i log last r past f program logged same output verdict =
       output = output ∙ ap (λ (v : MachineView). v.view.output) (sym same);
       verdict = subst (λ (v : MachineView). IsVerdict (concrete v.view) r.verdict) (sym same) verdict;
     }
+
+-- the same, where all entries were followed
+pub followed_all : (p : Program) (entries : List Entry) (log : List Entry) (last : MachineView) (r : Report)
+    → FollowsLog p (map shape_of entries) log (parts last)
+    → last.view.program ≡ p → r.log.items ≡ log → r.last ≡ last → r.output.items ≡ last.view.output
+    → IsVerdict (concrete last.view) r.verdict → IsFollowedLog p entries r
+followed_all p entries log last r all program logged same output verdict =
+    let of_log : FollowsLog p (map shape_of entries) r.log.items (parts last) =
+    subst (λ (es : List Entry). FollowsLog p (map shape_of entries) es (parts last)) (sym logged) all in
+    record {
+      follows = subst (λ (v : MachineView). FollowsLog p (map shape_of entries) r.log.items (parts v)) (sym same) of_log;
+      program = ap (λ (v : MachineView). v.view.program) same ∙ program;
+      output = output ∙ ap (λ (v : MachineView). v.view.output) (sym same);
+      verdict = subst (λ (v : MachineView). IsVerdict (concrete v.view) r.verdict) (sym same) verdict;
+    }
+
+-- what holds where there was no error
+pub on_ok : {T E : Type 0} (r : Result T E) (P : Type 0) → is_ok r ≡ true → IfOk r (λ (x : T). P) → P
+on_ok (Ok x) P ok p = p
+on_ok (Err e) P ok p = absurd cc
+
+-- what is refused behind entries that were followed, or as they were
+pub fails_behind : {T : Type 0} (p : Program) (entries : List Entry) (done : Result T FollowLogFault) (fault : FollowLogFault)
+    → IfErr done (λ (f : FollowLogFault). FailsLogAt p entries f) → (fault ≡ Memory) ⊎ (done ≡ Err fault)
+    → FailsLogAt p entries fault
+fails_behind p entries done fault fails (inl is) = subst (λ (f : FollowLogFault). FailsLogAt p entries f) (sym is) tt
+fails_behind p entries done fault fails (inr is) =
+    subst (λ (r : Result _ FollowLogFault). IfErr r (λ (f : FollowLogFault). FailsLogAt p entries f)) is fails

@@ -1,12 +1,13 @@
-ghost use Rattle.std.specs.Prelude.{◌≡◌, ◌≤◌, ◌<◌, ◌+◌, ◌^◌, length, true, None, Some, IfOk, IfErr, IfSome, IfNone};
+ghost use Rattle.std.specs.Prelude.{◌≡◌, ◌≤◌, ◌<◌, ◌+◌, ◌^◌, length, true, None, Some, IfOk, IfErr, IfSome, IfNone, OnOk, IsOk, Err, map, [], ◌⊎◌};
 ghost use Rattle.locals.specs.Threads.{Thread};
 ghost use Rattle.machine.specs.States.{state_of, thread_of};
 ghost use Rattle.machine.specs.Views.{concrete};
 ghost use Rattle.piece_machine.specs.PieceConcrete.{PieceConcrete};
 ghost use Rattle.piece_machine.specs.PieceViews.{parts};
-ghost use Rattle.runner.specs.Logs.{Ends, Enters, event_cost, is_kill, is_outside};
+ghost use Rattle.runner.specs.Logs.{Ends, Enters, event_cost, is_kill, is_outside, opening};
 ghost use Rattle.runner.specs.declared.log_schedule.FollowLogFault.TheVariants.{Memory};
-ghost use Rattle.runner.specs.LogSchedules.{CannotTake, FailsLogAt, IsFollowedLog, shape_of};
+ghost use Rattle.runner.specs.Reports.{IsVerdict};
+ghost use Rattle.runner.specs.LogSchedules.{CannotTake, FailsLogAt, FollowsLog, IsFollowedLog, shape_of};
 
 use crate::report::{Report, report_of};
 use crate::stepping::is_local;
@@ -52,8 +53,41 @@ pub fn follow_log(
     ensures ok { IfOk result (λ report. IsFollowedLog image.now entries.entry report) }
     ensures err { IfErr result (λ fault. FailsLogAt image.now entries.entry fault) }
 {
-    let mut machine = PieceMachine::new(alloc, image, BUCKETS)?;
     let mut log = PackedLog::with_capacity(alloc, entries.len())?;
+    let mut machine = PieceMachine::new(alloc, image, BUCKETS)?;
+    let done = follow_entries(&mut machine, &mut log, entries);
+    report_behind(alloc, log, machine, done)
+}
+
+// What is told of a run that left this log and this machine, where nothing was refused.
+fn report_behind(
+    alloc: Global,
+    log: PackedLog,
+    last: PieceMachine,
+    done: Result<(), FollowLogFault>,
+) -> Result<Report, FollowLogFault>
+    ensures ok { IfOk result (λ report. IsOk done × (report.log.items ≡ log.items) × (report.last ≡ last)
+        × (report.output.items ≡ last.view.output) × IsVerdict (concrete last.view) report.verdict) }
+    ensures err { IfErr result (λ fault. (fault ≡ Memory) ⊎ (done ≡ Err fault)) }
+{
+    done?;
+    Ok(report_of(alloc, log, last)?)
+}
+
+// Takes the entries of another log in turn, from the beginning on.
+fn follow_entries(
+    machine: &mut PieceMachine,
+    log: &mut PackedLog,
+    entries: LogReader<'_>,
+) -> Result<(), FollowLogFault>
+    requires begins { parts machine.old ≡ opening machine.old.view.program }
+    requires empty { log.old.items ≡ [] }
+    ensures ok { OnOk result (FollowsLog machine.old.view.program (map shape_of entries.entry)
+        log.new.items (parts machine.new)) }
+    ensures err { IfErr result (λ fault. FailsLogAt machine.old.view.program entries.entry fault) }
+    ensures program { machine.new.view.program ≡ machine.old.view.program }
+{
+    let _count = entries.len();
     let mut steps: u64 = 0;
     let mut number: u64 = 0;
     for entry in entries {
@@ -63,14 +97,14 @@ pub fn follow_log(
             return Err(FollowLogFault::BadEntry(number));
         }
         machine.make_room(1)?;
-        let Some(taken) = take_turn(&mut machine, &entry) else {
+        let Some(taken) = take_turn(machine, &entry) else {
             return Err(FollowLogFault::BadEntry(number));
         };
         if log.push(taken).is_err() {
             return Err(FollowLogFault::Memory);
         }
     }
-    Ok(report_of(alloc, log, machine)?)
+    Ok(())
 }
 
 // How many steps an entry has.

@@ -178,24 +178,84 @@ pub fn listing_of(
     code: &[Instr],
 ) -> Result<Listing, AllocError> {
     let places = places_of(alloc, text)?;
+    listing_by(alloc, text, checked, version, code, &places)
+}
+
+// The listing, where the statements stand at these places of the text.
+fn listing_by(
+    alloc: Global,
+    text: &[u8],
+    checked: &Checked,
+    version: ImageVersion,
+    code: &[Instr],
+    places: &Places<'_>,
+) -> Result<Listing, AllocError> {
     let plan = Plan::of(alloc, checked.program())?;
-    let words = Words::of(alloc, checked.program(), checked.names(), version)?;
-    let marks = marks_of(alloc, &places, &plan)?;
+    let marks = marks_of(alloc, places, &plan)?;
+    let numbers = plan.numbers.as_slice();
+    listing_with(
+        alloc,
+        text,
+        checked,
+        version,
+        code,
+        marks.as_slice(),
+        numbers,
+    )
+}
+
+// The listing, where these are the marks and the numbers of the program's plan.
+fn listing_with(
+    alloc: Global,
+    text: &[u8],
+    checked: &Checked,
+    version: ImageVersion,
+    code: &[Instr],
+    marks: &[Mark],
+    numbers: &[usize],
+) -> Result<Listing, AllocError> {
     let source = Source::of(alloc, text)?;
-    let mut beside = Beside {
+    let words = Words::of(alloc, checked.program(), checked.names(), version)?;
+    let beside = Beside {
         source: &source,
-        marks: marks.as_slice(),
-        numbers: plan.numbers.as_slice(),
+        marks,
+        numbers,
         last: 0,
     };
+    listing_beside(alloc, beside, &words, code)
+}
+
+// What stands before the first instruction.
+fn head_of(alloc: Global, beside: &mut Beside<'_, '_>) -> Result<String, AllocError> {
     let mut head = String::new(alloc);
     if let Some(line) = beside.line_at(0) {
-        source.append(&mut head, line)?;
+        beside.source.append(&mut head, line)?;
         head.push('\n')?;
     }
+    Ok(head)
+}
+
+// What stands behind each instruction.
+fn tails_of(
+    alloc: Global,
+    beside: &mut Beside<'_, '_>,
+    words: &Words<'_, '_>,
+    code: &[Instr],
+) -> Result<Vec<String>, AllocError> {
     let mut tails = Vec::new(alloc);
     for (place, instruction) in code.iter().enumerate() {
-        tails.push(beside.tail(alloc, &words, place, *instruction)?)?;
+        tails.push(beside.tail(alloc, words, place, *instruction)?)?;
     }
+    Ok(tails)
+}
+
+fn listing_beside(
+    alloc: Global,
+    mut beside: Beside<'_, '_>,
+    words: &Words<'_, '_>,
+    code: &[Instr],
+) -> Result<Listing, AllocError> {
+    let head = head_of(alloc, &mut beside)?;
+    let tails = tails_of(alloc, &mut beside, words, code)?;
     Ok(Listing { head, tails })
 }

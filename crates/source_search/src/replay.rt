@@ -97,13 +97,47 @@ fn go_between<'a>(
         return Ok(());
     };
     let mut small = found;
-    if !go_way(alloc, checked, &mut small, way, actions)? {
-        return Ok(());
+    if go_through(
+        alloc,
+        checked,
+        &mut small,
+        way,
+        before.processes.len(),
+        actions,
+    )? {
+        settle_behind(alloc, checked, parts, before, after, &small, actions)?;
+    }
+    Ok(())
+}
+
+// Appends the actions of a way, and those of the processes that it makes; says whether it is possible.
+fn go_through<'a>(
+    alloc: Global,
+    checked: &'a Checked,
+    small: &mut SourceState<'a>,
+    way: Way,
+    made: usize,
+    actions: &mut Vec<Action>,
+) -> Result<bool, AllocError> {
+    if !go_way(alloc, checked, small, way, actions)? {
+        return Ok(false);
     }
     let process = u64::from(way.process);
-    let made = before.processes.len();
-    let _known = follow_made(alloc, checked, &mut small, process, made, actions)?;
-    let Some(next) = parts.merge(alloc, checked.program(), before, &small)? else {
+    let _known = follow_made(alloc, checked, small, process, made, actions)?;
+    Ok(true)
+}
+
+// Appends the actions from what a way led to up to the kept state.
+fn settle_behind<'a>(
+    alloc: Global,
+    checked: &'a Checked,
+    parts: &mut Parts<'a>,
+    before: &Packed,
+    after: &Packed,
+    small: &SourceState<'a>,
+    actions: &mut Vec<Action>,
+) -> Result<(), AllocError> {
+    let Some(next) = parts.merge(alloc, checked.program(), before, small)? else {
         return Ok(());
     };
     if !next.is_same(after) {
@@ -121,32 +155,68 @@ fn followed_to<'a>(
 ) -> Result<Vec<Action>, AllocError> {
     let back = places_back(alloc, kept.ways.as_slice(), place)?;
     let mut actions = Vec::new(alloc);
-    let opening = SourceState::opening(alloc, checked, ImageVersion::Two)?;
-    let program = checked.program();
-    if let Some(packed) = kept.parts.pack(alloc, program, &opening, 0, 0)? {
-        let _settled = kept.parts.settle(alloc, checked, packed, &mut actions)?;
-    }
-    for at in back.as_slice().iter().rev() {
-        let Some(way) = kept.ways.get(*at).copied() else {
-            return Ok(actions);
-        };
-        let Some(before) = kept.packed_at(alloc, way.before as usize)? else {
-            return Ok(actions);
-        };
-        let Some(after) = kept.packed_at(alloc, *at)? else {
-            return Ok(actions);
-        };
-        go_between(
-            alloc,
-            checked,
-            &mut kept.parts,
-            &before,
-            &after,
-            way,
-            &mut actions,
-        )?;
-    }
+    follow_ways(alloc, checked, kept, back.as_slice(), &mut actions)?;
     Ok(actions)
+}
+
+// Appends the actions of the ways to these places, the last place first, up to the first that isn't possible.
+fn follow_ways<'a>(
+    alloc: Global,
+    checked: &'a Checked,
+    kept: &mut Kept<'a>,
+    back: &[usize],
+    actions: &mut Vec<Action>,
+) -> Result<(), AllocError> {
+    settle_opening(alloc, checked, &mut kept.parts, actions)?;
+    for at in back.iter().rev() {
+        if !follow_way(alloc, checked, kept, *at, actions)? {
+            break;
+        }
+    }
+    Ok(())
+}
+
+// Appends the actions to the first state that is kept.
+fn settle_opening<'a>(
+    alloc: Global,
+    checked: &'a Checked,
+    parts: &mut Parts<'a>,
+    actions: &mut Vec<Action>,
+) -> Result<(), AllocError> {
+    let opening = SourceState::opening(alloc, checked, ImageVersion::Two)?;
+    if let Some(packed) = parts.pack(alloc, checked.program(), &opening, 0, 0)? {
+        let _settled = parts.settle(alloc, checked, packed, actions)?;
+    }
+    Ok(())
+}
+
+// Follows the way to the kept state at a place, and says whether that is possible.
+fn follow_way<'a>(
+    alloc: Global,
+    checked: &'a Checked,
+    kept: &mut Kept<'a>,
+    at: usize,
+    actions: &mut Vec<Action>,
+) -> Result<bool, AllocError> {
+    let Some(way) = kept.ways.get(at).copied() else {
+        return Ok(false);
+    };
+    let Some(before) = kept.packed_at(alloc, way.before as usize)? else {
+        return Ok(false);
+    };
+    let Some(after) = kept.packed_at(alloc, at)? else {
+        return Ok(false);
+    };
+    go_between(
+        alloc,
+        checked,
+        &mut kept.parts,
+        &before,
+        &after,
+        way,
+        actions,
+    )?;
+    Ok(true)
 }
 
 // The actions that lead to a place, where all that may come next was interleaved.
@@ -159,20 +229,52 @@ fn interleaved_to<'a>(
 ) -> Result<Vec<Action>, AllocError> {
     let back = places_back(alloc, ways, place)?;
     let mut actions = Vec::new(alloc);
+    interleave(alloc, checked, ways, back.as_slice(), outside, &mut actions)?;
+    Ok(actions)
+}
+
+// Appends the actions of the ways at these places, the last place first, up to the first that isn't possible.
+fn interleave<'a>(
+    alloc: Global,
+    checked: &'a Checked,
+    ways: &[Way],
+    back: &[usize],
+    outside: Outside,
+    actions: &mut Vec<Action>,
+) -> Result<(), AllocError> {
     let mut state = SourceState::opening(alloc, checked, ImageVersion::Two)?;
-    for at in back.as_slice().iter().rev() {
-        let Some(way) = ways.get(*at).copied() else {
-            return Ok(actions);
-        };
-        let process = u64::from(way.process);
-        let Some(listed) = choices(alloc, checked, &state, process, outside)? else {
-            return Ok(actions);
-        };
-        if !take_nth(alloc, checked, &mut state, listed, way.choice, &mut actions)? {
-            return Ok(actions);
+    for at in back.iter().rev() {
+        if !take_way(
+            alloc,
+            checked,
+            ways.get(*at).copied(),
+            outside,
+            &mut state,
+            actions,
+        )? {
+            break;
         }
     }
-    Ok(actions)
+    Ok(())
+}
+
+// Takes a way, and says whether that is possible.
+fn take_way<'a>(
+    alloc: Global,
+    checked: &'a Checked,
+    way: Option<Way>,
+    outside: Outside,
+    state: &mut SourceState<'a>,
+    actions: &mut Vec<Action>,
+) -> Result<bool, AllocError> {
+    let Some(way) = way else {
+        return Ok(false);
+    };
+    let process = u64::from(way.process);
+    let Some(listed) = choices(alloc, checked, state, process, outside)? else {
+        return Ok(false);
+    };
+    take_nth(alloc, checked, state, listed, way.choice, actions)
 }
 
 /// The actions that lead to the kept state at a place, by the ways that lead to each.

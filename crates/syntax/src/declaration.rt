@@ -5,7 +5,7 @@ use crate::statement::Statement;
 use scanner::Place;
 
 /// The type of a local variable or a parameter.
-#[derive(Clone, Copy, PartialEq, Eq, Debug)]
+#[derive(Clone, Copy, PartialEq, Eq)]
 pub enum LocalType {
     /// `INTEGER`
     Integer,
@@ -16,7 +16,7 @@ pub enum LocalType {
 }
 
 /// The type of a result.
-#[derive(Clone, Copy, PartialEq, Eq, Debug)]
+#[derive(Clone, Copy, PartialEq, Eq)]
 pub enum ResultType {
     /// `INTEGER`
     Integer,
@@ -25,7 +25,7 @@ pub enum ResultType {
 }
 
 /// The type of a member of a monitor. An array has its number of elements.
-#[derive(Clone, Copy, Debug)]
+#[derive(Clone, Copy)]
 pub enum MemberType {
     /// `INTEGER`
     Integer,
@@ -40,7 +40,7 @@ pub enum MemberType {
 }
 
 /// A local variable. The place is that of `VAR`.
-#[derive(Clone, Copy, Debug)]
+#[derive(Clone, Copy)]
 pub struct Local<'a> {
     /// The place of `VAR`.
     pub place: Place,
@@ -51,7 +51,7 @@ pub struct Local<'a> {
 }
 
 /// A parameter of a procedure.
-#[derive(Clone, Copy, Debug)]
+#[derive(Clone, Copy)]
 pub struct Parameter<'a> {
     /// The name of the parameter.
     pub name: Name<'a>,
@@ -60,7 +60,7 @@ pub struct Parameter<'a> {
 }
 
 /// A member of a monitor. The place is that of `VAR`.
-#[derive(Clone, Copy, Debug)]
+#[derive(Clone, Copy)]
 pub struct Member<'a> {
     /// The place of `VAR`.
     pub place: Place,
@@ -97,7 +97,7 @@ pub struct Procedure<'a> {
 }
 
 /// Whether a procedure of a monitor takes the monitor's lock, or runs with it held.
-#[derive(Clone, Copy, PartialEq, Eq, Debug)]
+#[derive(Clone, Copy, PartialEq, Eq)]
 pub enum Access {
     /// `ENTRY`: it takes the lock of the monitor, and lets it go at its end.
     Entry,

@@ -4,7 +4,7 @@ use crate::leaf::{Name, Number, Truth};
 use scanner::Place;
 
 /// The sign of a comparison.
-#[derive(Clone, Copy, PartialEq, Eq, Debug)]
+#[derive(Clone, Copy, PartialEq, Eq)]
 pub enum Comparator {
     /// `=`
     Equal,
@@ -21,7 +21,7 @@ pub enum Comparator {
 }
 
 /// The sign between two terms.
-#[derive(Clone, Copy, PartialEq, Eq, Debug)]
+#[derive(Clone, Copy, PartialEq, Eq)]
 pub enum SumOperator {
     /// `+`
     Plus,
@@ -30,7 +30,7 @@ pub enum SumOperator {
 }
 
 /// What stands between two factors.
-#[derive(Clone, Copy, PartialEq, Eq, Debug)]
+#[derive(Clone, Copy, PartialEq, Eq)]
 pub enum ProductOperator {
     /// `*`
     Times,

@@ -3,7 +3,7 @@
 use scanner::Place;
 
 /// A name, with the place of its first byte.
-#[derive(Clone, Copy, Debug)]
+#[derive(Clone, Copy)]
 pub struct Name<'a> {
     /// The bytes of the name.
     pub text: &'a [u8],
@@ -12,7 +12,7 @@ pub struct Name<'a> {
 }
 
 /// A number, from 0 to 2147483647, with the place of its first digit.
-#[derive(Clone, Copy, Debug)]
+#[derive(Clone, Copy)]
 pub struct Number {
     /// What its digits write.
     pub value: u32,
@@ -21,7 +21,7 @@ pub struct Number {
 }
 
 /// `TRUE` or `FALSE`, with its place.
-#[derive(Clone, Copy, Debug)]
+#[derive(Clone, Copy)]
 pub struct Truth {
     /// Whether it is `TRUE`.
     pub value: bool,

@@ -3,7 +3,7 @@ use crate::takers::{given_up, handovers, taken};
 use crate::tape::{Flow, Tape};
 use crate::texts::{append_condition, append_monitor, append_signed, append_text};
 use crate::track::{Gate, Track, gates};
-use program::Checked;
+use program::{Checked, Names};
 use source_states::{Action, ActionKind, SourceState};
 use std::alloc::{AllocError, Global};
 use words::ImageVersion;
@@ -212,6 +212,18 @@ impl<'c, 'n> Recording<'c, 'n> {
         Ok(())
     }
 
+    // Writes the actions from the opening state on, and the file's end.
+    fn record_whole(&mut self, checked: &Checked, actions: &[Action]) -> Result<(), AllocError> {
+        self.record_opening(checked, actions)?;
+        self.cut_all()?;
+        self.tape.finish()
+    }
+
+    fn record_opening(&mut self, checked: &Checked, actions: &[Action]) -> Result<(), AllocError> {
+        let mut state = SourceState::opening(self.alloc, checked, ImageVersion::Two)?;
+        self.record_all(checked, actions, &mut state)
+    }
+
     // Ends the slices of the processes that aren't over.
     fn cut_all(&mut self) -> Result<(), AllocError> {
         self.tape.time = self.tape.time.saturating_add(1);
@@ -232,18 +244,26 @@ pub fn timeline(
     checked: &Checked,
     actions: &[Action],
 ) -> Result<Vec<u8>, AllocError> {
-    let names = checked.names();
-    let mut recording = Recording {
-        alloc,
-        tape: Tape::new(alloc, names)?,
-        tracks: Vec::new(alloc),
-        gates: gates(alloc, names)?,
-        handovers: handovers(alloc, names, actions)?,
-        slices: Vec::new(alloc),
-    };
-    let mut state = SourceState::opening(alloc, checked, ImageVersion::Two)?;
-    recording.record_all(checked, actions, &mut state)?;
-    recording.cut_all()?;
-    recording.tape.finish()?;
+    let mut recording = recording_of(alloc, checked.names(), actions)?;
+    recording.record_whole(checked, actions)?;
     Ok(recording.tape.out)
+}
+
+// What begins to record these actions.
+fn recording_of<'c, 'n>(
+    alloc: Global,
+    names: &'c Names<'n>,
+    actions: &[Action],
+) -> Result<Recording<'c, 'n>, AllocError> {
+    let tape = Tape::new(alloc, names)?;
+    let gates = gates(alloc, names)?;
+    let handovers = handovers(alloc, names, actions)?;
+    Ok(Recording {
+        alloc,
+        tape,
+        tracks: Vec::new(alloc),
+        gates,
+        handovers,
+        slices: Vec::new(alloc),
+    })
 }

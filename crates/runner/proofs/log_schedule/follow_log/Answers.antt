@@ -1,82 +1,31 @@
-use Rattle.std.proofs.Common.{◌+◌, ◌∙◌, List, length, sym, inl, inr, arith, subst}
-use Rattle.std.proofs.lemmas.Iterator.Consumers.{YieldsList-from_first, YieldsList-turn, YieldsList-end}
-use Rattle.std.proofs.lemmas.List.{length_push}
-use Rattle.machine.specs.declared.event.Entry.{Entry}
-use Rattle.piece_machine.specs.PieceConcrete.{PieceConcrete}
+use Rattle.std.proofs.Common.{◌≡◌, ◌∙◌, ap, sym, subst, List, map}
+use Rattle.std.proofs.lemmas.Result.{IfOk-weaker, IfErr-weaker}
+use Rattle.isa.specs.Programs.{Program}
 use Rattle.piece_machine.specs.PieceViews.{parts}
-use Rattle.runner.specs.Logs.{Enters}
-use Rattle.runner.specs.LogSchedules.{CannotTake, shape_of}
-use Rattle.runner.proofs.Scheduling.{pushed}
-use Rattle.runner.proofs.Turning.{bad_entry, followed_log, shapes_more}
+use Rattle.runner.specs.Logs.{opening}
+use Rattle.runner.specs.LogSchedules.{FailsLogAt, FollowsLog, shape_of}
+use Rattle.runner.proofs.Turning.{followed_all, on_ok, fails_behind}
 use Rattle.runner.proofs.log_schedule.follow_log.Goals as goal
 
-pub overflow_add-number : goal.overflow_add-number
-overflow_add-number c =
-    let l = c.loop-entry in
-    let turn = YieldsList-turn (YieldsList-from_first (λ (x : Entry). x) (λ (rest : List Entry). rest) c.args.entries
-    c.into_iter-entry-iterator.ensures.into_iter_gives)
-    l.yielded _ l.yielded_by _ _ c.in-Some.entry c.in-Some.is c.next.ensures.steps in
-    omega (arith, turn.0, c.len.ensures, l.invariant.number)
-
-pub returns-then-steps-from-clause-err : goal.returns-then-steps-from-clause-err
-returns-then-steps-from-clause-err c =
-    let l = c.loop-entry in
-    let entry = c.in-Some.entry in
-    let turn = YieldsList-turn (YieldsList-from_first (λ (x : Entry). x) (λ (rest : List Entry). rest) c.args.entries
-    c.into_iter-entry-iterator.ensures.into_iter_gives)
-    l.yielded _ l.yielded_by _ _ entry c.in-Some.is c.next.ensures.steps in
-    bad_entry c.args.image.now l.machine.view.program c.args.entries (length l.yielded) (l.number + 1) entry entry l.log.items
-    (parts l.machine) turn.0 (sym turn.1) (omega (arith, l.invariant.number)) l.invariant.program
-    l.invariant.follows
-    (inr (omega (arith, c.if-steps-from.true, c.from.ensures, l.invariant.steps, c.steps_of.ensures.value)))
-
-pub returns-in_default-clause-err : goal.returns-in_default-clause-err
-returns-in_default-clause-err c =
-    let l = c.loop-entry in
-    let entry = c.in-Some.entry in
-    let turn = YieldsList-turn (YieldsList-from_first (λ (x : Entry). x) (λ (rest : List Entry). rest) c.args.entries
-    c.into_iter-entry-iterator.ensures.into_iter_gives)
-    l.yielded _ l.yielded_by _ _ entry c.in-Some.is c.next.ensures.steps in
-    let same = c.in_ok-make_room.ensures in
-    let room = c.make_room.new.self in
-    bad_entry c.args.image.now room.view.program c.args.entries (length l.yielded) (l.number + 1) entry entry l.log.items
-    (parts l.machine) turn.0 (sym turn.1) (omega (arith, l.invariant.number)) (same.same.0 ∙ l.invariant.program)
-    l.invariant.follows
-    (inl (subst (λ (k : PieceConcrete). CannotTake room.view.program k (shape_of entry)) same.parts c.in_default.ensures.none))
-
-pub loop-entry-preserved : goal.loop-entry-preserved
-loop-entry-preserved c =
-    let l = c.loop-entry in
-    let entry = c.in-Some.entry in
-    let turn = YieldsList-turn (YieldsList-from_first (λ (x : Entry). x) (λ (rest : List Entry). rest) c.args.entries
-    c.into_iter-entry-iterator.ensures.into_iter_gives)
-    l.yielded _ l.yielded_by _ _ entry c.in-Some.is c.next.ensures.steps in
-    let same = c.in_ok-make_room.ensures in
-    let room = c.make_room.new.self in
-    let taken = c.in-Some-take_turn.ensures.some in
-    let value = c.steps_of.ensures.value in
-    let one = length_push l.yielded entry in
-    let more = shapes_more c.args.image.now room.view.program c.args.entries (length l.yielded) entry entry l.log.items
-    c.push.new.self.items (parts l.machine) (parts c.take_turn.new.machine) c.in-Some-take_turn.taken turn.0
-    (sym turn.1) (same.same.0 ∙ l.invariant.program) l.invariant.follows
-    (subst (λ (k : PieceConcrete). Enters room.view.program k c.in-Some-take_turn.taken (parts c.take_turn.new.machine)) same.parts
-    taken.0) taken.1
-    (pushed c.push.result c.is_err.result c.push.new.self.items l.log.items c.in-Some-take_turn.taken
-    c.is_err.ensures.value c.if-is_err.false c.push.ensures)
-    (omega (arith, c.if-steps-from.false, c.from.ensures, l.invariant.steps, value)) in
-    record {
-      follows = rw one more.0;
-      steps = omega (arith, more.1, l.invariant.steps, value);
-      number = omega (arith, l.invariant.number, one);
-      program = c.in-Some-take_turn.ensures.program ∙ same.same.0 ∙ l.invariant.program;
-    }
+pub follow_entries-done-requires-clause-begins : goal.follow_entries-done-requires-clause-begins
+follow_entries-done-requires-clause-begins c = c.in_ok-machine.ensures.parts ∙ ap opening (sym c.in_ok-machine.ensures.program)
 
 pub returns-clause-ok : goal.returns-clause-ok
 returns-clause-ok c =
-    let l = c.loop-entry in
-    let end = YieldsList-end (YieldsList-from_first (λ (x : Entry). x) (λ (rest : List Entry). rest) c.args.entries
-    c.into_iter-entry-iterator.ensures.into_iter_gives)
-    l.yielded _ l.yielded_by _ _ c.in-None.is c.next.ensures.steps in
-    let e = c.in_ok-report_of.ensures in
-    followed_log c.args.image.now c.args.entries (length l.yielded) l.log.items l.machine c.in_ok-report_of.field-0
-    (omega (arith, end.1)) l.invariant.follows l.invariant.program e.log e.last e.output e.verdict
+    let own = c.in_ok-machine.ensures.program in
+    let log = c.follow_entries-done.new.log.items in
+    let last = c.follow_entries-done.new.machine in
+    let after = c.follow_entries-done.ensures in
+    IfOk-weaker c.report_behind.result _ _ (λ r h.
+    followed_all c.args.image.now c.args.entries log last r
+    (subst (λ (p : Program). FollowsLog p (map shape_of c.args.entries) log (parts last)) own
+    (on_ok c.follow_entries-done.result _ h.0 after.ok))
+    (after.program ∙ own) h.1 h.2 h.3 h.4) c.report_behind.ensures.ok
+
+pub returns-clause-err : goal.returns-clause-err
+returns-clause-err c =
+    let own = c.in_ok-machine.ensures.program in
+    IfErr-weaker c.report_behind.result _ _ (λ f h.
+    subst (λ (p : Program). FailsLogAt p c.args.entries f) own
+    (fails_behind _ c.args.entries c.follow_entries-done.result f c.follow_entries-done.ensures.err h))
+    c.report_behind.ensures.err
