@@ -34,7 +34,7 @@ TABLE = {
     "GOT_READS": TOOK, "GOT_LINKS": TOOK, "GOT_HEADS": TOOK,
     "GOT_UNPENDS": Row("owned", True, "took", "the walk passes the pending entry over, and the pending step marks it"),
     "LEAVE_PENDS": Row("none", True, "leaves", "nothing pending yet: the walk marks the word"),
-    "LEAVE_READS": LEAVES, "LEAVE_HEADS": LEAVES, "LEAVE_LOADS": CUT, "LEAVE_KEEPS": CUT,
+    "LEAVE_READS": LEAVES, "LEAVE_HEADS": LEAVES, "LEAVE_DROPS": CUT,
     "LEAVE_WAKES": OWES, "HAS_LEFT": OWES,
     "WAIT_READS": Row("none", True, "leaves", "nothing pending: the walk marks the word"),
     "WAIT_SLEEPS": Row("unowned", False, "takes", "given up: the pending step wakes one that sleeps on the lock word"),
@@ -232,7 +232,7 @@ def actions_done(names):
     done = 0
     for before, name in zip([""] + names, names):
         done += name == "GOT_READS" or name == "JOIN_LEARNS"
-        done += before == "LEAVE_KEEPS" and name != "LEAVE_LOADS"
+        done += before == "LEAVE_DROPS"
         done += before in ("NOTIFY_WAKES", "BROADCAST_MOVES", "JOIN_CLAIMS")
     return done
 

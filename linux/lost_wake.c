@@ -1,5 +1,5 @@
 /*
- * A wake that is lost where one thread is killed, on the kernel at hand: three releases of a lock, in two schedules.
+ * A wake that is lost where one thread is killed, on the kernel at hand: four releases of a lock, in two schedules.
  * Thread 3 is asleep on the lock in the end; nobody else is left, and the lock is free. Thread 2 dies by exit(2) with
  * the lock as its pending entry, which does for its robust list what a kill does.
  *
@@ -14,7 +14,8 @@
 #include <sys/wait.h>
 #include <unistd.h>
 
-enum release { SWAPS, CLEARS, KEEPS };
+/* DROPS is the header's own. */
+enum release { SWAPS, CLEARS, KEEPS, DROPS };
 
 static struct mesa_monitor lock;
 static enum release release;
@@ -44,7 +45,20 @@ static void must(bool holds, const char *what)
 static void take_free(struct mesa_process *self)
 {
     must((atomic_load(&lock.lock) & MESA_OWNER) == 0, "free");
-    mesa_enter(self, &lock);
+    must(!mesa_enter(self, &lock), "not abandoned");
+}
+
+/* Gives the lock word up by the release that is shown: answers what it was. */
+static uint32_t release_word(struct mesa_process *self)
+{
+    switch (release) {
+    case SWAPS:
+        return atomic_exchange(&lock.lock, 0);
+    case DROPS:
+        return atomic_fetch_sub(&lock.lock, self->thread);
+    default:
+        return atomic_fetch_and(&lock.lock, MESA_WAITERS);
+    }
 }
 
 /* Gives the lock up, but for the wake: answers whether one is owed. */
@@ -52,8 +66,7 @@ static bool give_up(struct mesa_process *self)
 {
     atomic_store(&self->robust.pending, &lock.link);
     atomic_store(&self->robust.head.next, atomic_load(&lock.link.next));
-    uint32_t old = release == SWAPS ? atomic_exchange(&lock.lock, 0) : atomic_fetch_and(&lock.lock, MESA_WAITERS);
-    return (old & MESA_WAITERS) != 0;
+    return (release_word(self) & MESA_WAITERS) != 0;
 }
 
 /* Gives the lock up with the wake, and, where the release clears, with the clearing behind a wake of nobody. */
@@ -133,7 +146,7 @@ static int32_t three(struct mesa_process *self, const int32_t *arguments)
     at(cleared ? 5 : 1);
     if (!cleared)
         next();
-    mesa_enter(self, &lock);
+    must(!mesa_enter(self, &lock), "not abandoned");
     mesa_exit(self, &lock);
     atomic_store(&woke, 1);
     return 0;
@@ -173,6 +186,7 @@ int main(void)
             show("the word swapped for 0", SWAPS, second);
         show("the bit cleared behind a wake of nobody", CLEARS, second);
         show("the bit kept for good", KEEPS, second);
+        show("the owner's number taken off", DROPS, second);
     }
     return 0;
 }

@@ -9,14 +9,19 @@
  * last wake (CLONE_CHILD_CLEARTID). It wakes as for futexes that processes share, so no call here is FUTEX_PRIVATE.
  *
  * Why the release keeps the waiters bit for good. The templates' release swaps the lock word for 0, and wakes one
- * sleeper where the old word had the bit. Linux, at the pending entry of a thread that dies, wakes a sleeper only
- * where the lock word has no owner. So let 3 sleep on a lock that 2 holds. 2 gives it up: the word is 0, and 2 owes a
- * wake. 1 takes it by the first compare-and-swap, without the bit. 2 is killed before its wake; the kernel finds 1's
- * word at 2's pending entry and wakes nobody. 1 gives the lock up, finds no bit, and calls nobody: the word is 0, and
- * 3 sleeps for ever. Here 2 leaves the bit in the free word, so that 1 has to take it with the bit, and owes the wake
- * in its turn. Nobody may clear the bit afterwards, not even where a wake found nobody: another thread can take the
- * lock and get a sleeper between that wake and the clearing (linux/lost_wake.c shows both). It costs a call of the
+ * sleeper where the old word had the bit. From Linux 6.2 on, at the pending entry of a thread that dies, the kernel
+ * wakes a sleeper only where the lock word has no owner. So let 3 sleep on a lock that 2 holds. 2 gives it up: the word
+ * is 0, and 2 owes a wake. 1 takes it by the first compare-and-swap, without the bit. 2 is killed before its wake; the
+ * kernel finds 1's word at 2's pending entry and wakes nobody. 1 gives the lock up, finds no bit, and calls nobody: the
+ * word is 0, and 3 sleeps for ever. Here 2 leaves the bit in the free word, so that 1 has to take it with the bit, and
+ * owes the wake in its turn. Nobody may clear the bit afterwards, not even where a wake found nobody: another thread can
+ * take the lock and get a sleeper between that wake and the clearing (lost_wake.c shows both). It costs a call of the
  * kernel for each release, once a lock has had a waiter.
+ *
+ * Which kernels. Linux 6.2 and newer, and 6.1 from 6.1.183 on: their exits wake a sleeper at a pending lock word without
+ * an owner, whatever else the word has. Older kernels (5.5 to 6.1.182, as far as changelogs tell) wake only where the
+ * word is 0, and there a kill can lose a wake with this release. docs/linux.md has the three rules; linux/check tries
+ * which one the kernel at hand has.
  */
 #ifndef MESA_MONITORS_H
 #define MESA_MONITORS_H
@@ -38,6 +43,9 @@
 #define MESA_POINT(self, point) ((void)0)
 #endif
 
+/* An answer that no caller may drop: whether a monitor was found abandoned. */
+#define MESA_MUST_LOOK __attribute__((warn_unused_result))
+
 /* What may go unused in a program that was emitted. */
 #define MESA_UNUSED __attribute__((unused))
 
@@ -46,8 +54,7 @@ enum mesa_point {
     MESA_ENTER_PENDS, MESA_ENTER_TRIES,
     MESA_TAKE_READS, MESA_TAKE_MARKS, MESA_TAKE_SLEEPS, MESA_TAKE_TRIES,
     MESA_GOT_READS, MESA_GOT_LINKS, MESA_GOT_HEADS, MESA_GOT_UNPENDS,
-    MESA_LEAVE_PENDS, MESA_LEAVE_READS, MESA_LEAVE_HEADS, MESA_LEAVE_LOADS, MESA_LEAVE_KEEPS, MESA_LEAVE_WAKES,
-    MESA_HAS_LEFT,
+    MESA_LEAVE_PENDS, MESA_LEAVE_READS, MESA_LEAVE_HEADS, MESA_LEAVE_DROPS, MESA_LEAVE_WAKES, MESA_HAS_LEFT,
     MESA_WAIT_READS, MESA_WAIT_SLEEPS,
     MESA_NOTIFY_ADDS, MESA_NOTIFY_WAKES,
     MESA_BROADCAST_ADDS, MESA_BROADCAST_MARKS, MESA_BROADCAST_READS, MESA_BROADCAST_MOVES,
@@ -303,7 +310,7 @@ static inline bool mesa_got(struct mesa_process *self, struct mesa_monitor *moni
 }
 
 /* ENTER: pending; the lock word by one compare-and-swap, where it is 0; else TAKE; then GOT. */
-static inline bool mesa_enter(struct mesa_process *self, struct mesa_monitor *monitor)
+MESA_MUST_LOOK static inline bool mesa_enter(struct mesa_process *self, struct mesa_monitor *monitor)
 {
     MESA_POINT(self, MESA_ENTER_PENDS);
     atomic_store(&self->robust.pending, &monitor->link);
@@ -314,17 +321,13 @@ static inline bool mesa_enter(struct mesa_process *self, struct mesa_monitor *mo
     return mesa_got(self, monitor, taken);
 }
 
-/* The release that keeps the waiters bit for good (KeepsWaiters): the lock word by compare-and-swap to itself without
- * its owner; where the bit was set, one sleeper is woken. */
+/* The release that drops the owner: its number is taken off the lock word by one fetch-and-subtract, so that the waiters
+ * bit stays for good; where the bit was set, one sleeper is woken. Who gives a lock up owns it: the word's owner part is
+ * self's number and no death is marked, so the difference is the waiters bit alone. */
 static inline void mesa_release(struct mesa_process *self, struct mesa_monitor *monitor)
 {
-    uint32_t seen;
-    (void)self;
-    do {
-        MESA_POINT(self, MESA_LEAVE_LOADS);
-        seen = atomic_load(&monitor->lock);
-        MESA_POINT(self, MESA_LEAVE_KEEPS);
-    } while (mesa_swap(&monitor->lock, seen, seen & MESA_WAITERS) != seen);
+    MESA_POINT(self, MESA_LEAVE_DROPS);
+    uint32_t seen = atomic_fetch_sub(&monitor->lock, self->thread);
     if ((seen & MESA_WAITERS) != 0) {
         MESA_POINT(self, MESA_LEAVE_WAKES);
         mesa_futex_wake(&monitor->lock, 1);
@@ -354,7 +357,8 @@ static inline void mesa_exit(struct mesa_process *self, struct mesa_monitor *mon
 /* ---- Conditions; the caller holds the monitor, as its innermost one. ---- */
 
 /* WAIT: the sequence word, read under the lock; LEAVE; sleeps on the sequence word as it was read; TAKE; GOT. */
-static inline bool mesa_wait(struct mesa_process *self, struct mesa_monitor *monitor, struct mesa_condition *condition)
+MESA_MUST_LOOK static inline bool mesa_wait(struct mesa_process *self, struct mesa_monitor *monitor,
+                                            struct mesa_condition *condition)
 {
     MESA_POINT(self, MESA_WAIT_READS);
     uint32_t sequence = atomic_load(&condition->sequence);
