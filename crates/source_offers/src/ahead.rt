@@ -17,7 +17,7 @@ use crate::variables::Variables;
 use program::{Expression, Program, Role, Statement, Target};
 
 /// Whether what a process does next is internal: no other process sees it.
-#[derive(Clone, Copy, PartialEq, Eq, Debug)]
+#[derive(Clone, Copy)]
 pub enum Ahead {
     /// It is internal.
     Internal,

@@ -1,6 +1,7 @@
-ghost use Rattle.std.specs.Prelude.{◌≡◌, IfOk};
+ghost use Rattle.std.specs.Prelude.{◌≡◌, IfOk, List};
+ghost use Rattle.meaning.specs.Processes.{Caller, Frame as FrameIn};
 ghost use Rattle.source_offers.specs.Frames.{caller_of, callers_of};
-ghost use Rattle.source_offers.specs.Stages.{process_of};
+ghost use Rattle.source_offers.specs.Stages.{process_of, standing};
 
 use crate::frame::Frame;
 use crate::process::{Process, Stage};
@@ -31,12 +32,13 @@ fn copies<'a>(alloc: Global, frames: &[Frame<'a>]) -> Result<Vec<Frame<'a>>, All
     Ok(copies)
 }
 
-impl<'a> Process<'a> {
-    /// Another process that stands where this one does.
-    pub fn copy(&self, alloc: Global) -> Result<Process<'a>, AllocError>
-        ensures { IfOk result (λ q. process_of q ≡ process_of self.now) }
+impl<'a> Stage<'a> {
+    // Another stage that is the same.
+    fn copy(&self) -> Result<Stage<'a>, AllocError>
+        ensures { IfOk result (λ s. (f : FrameIn) (callers : List Caller)
+            → standing s f callers ≡ standing self.now f callers) }
     {
-        let stage = match &self.stage {
+        Ok(match self {
             Stage::Entering(monitor) => Stage::Entering(*monitor),
             Stage::Before(entered) => Stage::Before(*entered),
             Stage::Suspended(condition) => Stage::Suspended(*condition),
@@ -54,11 +56,19 @@ impl<'a> Process<'a> {
             Stage::Dying(cause, monitors) => Stage::Dying(*cause, monitors.clone()?),
             Stage::Leaving(value) => Stage::Leaving(*value),
             Stage::Over(end) => Stage::Over(*end),
-        };
+        })
+    }
+}
+
+impl<'a> Process<'a> {
+    /// Another process that stands where this one does.
+    pub fn copy(&self, alloc: Global) -> Result<Process<'a>, AllocError>
+        ensures { IfOk result (λ q. process_of q ≡ process_of self.now) }
+    {
         Ok(Process {
             frame: self.frame.copy()?,
             callers: copies(alloc, self.callers.as_slice())?,
-            stage,
+            stage: self.stage.copy()?,
         })
     }
 }

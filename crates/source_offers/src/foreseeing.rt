@@ -12,7 +12,7 @@ use crate::rest::upcoming;
 use program::{Member, Role, Statement};
 
 /// What a process does next, as far as where it stands tells.
-#[derive(Clone, Copy, PartialEq, Eq, Debug)]
+#[derive(Clone, Copy)]
 pub enum Foreseen {
     /// One action, which it does for itself alone.
     Acts,

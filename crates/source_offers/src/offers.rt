@@ -18,7 +18,7 @@ use std::alloc::{AllocError, Global};
 use words::{Cause, Fault};
 
 /// What an action is to monitors, conditions and the process table.
-#[derive(Clone, Copy, PartialEq, Eq, Debug)]
+#[derive(Clone, Copy)]
 pub enum Label {
     /// An assignment to a local.
     Assigns,
@@ -45,7 +45,7 @@ pub enum Label {
 }
 
 /// What an action does to variables and output.
-#[derive(Clone, Copy, PartialEq, Eq, Debug)]
+#[derive(Clone, Copy)]
 pub enum Effect {
     /// Nothing.
     Nothing,

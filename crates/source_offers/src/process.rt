@@ -12,7 +12,7 @@ use std::mem;
 use words::{Cause, Fault};
 
 /// How a process is over.
-#[derive(Clone, Copy, PartialEq, Eq, Debug)]
+#[derive(Clone, Copy, PartialEq, Eq)]
 pub enum End {
     /// By its return, with this value.
     Ended(i64),

@@ -5,7 +5,7 @@ use sorted_map::SortedMap;
 use std::alloc::{AllocError, Global};
 
 /// Where a variable stands: its monitor, its member, and in an array its index (0 where the member is no array).
-#[derive(Clone, Copy, PartialEq, Eq, PartialOrd, Ord, Debug)]
+#[derive(Clone, Copy, PartialEq, Eq, PartialOrd, Ord)]
 pub struct Place {
     /// The monitor.
     pub monitor: u32,
