@@ -1,0 +1,103 @@
+"""What is kept between builds: each proved library with its key, and each program that was built.
+
+It all stands in crates/mesamon_program/out/rlib. git ignores each folder `out`, and of such a folder the gate gives back
+the part `rlib` alone, which it takes aside before it begins; in it alone may files stand that end in .rt or .antt.
+"""
+from __future__ import annotations
+
+import fcntl
+import os
+import shutil
+import sys
+from collections.abc import Iterator
+from contextlib import contextmanager
+
+HOME = "mesamon_program"
+
+
+def read_text(file: str) -> str | None:
+    """The text of a file, if there is one."""
+    try:
+        with open(file, encoding="utf-8") as text:
+            return text.read()
+    except FileNotFoundError:
+        return None
+
+
+def write_text(file: str, text: str) -> None:
+    """Writes a file whole, or leaves it as it was."""
+    with open(f"{file}.part", "w", encoding="utf-8") as part:
+        part.write(text)
+    os.replace(f"{file}.part", file)
+
+
+def remove(path: str) -> None:
+    """Removes a file or a folder, if it is there."""
+    if os.path.isdir(path) and not os.path.islink(path):
+        shutil.rmtree(path)
+    elif os.path.lexists(path):
+        os.remove(path)
+
+
+class Store:
+    """The folder of what is kept."""
+
+    def __init__(self, root: str) -> None:
+        self.home = f"{root}/crates/{HOME}"
+        self.folder = f"{self.home}/out/rlib"
+        self.work = f"{self.folder}/work"
+        self.seconds = f"{self.folder}/seconds.txt"
+
+    def path(self, name: str, ending: str) -> str:
+        """Where a crate has its rlib, or of a program the record of its check (checked); its key and log; what is built of it."""
+        return f"{self.folder}/{name}.{ending}"
+
+    @contextmanager
+    def locked(self) -> Iterator[None]:
+        """Keeps others out: a second build waits, as do the kit's own commands in that crate, whose lock it is too."""
+        os.makedirs(self.folder, exist_ok=True)
+        held = os.open(self.home, os.O_RDONLY)
+        try:
+            try:
+                fcntl.flock(held, fcntl.LOCK_EX | fcntl.LOCK_NB)
+            except BlockingIOError:
+                print("mesamon: waiting for another build to end", file=sys.stderr, flush=True)
+                fcntl.flock(held, fcntl.LOCK_EX)
+            yield
+        finally:
+            os.close(held)
+
+    def has_proved(self, name: str, key: str) -> bool:
+        """Whether what the crate's check wrote under this key is still there."""
+        is_there = os.path.isfile(f"{self.path(name, 'rlib')}/format") or os.path.isdir(self.path(name, "checked"))
+        return is_there and read_text(self.path(name, "key")) == key
+
+    def forget(self, name: str) -> None:
+        """Takes away a crate's key, before anything is made of it anew."""
+        remove(self.path(name, "key"))
+
+    def keep(self, name: str, key: str, seconds: float, megabytes: int) -> None:
+        """Notes that a crate was proved under this key, and what that took."""
+        costs = dict(line.split(" ", 1) for line in (read_text(self.seconds) or "").splitlines())
+        costs[name] = f"{seconds:.0f} {megabytes}"
+        write_text(self.seconds, "".join(f"{each} {cost}\n" for each, cost in costs.items()))
+        write_text(self.path(name, "key"), key)
+
+    def make_work(self) -> str:
+        """An empty folder for what the commands of one build make for a time."""
+        remove(self.work)
+        os.makedirs(self.work)
+        return self.work
+
+    def drop_work(self) -> None:
+        """Removes what no later build wants."""
+        remove(self.work)
+        for name in os.listdir(self.folder):
+            if name.endswith((".checked", ".o", ".part")):
+                remove(f"{self.folder}/{name}")
+
+    def clean(self) -> None:
+        """Removes all but the programs."""
+        for name in os.listdir(self.folder):
+            if not name.endswith((".program", ".built")):
+                remove(f"{self.folder}/{name}")
