@@ -12,7 +12,7 @@ TABLE = f"{os.path.dirname(os.path.dirname(os.path.realpath(__file__)))}/seconds
 PROGRAM = "(program)"
 # Of a crate that the table lacks: a lane's memory, and seconds by its lines of code and of specs and proofs.
 MEMORY = 2_500
-FIXED, EACH_LINE, EACH_PROOF_LINE = 5.0, 0.15, 0.01
+FIXED, EACH_LINE, EACH_PROOF_LINE = 5.0, 0.09, 0.002
 # What a check takes above what it took when it was measured.
 MARGIN = 1.05
 # At most so many jobs for one crate, and one where it takes few seconds; what each beyond the first adds to its memory, and
