@@ -26,9 +26,10 @@ def _interrupt(number: int, _frame) -> None:
 
 
 def raise_on_signals() -> None:
-    """Has a signal that asks this process to end raise Interrupted, also where the caller had it ignored."""
+    """Has a signal that asks this process to end raise Interrupted, but one that the caller has it ignore, as nohup does."""
     for number in SIGNALS:
-        signal.signal(number, _interrupt)
+        if signal.getsignal(number) is not signal.SIG_IGN:
+            signal.signal(number, _interrupt)
 
 
 def end_by(number: int) -> None:

@@ -12,7 +12,7 @@ from building.costs import Plan, PROGRAM, free_memory
 from building.crates import Crate, digest
 from building.kit import PROVED, Kit
 from building.processes import Ended, Group
-from building.store import Store, read_text
+from building.store import Store, read_text, write_text
 
 # How long between two looks at what has ended, and between two lines where no crate ends.
 LOOK, TELL = 0.1, 60.0
@@ -127,7 +127,8 @@ class Proving:
                           tuple(refusals(said)))
         self.stop_on_change(work.crate)
         self.killed.discard(name)
-        self.store.keep(name, self.keys[name], ended.seconds, ended.megabytes)
+        self.store.note_cost(name, ended.seconds, ended.megabytes)
+        write_text(self.store.path(name, "key"), self.keys[name])
         self.done.add(name)
         self.expected += self.plan.costs[name].time(work.jobs)
         self.passed += time.monotonic() - work.began

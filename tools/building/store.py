@@ -76,12 +76,11 @@ class Store:
         """Takes away a crate's key, before anything is made of it anew."""
         remove(self.path(name, "key"))
 
-    def keep(self, name: str, key: str, seconds: float, megabytes: int) -> None:
-        """Notes that a crate was proved under this key, and what that took."""
+    def note_cost(self, name: str, seconds: float, megabytes: int) -> None:
+        """Writes down what a crate took, in the form of tools/seconds.txt."""
         costs = dict(line.split(" ", 1) for line in (read_text(self.seconds) or "").splitlines())
         costs[name] = f"{seconds:.0f} {megabytes}"
         write_text(self.seconds, "".join(f"{each} {cost}\n" for each, cost in costs.items()))
-        write_text(self.path(name, "key"), key)
 
     def make_work(self) -> str:
         """An empty folder for what the commands of one build make for a time."""
