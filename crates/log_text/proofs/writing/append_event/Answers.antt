@@ -4,7 +4,11 @@ use Rattle.log_text.proofs.writing.append_event.Goals as goal
 
 pub returns : goal.returns
 returns c =
-    event_more c.push_str-4.result c.args.event.now (string_bytes c.args.text.now) c.name_of.result.now _ _ _ _ _ _ _
-    c.name_of.ensures c.in_ok-push_str.ensures.bytes c.in_ok-push_str-2.ensures.bytes c.in_ok-push_str-3.ensures.bytes
+    let behind = string_bytes c.append_set-2.new.text in
+    let whole = string_bytes c.push_str-4.new.self in
+    event_more c.push_str-4.result c.args.event.now (string_bytes c.args.text.now) c.name_of.result.now
+    (string_bytes c.push_str.new.self) (string_bytes c.push_str-2.new.self) (string_bytes c.push_str-3.new.self)
+    (string_bytes c.append_value.new.text) (string_bytes c.append_set.new.text) behind whole c.name_of.ensures
+    c.in_ok-push_str.ensures.bytes c.in_ok-push_str-2.ensures.bytes c.in_ok-push_str-3.ensures.bytes
     c.in_ok-append_value.ensures c.in_ok-append_set.ensures c.in_ok-append_set-2.ensures
-    (appended c.push_str-4.result (string_bytes c.append_set-2.new.text) (codes "\n") _ c.push_str-4.ensures.bytes)
+    (appended c.push_str-4.result behind (codes "\n") whole c.push_str-4.ensures.bytes)
