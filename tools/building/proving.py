@@ -128,6 +128,7 @@ class Proving:
         self.stop_on_change(work.crate)
         self.killed.discard(name)
         self.store.note_cost(name, ended.seconds, ended.megabytes)
+        self.store.share_copies(name)
         write_text(self.store.path(name, "key"), self.keys[name])
         self.done.add(name)
         self.expected += self.plan.costs[name].time(work.jobs)

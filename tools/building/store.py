@@ -6,6 +6,7 @@ the part `rlib` alone, which it takes aside before it begins; in it alone may fi
 from __future__ import annotations
 
 import fcntl
+import hashlib
 import os
 import shutil
 import sys
@@ -13,6 +14,8 @@ from collections.abc import Iterator
 from contextlib import contextmanager
 
 HOME = "mesamon_program"
+# Smaller files are not worth sharing.
+LARGE = 4096
 
 
 def read_text(file: str) -> str | None:
@@ -39,13 +42,28 @@ def remove(path: str) -> None:
         os.remove(path)
 
 
+def share(path: str, copies: str) -> None:
+    """Has a file share the disk with the one of the same content among the copies, or be the first of them."""
+    with open(path, "rb") as data:
+        copy = f"{copies}/{hashlib.sha256(data.read()).hexdigest()}"
+    try:
+        if os.path.exists(copy):
+            os.link(copy, f"{path}.part")
+            os.replace(f"{path}.part", path)
+        else:
+            os.link(path, copy)
+    except OSError:
+        # Some file systems have no such links.
+        remove(f"{path}.part")
+
+
 class Store:
     """The folder of what is kept."""
 
     def __init__(self, root: str) -> None:
         self.home = f"{root}/crates/{HOME}"
         self.folder = f"{self.home}/out/rlib"
-        self.work = f"{self.folder}/work"
+        self.work, self.copies = f"{self.folder}/work", f"{self.folder}/copies"
         self.seconds = f"{self.folder}/seconds.txt"
 
     def path(self, name: str, ending: str) -> str:
@@ -73,8 +91,17 @@ class Store:
         return is_there and read_text(self.path(name, "key")) == key
 
     def forget(self, name: str) -> None:
-        """Takes away a crate's key, before anything is made of it anew."""
-        remove(self.path(name, "key"))
+        """Takes away what a crate's check wrote, before it is made anew."""
+        for ending in ("key", "rlib", "checked"):
+            remove(self.path(name, ending))
+
+    def share_copies(self, name: str) -> None:
+        """Has the copies of lower interfaces in a library share the disk with the same copies in other libraries."""
+        os.makedirs(self.copies, exist_ok=True)
+        for at, _, files in os.walk(f"{self.path(name, 'rlib')}/below"):
+            for path in (f"{at}/{file}" for file in files):
+                if os.path.getsize(path) >= LARGE:
+                    share(path, self.copies)
 
     def note_cost(self, name: str, seconds: float, megabytes: int) -> None:
         """Writes down what a crate took, in the form of tools/seconds.txt."""
@@ -91,6 +118,10 @@ class Store:
     def drop_work(self) -> None:
         """Removes what no later build wants."""
         remove(self.work)
+        for copy in os.scandir(self.copies) if os.path.isdir(self.copies) else []:
+            # No library has it any more.
+            if copy.stat().st_nlink == 1:
+                remove(copy.path)
         for name in os.listdir(self.folder):
             if name.endswith((".checked", ".o", ".part")):
                 remove(f"{self.folder}/{name}")
