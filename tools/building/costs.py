@@ -15,10 +15,10 @@ MEMORY = 2_500
 FIXED, EACH_LINE, EACH_PROOF_LINE = 5.0, 0.09, 0.002
 # What a check takes above what it took when it was measured.
 MARGIN = 1.05
-# At most so many jobs for one crate, and one where it takes few seconds; what each beyond the first adds to its memory, and
-# takes from its time.
+# At most so many jobs for one crate, and one where it takes few seconds; what each beyond the first adds to its memory and
+# to its processor seconds, and takes from its time.
 MOST_JOBS, FEW_SECONDS = 4, 60.0
-JOB_MEMORY, JOB_TIME = 0.6, 0.08
+JOB_MEMORY, JOB_WORK, JOB_TIME = 0.6, 0.1, 0.08
 # A control group's limits, in its two versions: of memory and what is held of it, and of the processors' time.
 GROUP_MEMORY = (("/sys/fs/cgroup/memory.max", "/sys/fs/cgroup/memory.stat", r"(?m)^anon (\d+)"),
                 ("/sys/fs/cgroup/memory/memory.limit_in_bytes", "/sys/fs/cgroup/memory/memory.stat", r"(?m)^total_rss (\d+)"))
@@ -79,14 +79,15 @@ def free_memory() -> int:
 
 
 def read_table(file: str = TABLE) -> dict[str, Cost]:
-    """The measured costs: a line for each crate, with its seconds and its megabytes."""
+    """The measured costs: a line for each crate, with its seconds and megabytes, and its jobs where it had several."""
     costs = {}
     if os.path.isfile(file):
         with open(file, encoding="utf-8") as text:
             for line in text:
                 words = line.partition("#")[0].split()
-                if len(words) == 3:
-                    costs[words[0]] = Cost(float(words[1]), int(words[2]))
+                if len(words) in (3, 4):
+                    jobs = int(words[3]) if len(words) == 4 else 1
+                    costs[words[0]] = Cost(float(words[1]) / (1 + JOB_WORK * (jobs - 1)), int(words[2]))
     return costs
 
 

@@ -127,7 +127,7 @@ class Proving:
                           tuple(refusals(said)))
         self.stop_on_change(work.crate)
         self.killed.discard(name)
-        self.store.note_cost(name, ended.seconds, ended.megabytes)
+        self.store.note_cost(name, ended.seconds, ended.megabytes, work.jobs)
         self.store.share_copies(name)
         write_text(self.store.path(name, "key"), self.keys[name])
         self.done.add(name)

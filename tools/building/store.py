@@ -103,10 +103,10 @@ class Store:
                 if os.path.getsize(path) >= LARGE:
                     share(path, self.copies)
 
-    def note_cost(self, name: str, seconds: float, megabytes: int) -> None:
+    def note_cost(self, name: str, seconds: float, megabytes: int, jobs: int = 1) -> None:
         """Writes down what a crate took, in the form of tools/seconds.txt."""
         costs = dict(line.split(" ", 1) for line in (read_text(self.seconds) or "").splitlines())
-        costs[name] = f"{seconds:.0f} {megabytes}"
+        costs[name] = f"{seconds:.0f} {megabytes}" + (f" {jobs}" if jobs > 1 else "")
         write_text(self.seconds, "".join(f"{each} {cost}\n" for each, cost in costs.items()))
 
     def make_work(self) -> str:
