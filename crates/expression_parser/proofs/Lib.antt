@@ -1,4 +1,5 @@
 pub mod LevelLaws
 pub mod Chains
+pub mod Joined
 pub mod Factors
 pub mod Callees

@@ -227,11 +227,7 @@ fn sum<'a>(parser: &mut Parser<'_, 'a>, depth: u8) -> Result<Sum<'a>, Refusal>
     ensures err { IfErr result (λ e. Fails depth (a_sum []) (ahead parser.old) e) }
     ensures shorter { OnOk result (length (ahead parser.new) < length (ahead parser.old)) }
 {
-    let factor = factor(parser, depth)?;
-    let first = match parser.product_sign() {
-        Some(operator) => product(parser, factor, operator, depth)?,
-        None => Term::Factor(factor),
-    };
+    let first = term(parser, depth)?;
     match parser.sum_sign() {
         Some((operator, place)) => total(parser, first, operator, place, depth),
         None => Ok(sum_alone(first)),

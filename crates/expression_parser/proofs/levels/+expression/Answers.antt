@@ -1,14 +1,14 @@
-use Rattle.std.proofs.Common.{[], ◌∷◌, arith, rules, ap, sym, ◌≡◌, ◌∙◌}
+use Rattle.std.proofs.Common.{[], ◌∷◌, arith, rules, refl, ap, sym, ◌≡◌, ◌∙◌}
 use Rattle.std.proofs.lemmas.Result.{IfErr-weaker}
 use Rattle.scanner.specs.declared.token.Sign.TheVariants as S
 use Rattle.syntax.specs.Lexeme.{Mark}
 use Rattle.grammar.specs.Machine.{AMark, term, sum, relation, conjunction, expression}
 use Rattle.grammar.specs.Reading.{lexeme_at}
-use Rattle.grammar.proofs.Joins.{here, then1, fail1, then3, fail3, then4, fail4, fail6}
+use Rattle.grammar.proofs.Joins.{here, then1, fail1, then2, fail2, then3, fail3, then4, fail4, fail6}
 use Rattle.token_cursor.proofs.Small.{exit_fails, exit_memory}
 use Rattle.token_cursor.specs.Openers.{start_lexeme}
-use Rattle.syntax.specs.View.{factor_of, term_of, relation_of, conjunction_of, expression_of}
-use Rattle.syntax.proofs.Built.{product_made, total_made, all_of_made, any_of_made}
+use Rattle.syntax.specs.View.{factor_of, term_of, sum_of, relation_of, conjunction_of, expression_of}
+use Rattle.syntax.proofs.Built.{product_made, total_made, comparison_made, all_of_made, any_of_made}
 use Rattle.token_cursor.specs.Ahead.{ahead}
 use Rattle.expression_parser.proofs.Chains.{multipliers_pass, multipliers_go_on, multipliers_as, summands_pass}
 use Rattle.expression_parser.proofs.Chains.{summands_go_on, summands_as, relations_pass, relations_go_on, relations_as}
@@ -18,7 +18,12 @@ use Rattle.expression_parser.proofs.Chains.{summands_fail, summands_fail_behind,
 use Rattle.expression_parser.proofs.Chains.{relations_fail, relations_fail_behind, relations_fail_later}
 use Rattle.expression_parser.proofs.Chains.{conjunctions_fail, conjunctions_fail_behind, conjunctions_fail_later}
 use Rattle.expression_parser.proofs.Factors.{paren_passes, minus_passes, not_passes, index_passes, enclosed_fails}
+use Rattle.expression_parser.proofs.Factors.{enclosed_passes}
 use Rattle.expression_parser.proofs.Factors.{paren_fails, minus_fails, not_fails, name_fails, index_fails}
+use Rattle.expression_parser.proofs.Joined.{term_ok, sum_ok, relation_joined, relation_ok, conjunction_joined}
+use Rattle.expression_parser.proofs.Joined.{conjunction_ok, expression_ok, term_alone, sum_alone, expression_of_sum}
+use Rattle.expression_parser.proofs.Joined.{no_and, no_or, relations_absent, conjunctions_absent, chain_ends}
+use Rattle.expression_parser.proofs.Joined.{comparison_absent, comparison_passes, comparison_fails}
 use Rattle.expression_parser.proofs.levels.+expression.Goals as goal
 
 pub expression_from-returns-clause-ok : goal.expression_from-returns-clause-ok
@@ -234,16 +239,16 @@ pub relation_from-returns-in_err-new-clause-err : goal.relation_from-returns-in_
 relation_from-returns-in_err-new-clause-err t c =
     exit_memory _ _ _ c.from_residual.result c.from_residual.ensures.1
 
-pub sum-returns-in_err-factor-clause-err : goal.sum-returns-in_err-factor-clause-err
-sum-returns-in_err-factor-clause-err t c =
+pub sum-returns-in_err-first-clause-err : goal.sum-returns-in_err-first-clause-err
+sum-returns-in_err-first-clause-err t c =
     exit_fails c.from_residual.result c.from_residual.ensures.1
-    (fail1 c.in_err-factor.ensures.err (here {σ = sum []}) (omega arith))
+    (fail2 c.in_err-first.ensures.err (here {σ = sum []}) (omega arith))
 
-pub sum-returns-in_err-first-in-Some-clause-err : goal.sum-returns-in_err-first-in-Some-clause-err
-sum-returns-in_err-first-in-Some-clause-err t c =
-    exit_fails c.from_residual-in_err-first-in-Some.result c.from_residual-in_err-first-in-Some.ensures.1
-    (fail1 c.in_err-first-in-Some.ensures.err
-    (then1 c.in_ok-factor.ensures.ok (here {σ = sum []}) (omega arith)) (omega arith))
+pub sum-returns-in-Some-clause-err : goal.sum-returns-in-Some-clause-err
+sum-returns-in-Some-clause-err t c =
+    IfErr-weaker c.total.result _ _ (λ e f. fail1 f
+    (then2 c.in_ok-first.ensures.ok (here {σ = sum []}) (omega arith)) (omega arith))
+    c.total.ensures.err
 
 pub term-returns-in_err-first-clause-err : goal.term-returns-in_err-first-clause-err
 term-returns-in_err-first-clause-err t c =
@@ -365,3 +370,85 @@ variable-returns-in_err-index-clause-err t c =
     exit_fails c.from_residual-in_err-index.result c.from_residual-in_err-index.ensures.1
     (index_fails c.in_ok-inner.ensures.ok.0 c.in_ok-inner.ensures.ok.1 h c.in_ok-inner.ensures.rest
     c.in_err-index.ensures.err)
+
+pub expression-returns-then-not-relates-clause-ok : goal.expression-returns-then-not-relates-clause-ok
+expression-returns-then-not-relates-clause-ok t c =
+    expression_of_sum c.expression_of_sum.ensures c.in_ok-sum.ensures.ok (c.if-not-relates.ensures refl)
+
+pub expression-returns-clause-ok : goal.expression-returns-clause-ok
+expression-returns-clause-ok t c =
+    expression_ok (ahead c.expression_from.new.parser) (conjunction_of c.in_ok-conjunction.conjunction)
+    c.expression_from.result
+    (conjunction_joined (conjunction_of c.in_ok-conjunction.conjunction) c.in_ok-conjunction.ensures.front
+    (relation_joined (relation_of c.in_ok-relation.relation) c.in_ok-relation.ensures.front c.in_ok-sum.ensures.ok
+    c.in_ok-relation.ensures.ok) c.in_ok-conjunction.ensures.ok)
+    c.expression_from.ensures.front c.expression_from.ensures.ok
+
+pub expression_from-returns-then-not-eat_keyword-clause-ok :
+    goal.expression_from-returns-then-not-eat_keyword-clause-ok
+expression_from-returns-then-not-eat_keyword-clause-ok t c =
+    conjunctions_absent c.expression_alone.ensures c.if-not-eat_keyword.ensures
+
+pub conjunctions-returns-clause-ok : goal.conjunctions-returns-clause-ok
+conjunctions-returns-clause-ok t c =
+    chain_ends c.conjunctions.invariant.read (no_or _ c.conjunctions-test.ensures.first)
+    c.conjunctions-test.ensures.same
+
+pub conjunction-returns-clause-ok : goal.conjunction-returns-clause-ok
+conjunction-returns-clause-ok t c =
+    conjunction_ok (ahead c.conjunction_from.new.parser) (relation_of c.in_ok-first.first) c.conjunction_from.result c.in_ok-first.ensures.ok c.conjunction_from.ensures.front
+    c.conjunction_from.ensures.ok
+
+pub conjunction_from-returns-then-not-eat_keyword-clause-ok :
+    goal.conjunction_from-returns-then-not-eat_keyword-clause-ok
+conjunction_from-returns-then-not-eat_keyword-clause-ok t c =
+    relations_absent c.conjunction_alone.ensures c.if-not-eat_keyword.ensures
+
+pub relations-returns-clause-ok : goal.relations-returns-clause-ok
+relations-returns-clause-ok t c =
+    chain_ends c.relations.invariant.read (no_and _ c.relations-test.ensures.first) c.relations-test.ensures.same
+
+pub relation-returns-clause-ok : goal.relation-returns-clause-ok
+relation-returns-clause-ok t c =
+    relation_ok (ahead c.relation_from.new.parser) (sum_of c.in_ok-left.left) c.relation_from.result c.in_ok-left.ensures.ok c.relation_from.ensures.front
+    c.relation_from.ensures.ok
+
+pub relation_from-returns-in_default-clause-ok : goal.relation_from-returns-in_default-clause-ok
+relation_from-returns-in_default-clause-ok t c =
+    comparison_absent c.relation_alone.ensures c.in_default.ensures.reply
+
+pub relation_from-returns-in-Err-clause-err : goal.relation_from-returns-in-Err-clause-err
+relation_from-returns-in-Err-clause-err t c =
+    exit_fails c.refused.result c.refused.ensures
+    (comparison_fails c.requires c.in-Some.ensures.reply c.pass.ensures.rest c.in-Err.ensures.err)
+
+pub relation_from-returns-clause-ok : goal.relation_from-returns-clause-ok
+relation_from-returns-clause-ok t c =
+    comparison_passes (sum_of c.in-Ok.right) (comparison_made c.in_ok-new.field-0 _ _ _ c.in_ok-new.ensures.ok)
+    c.requires c.in-Some.ensures.reply c.pass.ensures.rest c.in-Ok.ensures.ok
+
+pub sum-returns-in-Some-clause-ok : goal.sum-returns-in-Some-clause-ok
+sum-returns-in-Some-clause-ok t c =
+    sum_ok (ahead c.total.new.parser) (term_of c.in_ok-first.first) c.total.result c.in_ok-first.ensures.ok c.total.ensures.front c.total.ensures.ok
+
+pub sum-returns-in-None-clause-ok : goal.sum-returns-in-None-clause-ok
+sum-returns-in-None-clause-ok t c =
+    sum_alone c.sum_alone.ensures c.in_ok-first.ensures.ok c.in-None.ensures.reply
+
+pub summands-returns-clause-ok : goal.summands-returns-clause-ok
+summands-returns-clause-ok t c = chain_ends c.summands.invariant.read c.in_default.ensures.reply refl
+
+pub term-returns-in-Some-clause-ok : goal.term-returns-in-Some-clause-ok
+term-returns-in-Some-clause-ok t c =
+    term_ok (ahead c.product.new.parser) (factor_of c.in_ok-first.first) c.product.result c.in_ok-first.ensures.ok c.product.ensures.front c.product.ensures.ok
+
+pub term-returns-in-None-clause-ok : goal.term-returns-in-None-clause-ok
+term-returns-in-None-clause-ok t c = term_alone c.in_ok-first.ensures.ok c.in-None.ensures.reply
+
+pub multipliers-returns-clause-ok : goal.multipliers-returns-clause-ok
+multipliers-returns-clause-ok t c = chain_ends c.multipliers.invariant.read c.in_default.ensures.reply refl
+
+pub expression_before-returns-in-Ok-clause-ok : goal.expression_before-returns-in-Ok-clause-ok
+expression_before-returns-in-Ok-clause-ok t c =
+    enclosed_passes (expression_of c.in_ok-expression.expression) c.requires.depth c.in_ok-expression.ensures.ok
+    c.in-Ok.ensures.ok
