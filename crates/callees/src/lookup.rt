@@ -1,12 +1,17 @@
 // What a callee's name means.
 
-ghost use Rattle.std.specs.Prelude.{◌≡◌, ◌<◌, IfOk, Some as SomeOf, length, option_map, slice_get, Contains};
+ghost use Rattle.std.specs.Prelude.{◌≡◌, ◌<◌, ◌++◌, ◌∷◌, [], IfOk, IsErrAnd, OnOk, Some as SomeOf, length, map};
+ghost use Rattle.std.specs.Prelude.{option_map, slice_get, Contains};
+ghost use Rattle.program.specs.declared.kinds.Role.TheVariants.{Main as MainRole, External as ExternalRole};
 ghost use Rattle.syntax.specs.Tree.{UnitTree};
 ghost use Rattle.syntax.specs.View.{name_of, callee_of};
 ghost use Rattle.syntax.specs.Whole.{unit_of};
+ghost use Rattle.types.specs.Names.{external_names as names_of_externals};
 ghost use Rattle.types.specs.Pieces.{pieces as pieces_in};
+ghost use Rattle.types.specs.Pieces as p;
 ghost use Rattle.types.specs.Scope.{Scope, callee as callee_in, inner_procedure, external_procedure};
 ghost use Rattle.types.specs.Standings.{IsOwn, IsNameScope};
+ghost use Rattle.types.specs.Tables.{IsTable};
 ghost use Rattle.types.specs.StatementFaults.{called_piece as called_in, missing_place as place_of_missing};
 ghost use Rattle.callees.specs.Names.{IsCallees, declarations};
 ghost use Rattle.callees.specs.Pieces.{piece_of};
@@ -20,7 +25,31 @@ use program::Role;
 use scanner::Place;
 use std::alloc::{AllocError, Global};
 use syntax::{Callee, Name, Unit};
-use types::{NameScope, Own};
+use types::{NameScope, Own, Table};
+
+// Adds the pieces that stand behind those of monitors, and gives the names of the external procedures.
+fn outside<'u, 'a>(
+    alloc: Global,
+    pieces: &mut Vec<Piece<'u, 'a>>,
+    unit: &'u Unit<'a>,
+) -> Result<Table<'a>, AllocError>
+    requires { declarations (unit_of unit.now) < u32.MAX }
+    ensures pieces { OnOk result (map piece_of pieces.new.items ≡ map piece_of pieces.old.items
+        ++ map (p.piece_of ExternalRole) (unit_of unit.now).procedures
+        ++ p.part_of MainRole (unit_of unit.now).place (unit_of unit.now).body ∷ []) }
+    ensures names { IfOk result (λ t. IsTable (names_of_externals (unit_of unit.now)) t) }
+{
+    push_rest(pieces, unit)?;
+    external_names(alloc, &unit.procedures)
+}
+
+// Lets go of what was made already, where memory ran out. The drop stands here alone: a `?` in its place proves,
+// wherever it stands, the drop of each part.
+fn given_up<T: Drop, U>(_made: T, error: AllocError) -> Result<U, AllocError>
+    ensures { IsErrAnd result (λ e. e ≡ error) }
+{
+    Err(error)
+}
 
 impl<'u, 'a> Callees<'u, 'a> {
     /// What a unit declares. The only error is that memory runs out.
@@ -28,21 +57,18 @@ impl<'u, 'a> Callees<'u, 'a> {
         requires { declarations (unit_of unit.now) < u32.MAX }
         ensures { IfOk result (λ c. IsCallees (unit_of unit.now) c) }
     {
-        let externals = external_names(alloc, &unit.procedures)?;
-        let Declared {
-            names,
-            inner,
-            mut pieces,
-        } = Declared::new(alloc, unit)?;
-        let first_external = pieces.len() as u32;
-        push_rest(&mut pieces, unit)?;
-        Ok(Callees {
-            monitors: names,
-            inner,
-            externals,
-            first_external,
-            pieces,
-        })
+        let mut declared = Declared::new(alloc, unit)?;
+        let first_external = declared.pieces.len() as u32;
+        match outside(alloc, &mut declared.pieces, unit) {
+            Ok(externals) => Ok(Callees {
+                monitors: declared.names,
+                inner: declared.inner,
+                externals,
+                first_external,
+                pieces: declared.pieces,
+            }),
+            Err(error) => given_up(declared, error),
+        }
     }
 
     // The piece of a procedure of the monitor of this number.
