@@ -8,6 +8,7 @@ ghost use Rattle.callees.specs.Pieces.{piece_of};
 ghost use Rattle.types.specs.Judgement.{IsInBody};
 ghost use Rattle.types.specs.Kinds.{result_kind as result_kind_of};
 ghost use Rattle.types.specs.Pieces.{pieces};
+ghost use Rattle.types.specs.Standings.{IsNameScope};
 ghost use Rattle.unit_faults.specs.Collected.{Collects};
 ghost use Rattle.unit_faults.specs.Parts.{InStatements};
 
@@ -27,6 +28,26 @@ fn value_type(returns: Option<ResultType>) -> Option<ValueType>
     returns.map(|kind| result_kind(kind))
 }
 
+// The least fault, where a piece with these names in scope has these statements.
+fn in_scope<'c, 'u, 'a>(
+    standing: &'c NameScope<'c, 'a>,
+    callees: &'c Callees<'u, 'a>,
+    piece: &Piece<'u, 'a>,
+    least: Option<Refusal>,
+) -> Option<Refusal>
+    ensures { (u : UnitTree) → IsCallees u callees.now
+        → IsNameScope (record { unit = u; piece = piece_of piece.now }) standing.now
+        → Collects (InStatements u (piece_of piece.now)) least result }
+{
+    let context = Context {
+        standing,
+        callees,
+        role: piece.role,
+        returns: value_type(piece.returns),
+    };
+    block(&piece.body.statements, &context, least)
+}
+
 // The least fault, where a piece has these statements.
 fn statements<'u, 'a>(
     alloc: Global,
@@ -40,13 +61,7 @@ fn statements<'u, 'a>(
 {
     let own = callees.own(piece.role);
     let standing = NameScope::new(alloc, piece.parameters, &piece.body.locals, own)?;
-    let context = Context {
-        standing: &standing,
-        callees,
-        role: piece.role,
-        returns: value_type(piece.returns),
-    };
-    Ok(block(&piece.body.statements, &context, least))
+    Ok(in_scope(&standing, callees, piece, least))
 }
 
 /// The least fault of the statements of a unit's pieces.

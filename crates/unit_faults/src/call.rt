@@ -1,6 +1,6 @@
 // The faults of CALL and FORK.
 
-ghost use Rattle.std.specs.Prelude.{◌++◌, ◌≡◌, option_map};
+ghost use Rattle.std.specs.Prelude.{◌++◌, ◌≡◌, option_map, Some as SomeOf};
 ghost use Rattle.syntax.specs.Tree.{Call as CallOf, Fork as ForkOf};
 ghost use Rattle.syntax.specs.View as v;
 ghost use Rattle.types.specs.CallFaults as c;
@@ -99,6 +99,23 @@ fn result_type(piece: &Piece<'_, '_>) -> Option<ValueType>
     }
 }
 
+// The least fault of a procedure that is called, from a call that may take a result.
+fn answered(
+    context: &Context<'_, '_, '_>,
+    callee: &Callee<'_>,
+    name: Option<Name<'_>>,
+    piece: &Piece<'_, '_>,
+    least: Option<Refusal>,
+) -> Option<Refusal>
+    ensures { (s : Scope) → IsContext s context.now → let e = v.callee_of callee.now in
+        Gathers (c.call_faults s e (v.option_name name.entry) (SomeOf (piece_of piece.now))) least
+        result }
+{
+    let first = named(context, callee, name.is_some(), piece, least);
+    let second = passed(context, callee, piece, first);
+    into(context.standing, result_type(piece), name, second)
+}
+
 // The least fault of what is called, from a call that may take a result.
 fn called(
     context: &Context<'_, '_, '_>,
@@ -110,11 +127,7 @@ fn called(
         Gathers (c.call_faults s e (v.option_name name.entry) (f.called_piece s e)) least result }
 {
     match context.callees.called(context.role, callee) {
-        Some(piece) => {
-            let first = named(context, callee, name.is_some(), &piece, least);
-            let second = passed(context, callee, &piece, first);
-            into(context.standing, result_type(&piece), name, second)
-        }
+        Some(piece) => answered(context, callee, name, &piece, least),
         None => {
             let first = missing(context, callee, least);
             into(context.standing, None, name, first)
@@ -139,6 +152,22 @@ pub fn call(
     called(context, callee, name, first)
 }
 
+// The least fault of a procedure that is forked.
+fn started(
+    context: &Context<'_, '_, '_>,
+    callee: &Callee<'_>,
+    name: Name<'_>,
+    piece: &Piece<'_, '_>,
+    least: Option<Refusal>,
+) -> Option<Refusal>
+    ensures { (s : Scope) → IsContext s context.now → let e = v.callee_of callee.now in
+        Gathers (c.fork_faults s e (v.name_of name.entry) (SomeOf (piece_of piece.now))) least result }
+{
+    let first = forked(callee, piece, least);
+    let second = passed(context, callee, piece, first);
+    taker(context.standing, Some(ValueType::Process), name, second)
+}
+
 // The least fault of what is forked.
 fn begun(
     context: &Context<'_, '_, '_>,
@@ -150,11 +179,7 @@ fn begun(
         Gathers (c.fork_faults s e (v.name_of name.entry) (f.called_piece s e)) least result }
 {
     match context.callees.called(context.role, callee) {
-        Some(piece) => {
-            let first = forked(callee, &piece, least);
-            let second = passed(context, callee, &piece, first);
-            taker(context.standing, Some(ValueType::Process), name, second)
-        }
+        Some(piece) => started(context, callee, name, &piece, least),
         None => {
             let first = missing(context, callee, least);
             taker(context.standing, Some(ValueType::Process), name, first)

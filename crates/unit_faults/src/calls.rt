@@ -4,12 +4,13 @@ ghost use Rattle.std.specs.Prelude.{◌≡◌, ◌<◌, ◌^◌, ◌++◌, IfOk,
 ghost use Rattle.syntax.specs.Tree.{UnitTree};
 ghost use Rattle.syntax.specs.View as v;
 ghost use Rattle.callees.specs.Names.{IsCallees};
+ghost use Rattle.callees.specs.Pieces.{piece_of};
 ghost use Rattle.types.specs.CallFaults as c;
 ghost use Rattle.types.specs.Judgement.{all_calls as all_calls_of};
 ghost use Rattle.types.specs.Scope.{Scope, callee as callee_in};
 ghost use Rattle.unit_faults.specs.Callers.{IsCaller, calls_at};
 
-use callees::Callees;
+use callees::{Callees, Piece};
 use callgraph::Call;
 use program::Role;
 use std::alloc::{AllocError, Global};
@@ -94,6 +95,26 @@ fn block(
     Ok(())
 }
 
+// Adds the calls of the piece of this number.
+fn push_calls(
+    callees: &Callees<'_, '_>,
+    piece: &Piece<'_, '_>,
+    number: u32,
+    calls: &mut Vec<Call>,
+) -> Result<(), AllocError>
+    ensures { (u : UnitTree) → IsCallees u callees.now → OnOk result (calls.new.items
+        ≡ calls.old.items ++ calls_at number
+        (c.block_calls (record { unit = u; piece = piece_of piece.now })
+        (v.statements_in piece.now.body.now.statements.items))) }
+{
+    let caller = Caller {
+        callees,
+        role: piece.role,
+        number,
+    };
+    block(&piece.body.statements, &caller, calls)
+}
+
 /// The calls of all pieces, in their order. The only error is that memory runs out.
 pub fn all_calls(alloc: Global, callees: &Callees<'_, '_>) -> Result<Vec<Call>, AllocError>
     requires { length callees.now.pieces.items < 2 ^ 32 }
@@ -102,12 +123,7 @@ pub fn all_calls(alloc: Global, callees: &Callees<'_, '_>) -> Result<Vec<Call>, 
 {
     let mut calls = Vec::new(alloc);
     for (number, piece) in callees.pieces.iter().enumerate() {
-        let caller = Caller {
-            callees,
-            role: piece.role,
-            number: number as u32,
-        };
-        block(&piece.body.statements, &caller, &mut calls)?;
+        push_calls(callees, piece, number as u32, &mut calls)?;
     }
     Ok(calls)
 }

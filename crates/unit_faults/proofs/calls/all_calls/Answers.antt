@@ -1,9 +1,5 @@
-use Rattle.std.proofs.Common.{◌<◌, ◌++◌, ◌∙◌, ap, refl, length, get_or, subst, arith}
-use Rattle.syntax.specs.View.{statements_in}
+use Rattle.std.proofs.Common.{◌<◌, ◌∙◌, ap, length, get_or, subst, arith}
 use Rattle.callees.specs.Pieces.{piece_of}
-use Rattle.types.specs.CallFaults.{block_calls}
-use Rattle.types.specs.Scope.{Scope}
-use Rattle.unit_faults.specs.Callers.{calls_at}
 use Rattle.unit_faults.proofs.Calling.{pieces_more}
 use Rattle.unit_faults.proofs.Steps.{taken}
 use Rattle.unit_faults.proofs.calls.all_calls.Goals as goal
@@ -13,10 +9,7 @@ loop-number-preserved c u h =
     let i = c.loop-number.number in
     let p = c.piece-item.result in
     let ps = c.args.callees.now.pieces.items in
-    let s : Scope = record { unit = u; piece = piece_of p } in
     let here : i < length ps = subst (λ xs. i < length xs) c.deref-piece-items.ensures.value c.loop-number-test.true in
-    pieces_more u ps i p c.loop-number.calls.items c.block.new.calls.items here
+    pieces_more u ps i p c.loop-number.calls.items c.push_calls.new.calls.items here
     (c.piece-item.is ∙ ap (λ xs. get_or xs i p) c.deref-piece-items.ensures.value)
-    (taken piece_of ps i (omega (arith, here))) (c.loop-number.invariant u h)
-    (c.in_ok-block.ensures s (record { callees = h; role = refl })
-    ∙ ap (λ xs. c.loop-number.calls.items ++ calls_at i (block_calls s (statements_in xs))) c.deref.ensures.value)
+    (taken piece_of ps i (omega (arith, here))) (c.loop-number.invariant u h) (c.in_ok-push_calls.ensures u h)
