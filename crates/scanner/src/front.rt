@@ -5,7 +5,7 @@ ghost use Rattle.scanner.specs.Bytes.{is_comment_byte};
 ghost use Rattle.scanner.specs.Steps.{front_of, OnOneLine};
 
 /// What the first bytes of a text begin.
-#[derive(Clone, Copy, PartialEq, Eq, Debug)]
+#[derive(Clone, Copy)]
 pub enum Front {
     /// The text has no byte.
     Finish,

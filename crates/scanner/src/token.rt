@@ -1,5 +1,5 @@
 /// A word in capitals that the grammar uses. None of them is a name.
-#[derive(Clone, Copy, PartialEq, Eq, Debug)]
+#[derive(Clone, Copy, PartialEq, Eq)]
 pub enum Keyword {
     Program,
     Monitor,
@@ -43,7 +43,7 @@ pub enum Keyword {
 }
 
 /// A sign of one or two bytes.
-#[derive(Clone, Copy, PartialEq, Eq, Debug)]
+#[derive(Clone, Copy, PartialEq, Eq)]
 pub enum Sign {
     /// `:=`
     Assign,
@@ -86,7 +86,7 @@ pub enum Sign {
 }
 
 /// What a token is.
-#[derive(Clone, Copy, PartialEq, Eq, Debug)]
+#[derive(Clone, Copy, PartialEq, Eq)]
 pub enum Kind {
     Keyword(Keyword),
     Sign(Sign),
@@ -117,7 +117,7 @@ impl Place {
 /// A token: what it is, its bytes in the source text, and the place of its first byte.
 ///
 /// The bytes of the end are none, and its place is just after the last byte of the text.
-#[derive(Clone, Copy, Debug)]
+#[derive(Clone, Copy)]
 pub struct Token<'a> {
     /// What it is.
     pub kind: Kind,
