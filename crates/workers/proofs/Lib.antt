@@ -1,5 +1,6 @@
 pub mod Calling
 pub mod Coming
+pub mod Delaying
 pub mod Freeing
 pub mod Moving
 pub mod Turning

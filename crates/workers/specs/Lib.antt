@@ -4,4 +4,5 @@ pub mod WakeReasons
 pub mod BucketWaiters
 pub mod Taken
 pub mod Calls
+pub mod PutOffs
 pub mod Hirings

@@ -1,17 +1,19 @@
-ghost use Rattle.std.specs.Prelude.{◌≡◌, []};
-ghost use Rattle.machine.specs.ThreadSets.{IsThread, set_of};
+ghost use Rattle.std.specs.Prelude.{◌≡◌};
+ghost use Rattle.machine.specs.ThreadSets.{IsThread};
 ghost use Rattle.workers.specs.Calls.{nobody_called, with_called};
+ghost use Rattle.workers.specs.PutOffs.{AreNone};
 
 use crate::bucket_waiters::BucketWaiters;
 use crate::lookout::Lookout;
+use crate::patience::Patience;
 use crate::put_off::PutOff;
 use std::hint::spin_loop;
 use std::sync::Wait;
 use std::sync::atomic::{AtomicBool, AtomicU64, Ordering};
 use std::thread;
 
-// For how many moments a worker looks for a call before it sleeps, at most: a few times as long as being woken takes.
-const MOST_LOOKS: u64 = 4000;
+// For how many moments a worker looks for a call before it sleeps: a few times as long as being woken takes.
+const LOOKS: u64 = 2000;
 
 /// Which workers were called, by the numbers of their threads. Nothing adds to it but a call.
 #[derive(Drop)]
@@ -35,8 +37,6 @@ impl Called {
 pub struct Parker {
     called: thread::Parker,
     calls: AtomicU64,
-    // For how many moments the worker looks for its next call.
-    looks: AtomicU64,
     refused: AtomicBool,
 }
 
@@ -46,7 +46,6 @@ impl Parker {
         Parker {
             called: thread::Parker::new(),
             calls: AtomicU64::new(0),
-            looks: AtomicU64::new(MOST_LOOKS),
             refused: AtomicBool::new(false),
         }
     }
@@ -54,7 +53,7 @@ impl Parker {
     /// Parks until the worker is called. A call that came since it was parked last counts. It has put no call off, since
     /// whom it has to call may be the one who calls it.
     pub fn park<R: Wait>(&self, rt: &R, put_off: &PutOff)
-        requires { put_off.now ≡ set_of [] }
+        requires { AreNone put_off.now }
     {
         let _nobody = put_off;
         self.called.park(rt);
@@ -75,23 +74,20 @@ impl Parker {
         self.calls.load(Ordering::SeqCst)
     }
 
-    /// Looks for a call past so many, for a while, and says whether there was one. It looks half as long each time that
-    /// none comes, and as long as at first when one has come.
-    pub fn look(&self, lookout: &Lookout, calls: u64) -> bool {
-        if !lookout.enter() {
+    /// Looks for a call past so many, for a while, and says whether there was one. The worker's patience says whether it looks
+    /// at all.
+    pub fn look(&self, lookout: &Lookout, patience: &mut Patience, calls: u64) -> bool {
+        if !patience.looks() || !lookout.enter() {
             return false;
         }
-        let looks = self.looks.load(Ordering::SeqCst);
-        let called = self.look_for(looks, calls);
+        let called = self.look_for(calls);
         lookout.leave();
-        let next = if called { MOST_LOOKS } else { looks / 2 };
-        self.looks.store(next, Ordering::SeqCst);
-        called
+        patience.note(called)
     }
 
-    // Looks so many times for a call past so many.
-    fn look_for(&self, looks: u64, calls: u64) -> bool {
-        for _ in 0..looks {
+    // Looks for a call past so many.
+    fn look_for(&self, calls: u64) -> bool {
+        for _ in 0..LOOKS {
             if self.calls() != calls {
                 return true;
             }

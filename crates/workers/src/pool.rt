@@ -1,18 +1,21 @@
 ghost use Rattle.std.specs.Prelude.{ℕ, ◌≡◌, ◌<◌, true, false, is_some, vec_len, [], None, IfSome, IfNone};
 ghost use Rattle.words.specs.Limits.{most_threads};
 ghost use Rattle.machine.specs.ConcreteSteps.{can_move};
-ghost use Rattle.machine.specs.ThreadSets.{IsThread, set_of};
+ghost use Rattle.machine.specs.ThreadSets.{IsThread};
+ghost use Rattle.runner.specs.declared.next.After.TheVariants.{Goes};
 ghost use Rattle.workers.specs.BucketWaiters.{IsWhole};
-ghost use Rattle.workers.specs.Calls.{AreTold, AreToldOrPutOff, AreAllCalled, AreCalledToo, nobody_called, with_called};
+ghost use Rattle.workers.specs.Calls.{AreTold, AreAllCalled, AreCalledToo, nobody_called, with_called};
 ghost use Rattle.workers.specs.Hirings.{IsDone, asking_for, asked_all, with_failed};
 ghost use Rattle.workers.specs.SharedRuns.{state_of};
 ghost use Rattle.workers.specs.Handed.{IsAfresh};
+ghost use Rattle.workers.specs.PutOffs.{AreKeptOrMade, AreMadeInTime, AreNone};
 
 use crate::ahead::Row;
 use crate::bucket_waiters::BucketWaiters;
 use crate::hiring::Hiring;
 use crate::image_ref::ImageRef;
 use crate::lookout::Lookout;
+use crate::owed::Owed;
 use crate::parker::{Called, Parker};
 use crate::precedence::Precedence;
 use crate::put_off::{Calls, PutOff};
@@ -29,8 +32,9 @@ use std::thread;
 use std::thread::{Builder, JoinHandle, Scope, Threads};
 use words::{Gate, MOST_THREADS};
 
-// How often a worker tries for the lock before it sleeps, and how long it lingers in between.
-const TRIALS: u32 = 200;
+// How often a worker tries for the lock before it sleeps, and how long it lingers in between: together about as long as being
+// woken takes.
+const TRIALS: u32 = 25;
 
 const MOMENT: u32 = 8;
 
@@ -285,6 +289,7 @@ impl<J: RunName> Pool<J> {
     }
 
     // Takes in the turns of thread `t`, and calls whom they concern.
+    #[tactic(auto, using(crate::proofs::Delaying::made_in_time))]
     fn hand_in<R: Wait, G: Gate>(
         &self,
         rt: &R,
@@ -294,7 +299,8 @@ impl<J: RunName> Pool<J> {
         turns: &mut Turns<J>,
         share: &mut Share<J>,
     ) -> After
-        ensures { IsAfresh t turns.new.pieces.items result }
+        ensures goes_on { IsAfresh t turns.new.pieces.items result }
+        ensures in_time { AreMadeInTime turns.new.wake_reason.woken turns.old.put_off turns.new.put_off }
     {
         let keeps = turns.keep_precedence(image_ref);
         let calls = turns.is_call_due(image_ref);
@@ -319,6 +325,7 @@ impl<J: RunName> Pool<J> {
 
     // The same of any turns, under the lock.
     #[inline(never)]
+    #[tactic(auto, using(crate::proofs::Delaying::made_before))]
     fn hand_in_any<R: Wait, G: Gate>(
         &self,
         rt: &R,
@@ -329,20 +336,16 @@ impl<J: RunName> Pool<J> {
         keeps: bool,
         shared_run: MutexGuard<'_, CachePadded<SharedRun<J>>>,
     ) -> After
-        ensures { IsAfresh t turns.new.pieces.items result }
+        ensures goes_on { IsAfresh t turns.new.pieces.items result }
+        ensures in_time { AreKeptOrMade turns.new.wake_reason.woken turns.old.put_off turns.new.put_off }
     {
         let Some(parker) = self.parkers.get(t as usize) else {
             return After::Ends;
         };
         let mut shared_run = shared_run;
         let calls = parker.calls();
-        let after = shared_run.hand_in(t, turns, share, parker, gate);
-        // Nobody is forgotten. Of the entries that were made now only the last one may have woken threads or made one: a
-        // piece behind another begins where that one has come, and the thread is elsewhere behind a step that does so,
-        // which refuses the piece. Further entries are of the only thread there is. Who waited for buckets was noted at
-        // each entry.
-        shared_run.tell_last(&mut turns.wake_reason);
-        shared_run.take_freed(&mut turns.freed);
+        // Nobody is forgotten: what is owed can't be let go.
+        let (after, owed) = shared_run.hand_in_owing(t, turns, share, parker, gate);
         let is_over = after != After::Goes && self.is_over(&shared_run);
         drop(shared_run);
         self.precedence
@@ -353,14 +356,17 @@ impl<J: RunName> Pool<J> {
         if turns.concern_others() {
             turns.ahead.stop();
             self.settle(&mut turns.put_off);
-            let _called = self.tell_or_put_off(turns, after);
-        } else if after != After::Goes {
-            self.settle(&mut turns.put_off);
+            self.tell_or_put_off(turns, after, owed);
+        } else {
+            owed.end();
+            if after != After::Goes {
+                self.settle(&mut turns.put_off);
+            }
         }
         if is_over {
             self.end();
         }
-        if after == After::Sleeps && parker.look(&self.lookout, calls) {
+        if after == After::Sleeps && parker.look(&self.lookout, &mut turns.patience, calls) {
             self.precedence.take(rt, &self.lookout, t);
         }
         after
@@ -425,22 +431,26 @@ impl<J: RunName> Pool<J> {
     // note of who was called is written whole.
     #[cold]
     #[inline(never)]
-    #[tactic(auto, using(crate::proofs::Calling::put_off_so, crate::proofs::Calling::told_so))]
-    fn tell_or_put_off(&self, turns: &mut Turns<J>, after: After) -> Called
-        requires { turns.old.put_off ≡ set_of [] }
-        ensures told { AreToldOrPutOff turns.old.wake_reason.woken turns.old.freed turns.new.put_off result }
+    #[tactic(auto, using(crate::proofs::Delaying::put_off_met, crate::proofs::Delaying::told_met))]
+    fn tell_or_put_off(&self, turns: &mut Turns<J>, after: After, owed: Owed)
+        requires none { AreNone turns.old.put_off }
+        requires owed { (owed.woken.value ≡ turns.old.wake_reason.woken) × (owed.freed.value ≡ turns.old.freed) }
+        ensures in_time { AreKeptOrMade turns.new.wake_reason.woken turns.old.put_off turns.new.put_off }
+        ensures only { (after ≡ Goes → ⊥) → turns.new.put_off ≡ turns.old.put_off }
         ensures same { turns.new.pieces ≡ turns.old.pieces }
     {
         if self.calls == Calls::PutOff && after == After::Goes && turns.may_put_off() {
             turns.put_off.put(&turns.wake_reason.woken);
-            return Called::new();
+            owed.meet(&Called::new(), &turns.put_off);
+            return;
         }
-        self.tell(&turns.wake_reason, &turns.freed)
+        let called = self.tell(&turns.wake_reason, &turns.freed);
+        owed.meet(&called, &turns.put_off);
     }
 
     // Calls whom it put off to call.
     fn settle(&self, put_off: &mut PutOff)
-        ensures { put_off.new ≡ set_of [] }
+        ensures { AreNone put_off.new }
     {
         if !put_off.is_empty() {
             let _called = self.call_put_off(put_off);
@@ -451,8 +461,8 @@ impl<J: RunName> Pool<J> {
     #[cold]
     #[inline(never)]
     fn call_put_off(&self, put_off: &mut PutOff) -> Called
-        ensures called { AreCalledToo put_off.old nobody_called result }
-        ensures none { put_off.new ≡ set_of [] }
+        ensures called { AreCalledToo put_off.old.woken nobody_called result }
+        ensures none { AreNone put_off.new }
     {
         let mut called = Called::new();
         self.call_each(&put_off.take(), &mut called);

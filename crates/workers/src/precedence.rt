@@ -1,20 +1,30 @@
 use crate::lookout::Lookout;
+use crate::patience::Patience;
 use crossbeam_utils::CachePadded;
 use std::hint::spin_loop;
 use std::sync::atomic::{AtomicU64, Ordering};
 use std::sync::{Mutex, Wait};
+use std::thread::yield_now;
 
-// For how many moments a worker leaves the lock to the one with precedence: longer than that one keeps it.
-const LOOKS: u32 = 160_000;
+// For how many moments a worker looks for precedence in one go: about as long as being woken takes.
+const LOOKS: u32 = 400;
 
-/// Which worker has precedence: the others leave the lock to it, for a while. So it makes entry after entry, and what
+// How often it looks at most, as long as the one that has it makes entries: longer than that one keeps it.
+const MOST_GOES: u32 = 400;
+
+// Behind so many entries the one that has it says that it runs.
+const SEVERAL: usize = 4;
+
+/// Which worker has precedence: the others leave the lock to it, as long as it makes entries. So it makes entry after entry, and what
 /// the lock keeps stays in its processor's memory. It is a courtesy: nothing rests on it but speed.
 #[derive(Drop)]
 pub struct Precedence {
     // The thread whose worker has it, or 0.
     holder: CachePadded<AtomicU64>,
-    // Where one looks for it, and the others sleep.
-    room: CachePadded<Mutex<()>>,
+    // How often it said that it runs.
+    progress: CachePadded<AtomicU64>,
+    // Where one looks for it, and whether it does.
+    room: CachePadded<Mutex<Patience>>,
 }
 
 impl Precedence {
@@ -22,32 +32,60 @@ impl Precedence {
     pub fn new() -> Precedence {
         Precedence {
             holder: CachePadded::new(AtomicU64::new(0)),
-            room: CachePadded::new(Mutex::new(())),
+            progress: CachePadded::new(AtomicU64::new(0)),
+            room: CachePadded::new(Mutex::new(Patience::new())),
         }
     }
 
-    /// Takes it for the worker of thread `t`: at once where nobody else has it, else when that one gives it up, and
-    /// after a while anyhow. Where there is no place to look from, it is left where it is.
+    /// Takes it for the worker of thread `t`: at once where nobody else has it, else when that one gives it up, and anyhow
+    /// where that one makes no entry for a moment. Where there is no place to look from, it is left where it is.
     pub fn take<R: Wait>(&self, rt: &R, lookout: &Lookout, t: u32) {
         let me = u64::from(t);
         if !lookout.has_places() || self.holder.load(Ordering::SeqCst) == me || self.claim(me) {
             return;
         }
-        let _room = self.room.lock(rt);
+        let mut patience = self.room.lock(rt);
+        if !patience.looks() || !self.wait(me, &mut patience) {
+            self.holder.store(me, Ordering::SeqCst);
+        }
+    }
+
+    // Looks for it, again and again as long as the one that has it runs. In between others may have the processor. Says whether
+    // it came.
+    fn wait(&self, me: u64, patience: &mut Patience) -> bool {
+        for _ in 0..MOST_GOES {
+            let progress = self.progress.load(Ordering::SeqCst);
+            if self.look(me) {
+                return patience.note(true);
+            }
+            if self.progress.load(Ordering::SeqCst) == progress {
+                return patience.note(false);
+            }
+            yield_now();
+        }
+        false
+    }
+
+    // Looks for it in one go, and says whether it came.
+    fn look(&self, me: u64) -> bool {
         for _ in 0..LOOKS {
             if self.claim(me) {
-                return;
+                return true;
             }
             spin_loop();
         }
-        self.holder.store(me, Ordering::SeqCst);
+        false
     }
 
     /// Gives it up behind so many entries, if the worker of thread `t` has it and doesn't keep it (`Turns::keep_precedence`).
-    /// The worker counts its entries itself, so that nothing shared is written at one.
+    /// The worker counts its entries itself, so that nothing shared is written at each.
     pub fn pass_on(&self, t: u32, keeps: bool, count: usize, entries: &mut usize) {
         if keeps {
+            let before = *entries / SEVERAL;
             *entries = entries.saturating_add(count);
+            if *entries / SEVERAL != before {
+                self.progress.fetch_add(1, Ordering::SeqCst);
+            }
             return;
         }
         *entries = 0;

@@ -1,8 +1,8 @@
-ghost use Rattle.std.specs.Prelude.{◌≡◌, ◌≢◌, [], MatchBool};
+ghost use Rattle.std.specs.Prelude.{◌≡◌, ◌≢◌, ◌<◌, ◌≤◌, [], MatchBool};
 ghost use Rattle.machine.specs.ThreadSets.{set_of};
+ghost use Rattle.workers.specs.PutOffs.{AreNone, counted, for_entry};
 
 use machine::ThreadSet;
-use std::marker::Model;
 use std::thread;
 use std::thread::Threads;
 
@@ -32,8 +32,7 @@ impl Calls {
 }
 
 /// Threads that an entry woke and whose workers weren't called yet. A thread that is woken inside a monitor mostly waits for
-/// its lock next: so its worker is called when the one that wakes it gives a lock up, and not before. Contracts see the
-/// threads.
+/// its lock next: so its worker is called when the one that wakes it gives a lock up, and not before.
 #[derive(Drop)]
 pub struct PutOff {
     woken: ThreadSet,
@@ -41,18 +40,10 @@ pub struct PutOff {
     entries: u32,
 }
 
-impl Model for PutOff {
-    ghost use Rattle.machine.specs.declared.thread_set.ThreadSet.{ThreadSet};
-
-    ghost Value = { ThreadSet };
-
-    ghost view = { λ p. p.woken };
-}
-
 impl PutOff {
     /// No call is put off.
     pub fn new() -> PutOff
-        ensures { result ≡ set_of [] }
+        ensures { result ≡ for_entry (set_of []) }
     {
         PutOff {
             woken: ThreadSet::new(),
@@ -62,32 +53,37 @@ impl PutOff {
 
     /// Whether none is.
     pub fn is_empty(&self) -> bool
-        ensures { MatchBool result (self.now ≡ set_of []) (self.now ≢ set_of []) }
+        ensures { MatchBool result (self.now.woken ≡ set_of []) (self.now.woken ≢ set_of []) }
     {
         self.woken.is_empty()
     }
 
     /// Puts the calls of these threads' workers off. Those that were put off before have been made.
     pub fn put(&mut self, woken: &ThreadSet)
-        requires { self.old ≡ set_of [] }
-        ensures { self.new ≡ woken.now }
+        requires { AreNone self.old }
+        ensures { self.new ≡ for_entry woken.now }
     {
         self.woken = *woken;
         self.entries = 0;
     }
 
-    /// Counts an entry more, and answers whether they were put off for many.
+    /// Counts an entry more, for which they stay put off. Answers whether they were put off for as many as may be: then it
+    /// counts none.
     pub fn count(&mut self) -> bool
-        ensures { self.new ≡ self.old }
+        ensures { MatchBool result ((16 ≤ self.old.entries) × (self.new ≡ self.old))
+            ((self.old.entries < 16) × (self.new ≡ counted self.old)) }
     {
-        self.entries = self.entries.saturating_add(1);
-        self.entries > MOST_ENTRIES
+        if self.entries >= MOST_ENTRIES {
+            return true;
+        }
+        self.entries += 1;
+        false
     }
 
     /// Takes the threads, whose workers are to be called now.
     pub fn take(&mut self) -> ThreadSet
-        ensures taken { result ≡ self.old }
-        ensures none { self.new ≡ set_of [] }
+        ensures taken { result ≡ self.old.woken }
+        ensures none { self.new ≡ record self.old { woken = set_of [] } }
     {
         let woken = self.woken;
         self.woken.clear();

@@ -8,7 +8,7 @@ use crate::put_off::Calls;
 use crate::shared_run::SharedRun;
 use isa::Image;
 use runner::{PARTS, Report, RunFault, RunName, Shared, finish};
-use std::alloc::Global;
+use std::alloc::{AllocError, Global};
 use std::marker::Brand;
 use std::sync::Wait;
 use std::sync::ledger::Blank;
@@ -56,29 +56,42 @@ fn run_as<J: RunName + Send + Sync, R: Threads + Wait + Sync, G: Gate>(
     ensures ok { IfOk result (λ report. IsReport J.program J.outside J.limit report) }
     ensures err { IfErr result (λ fault. CanFail J.program J.outside J.limit fault) }
 {
-    let Ok(mut shared) = Shared::<J>::new(alloc, image, limit, blank) else {
+    let Ok(shared) = Shared::<J>::new(alloc, image, limit, blank) else {
         return Err(RunFault::Memory);
     };
-    let memory = shared.machine().memory_len();
-    let Some(kept) = shared.share() else {
-        unreachable!()
-    };
-    let Ok(pool) = Pool::new(rt, alloc, calls, SharedRun::new(shared, kept)) else {
+    let Ok(shared_run) = run_by_workers(rt, alloc, image, shared, calls, gate) else {
         return Err(RunFault::Memory);
     };
-    let Ok(sequences) = RunSequences::new(alloc, image) else {
-        return Err(RunFault::Memory);
-    };
-    let image_ref = ImageRef {
-        image,
-        sequences,
-        memory,
-    };
-    pool.start(rt, alloc, &image_ref, gate);
-    let (shared, fault, mut kept) = pool.into_shared_run().into_parts();
+    let (shared, fault, mut kept) = shared_run.into_parts();
     if let Some(fault) = fault {
         return Err(fault);
     }
     // Nothing is left to do but to see that the next entry of each thread that can move is refused.
     finish(alloc, shared, image, &mut kept, gate)
+}
+
+// Lets workers make entries until none is left that can.
+fn run_by_workers<J: RunName + Send + Sync, R: Threads + Wait + Sync, G: Gate>(
+    rt: &R,
+    alloc: Global,
+    image: &Image,
+    shared: Shared<J>,
+    calls: Calls,
+    gate: &G,
+) -> Result<SharedRun<J>, AllocError>
+    requires image { image.now ≡ J.program }
+    requires given { shared.given ≡ 0 }
+{
+    let mut shared = shared;
+    let image_ref = ImageRef {
+        image,
+        sequences: RunSequences::new(alloc, image)?,
+        memory: shared.machine().memory_len(),
+    };
+    let Some(kept) = shared.share() else {
+        unreachable!()
+    };
+    let pool = Pool::new(rt, alloc, calls, SharedRun::new(shared, kept))?;
+    pool.start(rt, alloc, &image_ref, gate);
+    Ok(pool.into_shared_run())
 }

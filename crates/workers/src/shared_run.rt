@@ -10,10 +10,11 @@ ghost use Rattle.runner.specs.declared.next.After.TheVariants.{Goes};
 ghost use Rattle.workers.specs.SharedRuns.{HasCause, KeepsWorkers, StartsWorker, is_able, state_of};
 ghost use Rattle.workers.specs.BucketWaiters.{nobody};
 ghost use Rattle.workers.specs.Handed.{ComesIn, StaysAway, ComeIn, StopsAt, IsNextOf, IsNextOfFirst};
-ghost use Rattle.workers.specs.Handed.{ComeInTogether, FirstComesIn, Frees, IsUntouched, noted};
+ghost use Rattle.workers.specs.Handed.{ComeInTogether, FirstComesIn, Frees, IsAfresh, IsUntouched, noted};
 ghost use Rattle.workers.specs.WakeReasons.{Concerns, gives_up, gives_up_by, last_event, nobody_concerned};
 
 use crate::bucket_waiters::BucketWaiters;
+use crate::owed::Owed;
 use crate::parker::Parker;
 use crate::turns::Turns;
 use machine::{EventName, Machine, ThreadSet};
@@ -199,12 +200,39 @@ impl<J: RunName> SharedRun<J> {
             share.old share.new result
             ⊎ IsNextOfFirst self.new t turns.new.pieces.items result }
         ensures workers { KeepsWorkers self.old self.new }
+        ensures same { turns.new.put_off ≡ turns.old.put_off }
     {
         if let Some(after) = self.take_in(t, turns.taken(), share, parker) {
             return after;
         }
         self.go_on_alone(t, share, gate);
         self.next(t, &mut turns.pieces[0])
+    }
+
+    /// Takes in the turns of thread `t` as `hand_in` does, and notes whom the last entry concerns, which its worker owes. Of the
+    /// entries that are made now only the last one may wake threads or make one: a piece behind another begins where that one
+    /// has come, and the thread is elsewhere behind a step that does so, which refuses the piece. Further entries are of the
+    /// only thread there is. Who waited for buckets was noted at each entry.
+    pub fn hand_in_owing<G: Gate>(
+        &mut self,
+        t: u32,
+        turns: &mut Turns<J>,
+        share: &mut Share<J>,
+        parker: &Parker,
+        gate: &G,
+    ) -> (After, Owed)
+        ensures goes_on { IsAfresh t turns.new.pieces.items result.0 }
+        ensures concerns { Concerns (last_event self.new.shared.log) turns.new.wake_reason }
+        ensures freed { self.new.freed ≡ nobody }
+        ensures owed { (result.1.woken.value ≡ turns.new.wake_reason.woken) × (result.1.freed.value ≡ turns.new.freed) }
+        ensures workers { KeepsWorkers self.old self.new }
+        ensures same { turns.new.put_off ≡ turns.old.put_off }
+    {
+        let after = self.hand_in(t, turns, share, parker, gate);
+        self.tell_last(&mut turns.wake_reason);
+        self.take_freed(&mut turns.freed);
+        let owed = Owed::new(&turns.wake_reason.woken, &turns.freed);
+        (after, owed)
     }
 
     /// Takes in one turn of thread `t` that led to an access to a word, as most do, where others were made. It concerns
@@ -216,6 +244,7 @@ impl<J: RunName> SharedRun<J> {
         ensures told { result ≡ true → Concerns (last_event self.new.shared.log) nobody_concerned }
         ensures none { result ≡ false → (self.new ≡ self.old) × (share.new ≡ share.old) × (turns.new.taken ≡ turns.old.taken)
             × (turns.new.pieces.items ≡ turns.old.pieces.items) }
+        ensures same { turns.new.put_off ≡ turns.old.put_off }
         ensures workers { KeepsWorkers self.old self.new }
     {
         if self.fault.is_some() {

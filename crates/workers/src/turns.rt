@@ -1,12 +1,14 @@
-ghost use Rattle.std.specs.Prelude.{◌≡◌, ◌<◌, ◌≤◌, [], ◌∷◌, vec_len, take, true, false, IfOk, MatchBool};
+ghost use Rattle.std.specs.Prelude.{◌≡◌, ◌≢◌, ◌⊎◌, ◌<◌, ◌≤◌, [], ◌∷◌, vec_len, take, true, false, IfOk, MatchBool};
 ghost use Rattle.machine.specs.ThreadSets.{set_of};
 ghost use Rattle.workers.specs.BucketWaiters.{nobody};
+ghost use Rattle.workers.specs.PutOffs.{AreDue, AreNone};
 ghost use Rattle.workers.specs.Taken.{AreTurns, IsTurn, IsGrown, StartsAt, idle};
 
 use crate::ahead::Ahead;
 use crate::bucket_waiters::BucketWaiters;
 use crate::image_ref::ImageRef;
 use crate::no_words::NoWords;
+use crate::patience::Patience;
 use crate::put_off::PutOff;
 use crate::shared_run::WakeReason;
 use locals::{NextStep, Request};
@@ -43,6 +45,8 @@ pub struct Turns<J: RunName> {
     pub put_off: PutOff,
     /// How many entries were made since its worker gave precedence up.
     pub entries: usize,
+    /// Whether its worker looks for a call before it parks.
+    pub patience: Patience,
     /// What its worker does ahead of the machine.
     pub ahead: Ahead<J>,
     nothing: NoWords,
@@ -65,6 +69,7 @@ impl<J: RunName> Turns<J> {
             freed: BucketWaiters::new(),
             put_off: PutOff::new(),
             entries: 0,
+            patience: Patience::new(),
             ahead: Ahead::new(alloc, t)?,
             nothing,
         })
@@ -102,7 +107,7 @@ impl<J: RunName> Turns<J> {
     /// Notes that the first piece came in as an access, and its worker has precedence or not. Behind many such entries, with no
     /// call put off, it goes ahead.
     pub fn note_access(&mut self, keeps: bool, image_ref: &ImageRef<J>)
-        ensures { self.new.pieces ≡ self.old.pieces }
+        ensures { (self.new.pieces ≡ self.old.pieces) × (self.new.put_off ≡ self.old.put_off) }
     {
         if keeps && self.put_off.is_empty() {
             self.ahead.note(&self.pieces[0], image_ref.memory);
@@ -113,10 +118,12 @@ impl<J: RunName> Turns<J> {
 
     /// Counts one more entry for the calls that were put off, and answers whether they are due behind it: where it gives a lock
     /// up, where many local steps were taken, and behind many entries.
+    #[tactic(auto, using(crate::proofs::Delaying::due_later))]
     pub fn is_call_due(&mut self, image_ref: &ImageRef<J>) -> bool
         ensures same { (self.new.pieces ≡ self.old.pieces) × (self.new.taken ≡ self.old.taken)
-            × (self.new.put_off ≡ self.old.put_off) }
-        ensures none { self.old.put_off ≡ set_of [] → result ≡ false }
+            × (self.new.put_off.woken ≡ self.old.put_off.woken) }
+        ensures none { AreNone self.old.put_off → result ≡ false }
+        ensures counted { result ≡ false → AreDue self.old.put_off self.new.put_off }
     {
         !self.put_off.is_empty()
             && (self.put_off.count() || !self.are_few() || self.give_lock_up(image_ref))
@@ -141,7 +148,8 @@ impl<J: RunName> Turns<J> {
 
     /// Whether it concerns the threads that it woke, and nobody else: their calls may be put off.
     pub fn may_put_off(&self) -> bool
-        ensures { result ≡ true → (self.now.wake_reason.forked ≡ false) × (self.now.freed ≡ nobody) }
+        ensures { MatchBool result ((self.now.wake_reason.forked ≡ false) × (self.now.freed ≡ nobody))
+            ((self.now.wake_reason.forked ≡ true) ⊎ (self.now.freed ≢ nobody)) }
     {
         !self.wake_reason.forked && self.freed.is_empty()
     }
