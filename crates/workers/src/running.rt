@@ -82,16 +82,44 @@ fn run_by_workers<J: RunName + Send + Sync, R: Threads + Wait + Sync, G: Gate>(
     requires image { image.now ≡ J.program }
     requires given { shared.given ≡ 0 }
 {
+    let memory = shared.machine().memory_len();
+    let pool = pool_of(rt, alloc, shared, calls)?;
+    start(rt, alloc, image, memory, &pool, gate)?;
+    Ok(pool.into_shared_run())
+}
+
+// The pool in which workers make the entries of a run, before any was started.
+fn pool_of<J: RunName, R: Threads>(
+    rt: &R,
+    alloc: Global,
+    shared: Shared<J>,
+    calls: Calls,
+) -> Result<Pool<J>, AllocError>
+    requires { shared.given ≡ 0 }
+{
     let mut shared = shared;
-    let image_ref = ImageRef {
-        image,
-        sequences: RunSequences::new(alloc, image)?,
-        memory: shared.machine().memory_len(),
-    };
     let Some(kept) = shared.share() else {
         unreachable!()
     };
-    let pool = Pool::new(rt, alloc, calls, SharedRun::new(shared, kept))?;
+    Pool::new(rt, alloc, calls, SharedRun::new(shared, kept))
+}
+
+// Starts the workers of a pool, on an image whose memory has so many words, and returns when all have ended.
+fn start<J: RunName + Send + Sync, R: Threads + Wait + Sync, G: Gate>(
+    rt: &R,
+    alloc: Global,
+    image: &Image,
+    memory: usize,
+    pool: &Pool<J>,
+    gate: &G,
+) -> Result<(), AllocError>
+    requires { image.now ≡ J.program }
+{
+    let image_ref = ImageRef {
+        image,
+        sequences: RunSequences::new(alloc, image)?,
+        memory,
+    };
     pool.start(rt, alloc, &image_ref, gate);
-    Ok(pool.into_shared_run())
+    Ok(())
 }
