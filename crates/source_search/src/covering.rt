@@ -3,6 +3,7 @@ use crate::outside::Outside;
 use crate::packed::Packed;
 use crate::parts::Parts;
 use crate::replay::OPENING;
+use crate::spot::Spot;
 use program::Checked;
 use source_reaching::{Trail, Unread, follow_own, is_lost, looks_calm};
 use source_states::SourceState;
@@ -16,6 +17,8 @@ impl<'a> Parts<'a> {
     ghost use Rattle.program.specs.Views.{program_of};
     ghost use Rattle.source_search.specs.Covered.{IsAheadOf};
     ghost use Rattle.source_search.specs.Packed.{IsGrown, IsWithin};
+    ghost use Rattle.source_search.specs.Spots.{IsAlone, IsSpotOf};
+    ghost use Rattle.source_states.specs.States.{state_of};
 
     // The place of the first process of a kept state whose next action looks calm. Nothing is promised of it.
     fn calm_in(&self, packed: &Packed) -> Option<usize> {
@@ -46,15 +49,34 @@ impl<'a> Parts<'a> {
         let Some(spot) = packed.spot(place) else {
             return Ok(None);
         };
-        let Some(found) = self.small(alloc, spot)? else {
+        let Some(mut small) = self.small(alloc, spot)? else {
             return Ok(None);
         };
-        let mut small = found;
-        let followed = follow_own(alloc, checked, &mut small, u64::from(spot.process), trail)?;
+        self.follow_from(alloc, checked, packed, place, spot, &mut small, trail)
+    }
+
+    // The same, where the process is alone at its spot.
+    fn follow_from<T: Trail>(
+        &mut self,
+        alloc: Global,
+        checked: &'a Checked,
+        packed: &Packed,
+        place: usize,
+        spot: Spot,
+        small: &mut SourceState<'a>,
+        trail: &mut T,
+    ) -> Result<Option<Packed>, AllocError>
+        requires spot { IsSpotOf packed.now place spot }
+        requires alone { IsAlone self.old spot (state_of small.old) }
+        ensures grown { OnOk result (IsGrown self.old self.new) }
+        ensures ahead { IsWithin self.old packed.now → IfOk result (λ o. IfSome o
+            (λ x. IsAheadOf (program_of checked.now.tree) self.old self.new packed.now x)) }
+    {
+        let followed = follow_own(alloc, checked, small, u64::from(spot.process), trail)?;
         if is_lost(&followed) {
             return Ok(None);
         }
-        self.merge(alloc, checked.program(), packed, &small)
+        self.merge(alloc, checked.program(), packed, small)
     }
 
     /// What calm actions of one process at a time lead to from a kept state, and notes them; None where nothing is known

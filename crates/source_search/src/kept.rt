@@ -15,7 +15,7 @@ use source_states::SourceState;
 use std::alloc::{AllocError, Global};
 
 /// How a kept state was come to: from which, by which process, and by which of its choices.
-#[derive(Clone, Copy, Debug)]
+#[derive(Clone, Copy)]
 pub(crate) struct Way {
     /// The place of the state before.
     pub before: u32,
@@ -54,7 +54,7 @@ impl Way {
 }
 
 /// The kept state that is looked at.
-#[derive(Clone, Copy, Debug)]
+#[derive(Clone, Copy)]
 pub(crate) struct Origin {
     /// Its place.
     pub place: usize,

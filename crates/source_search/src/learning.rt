@@ -4,6 +4,7 @@ use crate::parts::Parts;
 use crate::spot::Spot;
 use program::Checked;
 use source_reaching::{End, Unread};
+use source_states::SourceState;
 use std::alloc::{AllocError, Global};
 
 impl<'a> Parts<'a> {
@@ -13,7 +14,8 @@ impl<'a> Parts<'a> {
     ghost use Rattle.source_reaching.specs.Among.{AreEnds};
     ghost use Rattle.source_reaching.specs.Ends.{ends_in};
     ghost use Rattle.source_states.specs.States.{state_of};
-    ghost use Rattle.source_search.specs.Known.{AreOutcomes, IsKnownAt, IsOutcome, listed_in};
+    ghost use Rattle.source_search.specs.Covered.{IsAheadBeside};
+    ghost use Rattle.source_search.specs.Known.{AreOutcomes, IsKnownAt, IsNumbered, IsOutcome, listed_in};
     ghost use Rattle.source_search.specs.Packed.{IsGrown};
     ghost use Rattle.source_search.specs.Spots.{IsSpotWithin, alone};
 
@@ -36,11 +38,32 @@ impl<'a> Parts<'a> {
             return self.number(alloc, program, spot, &end.state, end.choice, end.later);
         }
         let mut state = end.state.copy(alloc)?;
+        self.outcome_behind(
+            alloc, checked, spot, before, &mut state, end.choice, end.later,
+        )
+    }
+
+    // The same of a state by these choices, in which the other is followed.
+    fn outcome_behind(
+        &mut self,
+        alloc: Global,
+        checked: &'a Checked,
+        spot: Spot,
+        before: usize,
+        state: &mut SourceState<'a>,
+        choice: usize,
+        later: usize,
+    ) -> Result<Option<Outcome>, AllocError>
+        ensures grown { OnOk result (IsGrown self.old self.new) }
+        ensures numbered { IfOk result (λ o. IfSome o (λ x. IsAheadBeside (program_of checked.now.tree)
+            (state_of state.old) (state_of state.new)
+            × IsNumbered self.new spot.process (state_of state.new) x)) }
+    {
         let process = u64::from(spot.process);
-        if !follow_made(alloc, checked, &mut state, process, before, &mut Unread)? {
+        if !follow_made(alloc, checked, state, process, before, &mut Unread)? {
             return Ok(None);
         }
-        self.number(alloc, program, spot, &state, end.choice, end.later)
+        self.number(alloc, checked.program(), spot, state, choice, later)
     }
 
     // The same of all that it comes to.

@@ -7,7 +7,7 @@ use std::alloc::{AllocError, Global};
 
 /// What a process comes to: where it stands then, with the table and the variables, and where the process stands that it
 /// made, if it made one. Of all others nothing changes.
-#[derive(Clone, Copy, Debug)]
+#[derive(Clone, Copy)]
 pub(crate) struct Outcome {
     /// Where the process stands.
     pub part: u32,

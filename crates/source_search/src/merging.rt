@@ -32,7 +32,7 @@ fn put_part(processes: &mut Vec<u32>, process: u64, part: u32) -> Result<bool, A
 }
 
 // What an outcome says of the way to it, in two bytes each.
-#[derive(Clone, Copy, Debug)]
+#[derive(Clone, Copy)]
 struct Short {
     // The number of the process that was made; 0 where none was.
     made: u16,

@@ -1,7 +1,7 @@
 use std::alloc::{AllocError, Global};
 
 // A place for a number.
-#[derive(Clone, Copy, Debug)]
+#[derive(Clone, Copy)]
 struct Slot {
     // The upper half of its digest, by which its place is found.
     mark: u32,
@@ -16,7 +16,7 @@ const FREE: u32 = u32::MAX;
 const LEAST: usize = 64;
 
 /// A number that stands behind a digest, and how many places were tried for it.
-#[derive(Clone, Copy, Debug)]
+#[derive(Clone, Copy)]
 pub(crate) struct Found {
     /// The number.
     pub number: u32,

@@ -93,19 +93,28 @@ fn go_between<'a>(
     let Some(spot) = before.spot((way.process as usize).saturating_sub(1)) else {
         return Ok(());
     };
-    let Some(found) = parts.small(alloc, spot)? else {
-        return Ok(());
-    };
-    let mut small = found;
-    if go_through(
-        alloc,
-        checked,
-        &mut small,
-        way,
-        before.processes.len(),
-        actions,
-    )? {
-        settle_behind(alloc, checked, parts, before, after, &small, actions)?;
+    match parts.small(alloc, spot)? {
+        None => Ok(()),
+        Some(mut small) => go_from(
+            alloc, checked, parts, before, after, way, &mut small, actions,
+        ),
+    }
+}
+
+// The same, where the process stands so, alone.
+fn go_from<'a>(
+    alloc: Global,
+    checked: &'a Checked,
+    parts: &mut Parts<'a>,
+    before: &Packed,
+    after: &Packed,
+    way: Way,
+    small: &mut SourceState<'a>,
+    actions: &mut Vec<Action>,
+) -> Result<(), AllocError> {
+    let made = before.processes.len();
+    if go_through(alloc, checked, small, way, made, actions)? {
+        settle_behind(alloc, checked, parts, before, after, small, actions)?;
     }
     Ok(())
 }
@@ -184,7 +193,18 @@ fn settle_opening<'a>(
     actions: &mut Vec<Action>,
 ) -> Result<(), AllocError> {
     let opening = SourceState::opening(alloc, checked, ImageVersion::Two)?;
-    if let Some(packed) = parts.pack(alloc, checked.program(), &opening, 0, 0)? {
+    settle_from(alloc, checked, parts, &opening, actions)
+}
+
+// The same, where every run begins in this state.
+fn settle_from<'a>(
+    alloc: Global,
+    checked: &'a Checked,
+    parts: &mut Parts<'a>,
+    opening: &SourceState<'a>,
+    actions: &mut Vec<Action>,
+) -> Result<(), AllocError> {
+    if let Some(packed) = parts.pack(alloc, checked.program(), opening, 0, 0)? {
         let _settled = parts.settle(alloc, checked, packed, actions)?;
     }
     Ok(())
@@ -243,15 +263,22 @@ fn interleave<'a>(
     actions: &mut Vec<Action>,
 ) -> Result<(), AllocError> {
     let mut state = SourceState::opening(alloc, checked, ImageVersion::Two)?;
+    take_ways(alloc, checked, ways, back, outside, &mut state, actions)
+}
+
+// The same from a state.
+fn take_ways<'a>(
+    alloc: Global,
+    checked: &'a Checked,
+    ways: &[Way],
+    back: &[usize],
+    outside: Outside,
+    state: &mut SourceState<'a>,
+    actions: &mut Vec<Action>,
+) -> Result<(), AllocError> {
     for at in back.iter().rev() {
-        if !take_way(
-            alloc,
-            checked,
-            ways.get(*at).copied(),
-            outside,
-            &mut state,
-            actions,
-        )? {
+        let way = ways.get(*at).copied();
+        if !take_way(alloc, checked, way, outside, state, actions)? {
             break;
         }
     }

@@ -1,7 +1,7 @@
 ghost use Rattle.std.specs.Prelude.{◌≡◌, true};
 
 /// Where a process of a kept state stands, and all that it may do next depends on, in numbers of parts.
-#[derive(Clone, Copy, Debug)]
+#[derive(Clone, Copy)]
 pub(crate) struct Spot {
     /// The number of the process.
     pub process: u32,

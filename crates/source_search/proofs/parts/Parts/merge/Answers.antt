@@ -5,6 +5,7 @@ use Rattle.source_states.specs.States.{state_of}
 use Rattle.source_search.specs.Packed.{table_in, variables_in}
 use Rattle.source_search.specs.Spots.{IsMergedTo}
 use Rattle.source_search.proofs.Merged.{merged_all}
+use Rattle.source_search.proofs.Packing.{grown_twice}
 use Rattle.source_search.proofs.parts.Parts.merge.Goals as goal
 
 pub returns-clause-merged : goal.returns-clause-merged
@@ -32,3 +33,10 @@ returns-clause-merged c = λ within.
     (subst (λ (xs : List ℕ). (q : ℕ) → Contains xs q ↔ IsSome (s.process q)) (sym c.as_slice-numbers.ensures.value)
     c.in_ok-all.ensures.all)
     t (v ∙ ap Some c.variables-values.ensures)
+
+pub returns-clause-grown : goal.returns-clause-grown
+returns-clause-grown c =
+    let a = c.merge_processes.new.self in
+    let b = c.table_number.new.self in
+    grown_twice c.args.self.now a c.variables_number.new.self c.in_ok-processes.ensures.grown
+    (grown_twice a b c.variables_number.new.self c.in_ok-table.ensures.grown c.in_ok-variables.ensures.grown)

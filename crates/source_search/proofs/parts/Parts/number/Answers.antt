@@ -5,6 +5,7 @@ use Rattle.source_states.specs.States.{state_of}
 use Rattle.source_search.specs.Known.{AreOnly, IsChild}
 use Rattle.source_search.specs.Packed.{process_in, table_in, variables_in}
 use Rattle.source_search.proofs.Remembered.{numbered}
+use Rattle.source_search.proofs.Packing.{grown_twice}
 use Rattle.source_search.proofs.parts.Parts.number.Goals as goal
 
 pub returns-clause-numbered : goal.returns-clause-numbered
@@ -29,3 +30,13 @@ returns-clause-numbered c =
     table (v ∙ ap Some c.variables-values.ensures) c.in-Some.number c.in-Some-way_of.ensures
     (subst (λ ns. AreOnly ns t c.in-Some.number) c.as_slice.ensures.value
     (subst (λ n. AreOnly c.as_slice.result.now n c.in-Some.number) c.from.ensures c.in-Some.ensures)) child
+
+pub returns-clause-grown : goal.returns-clause-grown
+returns-clause-grown c =
+    let a = c.process_number.new.self in
+    let e = c.child_number.new.self in
+    let b = c.table_number.new.self in
+    let d = c.variables_number.new.self in
+    grown_twice c.args.self.now a d c.in_ok-part.ensures.grown
+    (grown_twice a e d c.in_ok-child.ensures.grown
+    (grown_twice e b d c.in_ok-table.ensures.grown c.in_ok-variables.ensures.grown))

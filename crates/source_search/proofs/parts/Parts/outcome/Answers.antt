@@ -13,7 +13,7 @@ returns-then-made-before-clause-numbered c =
 
 pub returns-clause-numbered : goal.returns-clause-numbered
 returns-clause-numbered c =
-    IfOk-weaker c.number-2.result _ _ (λ o h. IfSome_then o h (λ x is.
-    copied_outcome (program_of c.args.checked.now.tree) c.number-2.new.self c.args.spot.process
-    (state_of c.args.end.now.state) (state_of c.in_ok-state.state) (state_of c.follow_made.new.state) x
-    c.in_ok-state.ensures (c.in_ok-follow_made.ensures c.if-not-branch.false) is)) c.number-2.ensures.numbered
+    IfOk-weaker c.outcome_behind.result _ _ (λ o h. IfSome_then o h (λ x is.
+    copied_outcome (program_of c.args.checked.now.tree) c.outcome_behind.new.self c.args.spot.process
+    (state_of c.args.end.now.state) (state_of c.in_ok-state.state) (state_of c.outcome_behind.new.state) x
+    c.in_ok-state.ensures is.0 is.1)) c.outcome_behind.ensures.numbered

@@ -3,7 +3,7 @@ use Rattle.std.specs.Prelude.{IsSome}
 use Rattle.source_offers.specs.Stores.{variables_of}
 use Rattle.source_states.specs.States.{state_of}
 use Rattle.source_search.specs.Packed.{ArePacked, table_in, variables_in}
-use Rattle.source_search.proofs.Packing.{packed_all}
+use Rattle.source_search.proofs.Packing.{grown_twice, packed_all}
 use Rattle.source_search.proofs.parts.Parts.pack.Goals as goal
 
 pub returns-clause-packed : goal.returns-clause-packed
@@ -24,3 +24,10 @@ returns-clause-packed c =
     (subst (λ (xs : List ℕ). (q : ℕ) → Contains xs q ↔ IsSome (s.process q)) (sym c.as_slice-numbers.ensures.value)
     c.in_ok-all.ensures.all)
     t (v ∙ ap Some c.variables-values.ensures)
+
+pub returns-clause-grown : goal.returns-clause-grown
+returns-clause-grown c =
+    let a = c.pack_processes.new.self in
+    let b = c.table_number.new.self in
+    grown_twice c.args.self.now a c.variables_number.new.self c.in_ok-processes.ensures.grown
+    (grown_twice a b c.variables_number.new.self c.in_ok-table.ensures.grown c.in_ok-variables.ensures.grown)
