@@ -105,7 +105,7 @@ pub fn condition_fault(meaning: Meaning) -> Option<RefusalKind>
 }
 
 /// The faults of a comparison's two sides.
-#[derive(Clone, Copy, PartialEq, Eq, Debug)]
+#[derive(Clone, Copy)]
 pub struct Sides {
     /// That of the left side, if any.
     pub left: Option<RefusalKind>,

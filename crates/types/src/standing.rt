@@ -13,7 +13,7 @@ use std::alloc::{AllocError, Global};
 use syntax::{Local, Name, Parameter};
 
 /// What a variable's name means.
-#[derive(Clone, Copy, PartialEq, Eq, Debug)]
+#[derive(Clone, Copy)]
 pub enum Meaning {
     /// Nothing.
     Nothing,
