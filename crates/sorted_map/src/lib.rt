@@ -150,25 +150,3 @@ impl<K: Copy + Ord, V: PartialEq> PartialEq for SortedMap<K, V> {
         self.entries == other.entries
     }
 }
-
-#[cfg(test)]
-mod tests {
-    use super::*;
-    use std::test::Fail;
-
-    #[test]
-    fn the_keys_rise_and_the_last_value_stays(rt: HostRuntime) -> Result<(), Fail> {
-        let mut map = SortedMap::new(rt.alloc());
-        for (key, value) in [(7_u32, 1_u64), (4, 2), (9, 5), (7, 3)] {
-            map.insert(key, value)?;
-        }
-        map.remove(9);
-        map.remove(8);
-        assert_eq!(rt; map.entries(), [(4, 2), (7, 3)].as_slice());
-        assert_eq!(rt; map.get(7), Some(3));
-        assert_eq!(rt; map.get(9), None);
-        let other = map.copy()?;
-        assert!(rt; map == other);
-        Ok(())
-    }
-}

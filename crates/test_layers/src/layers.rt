@@ -31,8 +31,8 @@ impl Model for Layers {
     ghost invariant = { λ l. (length l.mem ≡ 512) × (thread_count l.buckets ≡ 64) };
 }
 
-// The numbers of a call.
-fn numbers(alloc: Global, text: &str) -> Result<Vec<u32>, Failure> {
+/// The numbers of a call.
+pub fn numbers(alloc: Global, text: &str) -> Result<Vec<u32>, Failure> {
     let mut numbers = Vec::new(alloc);
     for word in text.split_whitespace() {
         match word.parse::<u32>() {

@@ -4,13 +4,17 @@
 //! 512 words and 64 threads: `buckets N` makes them anew, and `load 385` or `wait 5 385 6` is a call on them. A row
 //! that begins with a number sign is printed as it is. `code` and `answer` take the steps of one thread: how many
 //! instructions there are, their bytes in hexadecimal digits, and its operands. `tokens` is followed by a source text,
-//! `spelled` by one in hexadecimal digits, and `blanks` by the length of one that is nothing but blanks.
+//! `spelled` by one in hexadecimal digits, and `blanks` by the length of one that is nothing but blanks. `log` is
+//! followed by entries with commas between them, each behind the name of the call that puts it into a packed log, and
+//! `map` by calls on a sorted map, likewise apart.
 #![tactic(auto)]
 
 mod answer;
 mod failure;
 mod images;
 mod layers;
+mod logs;
+mod maps;
 mod threads;
 mod tokens;
 mod walk;
@@ -19,6 +23,8 @@ use crate::answer::show;
 use crate::failure::Failure;
 use crate::images::{show_beginnings, show_image};
 use crate::layers::Layers;
+use crate::logs::show_log;
+use crate::maps::show_map;
 use crate::threads::{show_answered, show_code};
 use crate::tokens::{show_blanks, show_spelled, show_tokens};
 use std::io;
@@ -66,6 +72,8 @@ fn run_row(rt: &HostRuntime, layers: &mut Layers, row: &str) -> Result<(), Failu
         "tokens" => show_tokens(rt, rest.as_bytes()),
         "spelled" => show_spelled(rt, rest),
         "blanks" => show_blanks(rt, rest),
+        "log" => show_log(rt, rest),
+        "map" => show_map(rt, rest),
         _ => call(rt, layers, name, rest),
     }
 }
