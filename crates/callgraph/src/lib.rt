@@ -14,7 +14,7 @@ pub use chain::chains;
 pub use graph::{Graph, Row};
 
 /// A call of a procedure by another. Procedures are numbered from 0.
-#[derive(Clone, Copy, PartialEq, Eq, Debug)]
+#[derive(Clone, Copy)]
 pub struct Call {
     /// The procedure that calls.
     pub caller: u32,
