@@ -4,6 +4,7 @@ pub mod Along
 pub mod Texts
 pub mod Relations
 pub mod Steps
+pub mod Named
 pub mod Views
 pub mod Uses
 pub mod Circles
