@@ -10,3 +10,4 @@ pub mod Keeping
 pub mod Coverage
 pub mod Remembered
 pub mod Searched
+pub mod Bounded

@@ -5,3 +5,4 @@ pub mod Packed
 pub mod Spots
 pub mod Covered
 pub mod Known
+pub mod Bounds

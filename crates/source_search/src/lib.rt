@@ -1,6 +1,7 @@
 //! A search over all runs of a source program: whether one gets stuck, and whether a process aborts in one.
 #![tactic(auto)]
 
+mod bounds;
 mod choices;
 mod covering;
 mod digest;
@@ -23,6 +24,7 @@ mod runs;
 mod search;
 mod spot;
 
+pub use bounds::Bound;
 pub use outside::Outside;
 pub use progress::{Progress, Untold};
 pub use runs::{Exploration, explore};

@@ -1,8 +1,12 @@
-ghost use Rattle.std.specs.Prelude.{◌≡◌, IfOk, IfSome, None, true};
+ghost use Rattle.std.specs.Prelude.{◌≡◌, IfOk, IfSome, List, MatchOption, None, OnOk, false, length, true};
 ghost use Rattle.program.specs.Views.{program_of};
 ghost use Rattle.proof_exploration.specs.Exploring.{IsStuck};
-ghost use Rattle.source_search.specs.Found.{HasFailed, LeadsNowhere, LeadsTo};
+ghost use Rattle.meaning.specs.States.{SourceState as SourceStateOf, opening};
+ghost use Rattle.source_search.specs.Bounds.{HasSearched, IsMet};
+ghost use Rattle.source_search.specs.Found.{HasFailed, LeadsNowhere, LeadsTo, is_any};
+ghost use Rattle.source_search.specs.Kept.{IsSeen, IsSound, states_of};
 
+use crate::bounds::Bound;
 use crate::ends::{has_failed, is_stuck};
 use crate::kept::Kept;
 use crate::outside::{Outside, are_from};
@@ -25,6 +29,8 @@ pub struct Exploration {
     pub stuck: Option<Vec<Action>>,
     /// A run at whose end some process has aborted, and not of a kill where kills are searched, where one was found.
     pub aborted: Option<Vec<Action>>,
+    /// Why the search wasn't complete, where it wasn't.
+    pub bound: Option<Bound>,
 }
 
 // Whether these are a run of actions that are searched, at whose end no process can move and not all are over.
@@ -117,6 +123,33 @@ fn aborted_run<'a>(
     Ok(None)
 }
 
+// What a search found, as runs.
+#[derive(Drop)]
+struct Told {
+    // A run at whose end no process can move.
+    stuck: Option<Vec<Action>>,
+    // A run at whose end some process has aborted.
+    aborted: Option<Vec<Action>>,
+}
+
+// The runs to what was found, as far as they are told.
+fn runs_found<'a>(
+    alloc: Global,
+    checked: &'a Checked,
+    kept: &mut Kept<'a>,
+    findings: &Findings,
+    outside: Outside,
+) -> Result<Told, AllocError>
+    ensures stuck { IfOk result (λ t. IfSome t.stuck (λ v. LeadsTo (program_of checked.now.tree) outside
+        (IsStuck (program_of checked.now.tree)) v.items)) }
+    ensures aborted { IfOk result (λ t. IfSome t.aborted
+        (λ v. LeadsTo (program_of checked.now.tree) outside (HasFailed outside) v.items)) }
+{
+    let stuck = stuck_run(alloc, checked, kept, findings.stuck, outside)?;
+    let aborted = aborted_run(alloc, checked, kept, findings.aborted, outside)?;
+    Ok(Told { stuck, aborted })
+}
+
 // Whether what was found is told, where anything was.
 fn is_told(place: Option<usize>, run: &Option<Vec<Action>>) -> bool
     ensures { result ≡ true → run.now ≡ None → place ≡ None }
@@ -124,22 +157,106 @@ fn is_told(place: Option<usize>, run: &Option<Vec<Action>>) -> bool
     place.is_none() || run.is_some()
 }
 
-// Whether the search came to its end, and what it found is told.
-fn is_complete(
-    opens: bool,
-    findings: &Findings,
-    stuck: &Option<Vec<Action>>,
-    aborted: &Option<Vec<Action>>,
-) -> bool
+// Whether the first state was kept, the search came to its end, and what it found is told.
+fn is_complete(opens: bool, findings: &Findings, told: &Told) -> bool
     ensures opens { result ≡ true → opens ≡ true }
     ensures complete { result ≡ true → findings.now.complete ≡ true }
-    ensures stuck { result ≡ true → stuck.now ≡ None → findings.now.stuck ≡ None }
-    ensures aborted { result ≡ true → aborted.now ≡ None → findings.now.aborted ≡ None }
+    ensures stuck { result ≡ true → told.now.stuck ≡ None → findings.now.stuck ≡ None }
+    ensures aborted { result ≡ true → told.now.aborted ≡ None → findings.now.aborted ≡ None }
 {
     opens
         && findings.complete
-        && is_told(findings.stuck, stuck)
-        && is_told(findings.aborted, aborted)
+        && is_told(findings.stuck, &told.stuck)
+        && is_told(findings.aborted, &told.aborted)
+}
+
+// What kept a search from its end that may keep so many states, and keeps so many.
+fn met_bound(opens: bool, findings: &Findings, most: usize, states: usize) -> Bound
+    ensures { (kept : List SourceStateOf) → length kept ≡ states
+        → (findings.now.complete ≡ false → IsMet most kept findings.now.bound) → IsMet most kept result }
+{
+    if states >= most {
+        return Bound::States;
+    }
+    if !opens {
+        return Bound::Lost;
+    }
+    if !findings.complete {
+        return findings.bound;
+    }
+    Bound::Run
+}
+
+// The same, unless it was complete.
+fn bound_unless(
+    complete: bool,
+    opens: bool,
+    findings: &Findings,
+    most: usize,
+    states: usize,
+) -> Option<Bound>
+    ensures { MatchOption result (complete ≡ true) (λ b. (complete ≡ false) × ((kept : List SourceStateOf)
+        → length kept ≡ states → (findings.now.complete ≡ false → IsMet most kept findings.now.bound)
+        → IsMet most kept b)) }
+{
+    if complete {
+        return None;
+    }
+    Some(met_bound(opens, findings, most, states))
+}
+
+// Keeps the state in which every run begins, or what calm actions lead to from it; false where it can't be kept.
+fn keep_opening<'a>(
+    alloc: Global,
+    checked: &'a Checked,
+    kept: &mut Kept<'a>,
+    outside: Outside,
+) -> Result<bool, AllocError>
+    requires sound { IsSound kept.old }
+    ensures sound { OnOk result (IsSound kept.new) }
+    ensures seen { IfOk result (λ opens. opens ≡ true → IsSeen (program_of checked.now.tree) (is_any outside)
+        (states_of kept.new) (opening (program_of checked.now.tree))) }
+{
+    let opening = SourceState::opening(alloc, checked, ImageVersion::Two)?;
+    kept.open(alloc, checked, opening, outside)
+}
+
+// What is found where nothing is kept yet.
+fn explore_from<'a, P: Progress>(
+    alloc: Global,
+    checked: &'a Checked,
+    kept: &mut Kept<'a>,
+    most_states: usize,
+    outside: Outside,
+    progress: &mut P,
+) -> Result<Exploration, AllocError>
+    requires sound { IsSound kept.old }
+    ensures stuck { IfOk result (λ e. IfSome e.stuck (λ v. LeadsTo (program_of checked.now.tree) outside
+        (IsStuck (program_of checked.now.tree)) v.items)) }
+    ensures aborted { IfOk result (λ e. IfSome e.aborted
+        (λ v. LeadsTo (program_of checked.now.tree) outside (HasFailed outside) v.items)) }
+    ensures never_stuck { IfOk result (λ e. e.complete ≡ true → e.stuck ≡ None
+        → LeadsNowhere (program_of checked.now.tree) outside (IsStuck (program_of checked.now.tree))) }
+    ensures never_aborted { IfOk result (λ e. e.complete ≡ true → e.aborted ≡ None
+        → LeadsNowhere (program_of checked.now.tree) outside (HasFailed outside)) }
+    ensures searched { IfOk result (HasSearched (program_of checked.now.tree) outside most_states) }
+{
+    let _program = checked.program();
+    let opens = keep_opening(alloc, checked, kept, outside)?;
+    let findings = search(alloc, checked, kept, most_states, outside, progress)?;
+    let all = kept.states.as_slice();
+    let states = all.len();
+    let told = runs_found(alloc, checked, kept, &findings, outside)?;
+    let complete = is_complete(opens, &findings, &told);
+    let bound = bound_unless(complete, opens, &findings, most_states, states);
+    let Told { stuck, aborted } = told;
+    Ok(Exploration {
+        states,
+        complete,
+        stuck,
+        aborted,
+        bound,
+    })
 }
 
 /// Searches all runs of actions of a program's own processes, and of what may come from outside: with strays those too
@@ -147,7 +264,8 @@ fn is_complete(
 /// most are killed, wherever they stand; breadth first, keeping at most so many states: for one that gets stuck, and for
 /// one in which a process aborts. Where nothing comes from outside a process whose next action is calm, so that none of
 /// the others races with it, is followed alone. What is found is such a run. Where the search came to its end and none
-/// was found, there is none. How far it has come is told as it goes.
+/// was found, there is none. It comes to its end unless it meets a bound, which is named: as many states are kept as may
+/// be, or one of the others. How far it has come is told as it goes.
 pub fn explore<P: Progress>(
     alloc: Global,
     checked: &Checked,
@@ -163,20 +281,8 @@ pub fn explore<P: Progress>(
         → LeadsNowhere (program_of checked.now.tree) outside (IsStuck (program_of checked.now.tree))) }
     ensures never_aborted { IfOk result (λ e. e.complete ≡ true → e.aborted ≡ None
         → LeadsNowhere (program_of checked.now.tree) outside (HasFailed outside)) }
+    ensures searched { IfOk result (HasSearched (program_of checked.now.tree) outside most_states) }
 {
-    let _program = checked.program();
     let mut kept = Kept::new(alloc, most_states);
-    let opening = SourceState::opening(alloc, checked, ImageVersion::Two)?;
-    let opens = kept.open(alloc, checked, opening, outside)?;
-    let findings = search(alloc, checked, &mut kept, most_states, outside, progress)?;
-    let states = kept.states.len();
-    let stuck = stuck_run(alloc, checked, &mut kept, findings.stuck, outside)?;
-    let aborted = aborted_run(alloc, checked, &mut kept, findings.aborted, outside)?;
-    let complete = is_complete(opens, &findings, &stuck, &aborted);
-    Ok(Exploration {
-        states,
-        complete,
-        stuck,
-        aborted,
-    })
+    explore_from(alloc, checked, &mut kept, most_states, outside, progress)
 }

@@ -6,9 +6,11 @@ ghost use Rattle.source_search.specs.Found.{HasFailed, is_any};
 ghost use Rattle.source_search.specs.Packed.{unpacked};
 ghost use Rattle.source_states.specs.Actions.{action_of};
 ghost use Rattle.source_states.specs.States.{state_of};
+ghost use Rattle.source_search.specs.Bounds.{IsMet};
 ghost use Rattle.source_search.specs.Kept.{IsExpanded, IsLonger, IsSound, NoneIs, states_of};
 ghost use Rattle.source_search.specs.Known.{AreKnown};
 
+use crate::bounds::{Bound, bound_at};
 use crate::choices::choices;
 use crate::digest::digest_packed;
 use crate::ends::{has_failed, is_stuck, some_part_failed};
@@ -24,10 +26,12 @@ use source_states::{Action, SourceState};
 use std::alloc::{AllocError, Global};
 
 /// Where the ends that are looked for were found first, and whether all that may come next was kept.
-#[derive(Clone, Copy, Debug)]
+#[derive(Clone, Copy)]
 pub(crate) struct Findings {
     /// Whether the search came to its end.
     pub complete: bool,
+    /// Why it ended, where it didn't.
+    pub bound: Bound,
     /// The place of a state in which no process can move.
     pub stuck: Option<usize>,
     /// The place of a state in which some process has aborted.
@@ -167,6 +171,19 @@ impl<'a> Kept<'a> {
     }
 }
 
+// Whether no process can move, and some process isn't over.
+fn told_stuck(
+    alloc: Global,
+    checked: &Checked,
+    state: &SourceState,
+) -> Result<Option<bool>, AllocError>
+    ensures { IfOk result (λ o. IfSome o (λ stuck. stuck ≡ false
+        → IsStuck (program_of checked.now.tree) (state_of state.now) → ⊥)) }
+{
+    let stuck = is_stuck(alloc, checked, state)?;
+    Ok(Some(stuck))
+}
+
 // Whether no process can move in a kept state of which it is known whether one was seen to, and some process isn't over;
 // None where it can't be told.
 fn is_stuck_at<'a>(
@@ -186,8 +203,7 @@ fn is_stuck_at<'a>(
     let Some(state) = parts.unpack(alloc, packed)? else {
         return Ok(None);
     };
-    let stuck = is_stuck(alloc, checked, &state)?;
-    Ok(Some(stuck))
+    told_stuck(alloc, checked, &state)
 }
 
 // Whether one of these holds.
@@ -371,6 +387,23 @@ impl Findings {
     }
 }
 
+impl<'a> Kept<'a> {
+    ghost use Rattle.source_search.specs.Bounds.{IsMet};
+
+    // Why a search ended that may keep so many states, and couldn't keep all that comes next of the state at a place.
+    fn bound_met(&self, alloc: Global, place: usize, most: usize) -> Result<Bound, AllocError>
+        ensures { IfOk result (IsMet most (states_of self.now)) }
+    {
+        if self.states.len() >= most {
+            return Ok(Bound::States);
+        }
+        match self.state(alloc, place)? {
+            None => Ok(Bound::Lost),
+            Some(state) => bound_at(alloc, &state),
+        }
+    }
+}
+
 /// Keeps all states that a run leads to, breadth first, as far as there is room, and tells how far it has come.
 pub(crate) fn search<'a, P: Progress>(
     alloc: Global,
@@ -382,6 +415,7 @@ pub(crate) fn search<'a, P: Progress>(
 ) -> Result<Findings, AllocError>
     requires sound { IsSound kept.old }
     ensures longer { OnOk result (IsLonger (states_of kept.old) (states_of kept.new)) }
+    ensures bound { IfOk result (λ f. f.complete ≡ false → IsMet most (states_of kept.new) f.bound) }
     ensures expanded { IfOk result (λ f. f.complete ≡ true
         → All (IsExpanded (program_of checked.now.tree) outside (states_of kept.new))
         (states_of kept.new)) }
@@ -392,6 +426,7 @@ pub(crate) fn search<'a, P: Progress>(
 {
     let mut findings = Findings {
         complete: false,
+        bound: Bound::Lost,
         stuck: None,
         aborted: None,
     };
@@ -403,11 +438,13 @@ pub(crate) fn search<'a, P: Progress>(
             return Ok(findings);
         }
         if !findings.look_at(alloc, checked, kept, &mut memo, place, outside)? {
+            findings.bound = kept.bound_met(alloc, place, most)?;
             return Ok(findings);
         }
         progress.looked_at(kept.states.len(), place + 1);
     }
     let all = kept.states.as_slice();
     findings.complete = are_all_looked_at(all.len(), most);
+    findings.bound = Bound::States;
     Ok(findings)
 }

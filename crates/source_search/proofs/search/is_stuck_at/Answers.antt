@@ -1,4 +1,5 @@
-use Rattle.std.proofs.Common.{◌≡◌, subst}
+use Rattle.std.proofs.Common.{◌≡◌, false, subst}
+use Rattle.std.specs.Prelude.{IfOk, IfSome}
 use Rattle.program.specs.Views.{program_of}
 use Rattle.proof_exploration.specs.Exploring.{IsStuck}
 use Rattle.source_states.specs.States.{state_of}
@@ -11,9 +12,8 @@ returns-then-moves c = λ e stuck.
     stuck.rests can.0 can.1
 
 pub returns : goal.returns
-returns c = λ e.
+returns c =
     let same : state_of c.in-Some.state ≡ unpacked c.args.parts.now c.args.packed.now =
     rw c.in-Some.is at c.in_ok-state.ensures in
-    let never : IsStuck (program_of c.args.checked.now.tree) (state_of c.in-Some.state) → ⊥ =
-    rw e at c.in_ok-stuck.ensures in
-    subst (λ s. IsStuck (program_of c.args.checked.now.tree) s → ⊥) same never
+    subst (λ s. IfOk c.told_stuck.result (λ o. IfSome o (λ stuck. stuck ≡ false
+    → IsStuck (program_of c.args.checked.now.tree) s → ⊥))) same c.told_stuck.ensures

@@ -1,4 +1,4 @@
-use Rattle.std.proofs.Common.{◌∙◌, ◌≤◌, ap, arith, length, refl}
+use Rattle.std.proofs.Common.{◌∙◌, ◌<◌, ◌≤◌, ap, arith, length, refl}
 use Rattle.std.proofs.lemmas.List.{length-map}
 use Rattle.program.specs.Views.{program_of}
 use Rattle.source_search.specs.Kept.{states_of}
@@ -107,3 +107,15 @@ returns-clause-aborted g c = λ e.
     none_aborted (program_of c.args.checked.now.tree) c.args.outside (states_of c.args.kept.now)
     (states_of c.loop-place.kept) c.loop-place.place c.loop-place.findings.stuck
     c.loop-place.findings.aborted c.loop-place.invariant.so_far end
+
+pub returns-clause-bound : goal.returns-clause-bound
+returns-clause-bound g c = λ e.
+    let many : c.args.most < length c.as_slice-all.result.now = grind (arith, c.are_all_looked_at.ensures.some e) in
+    let met : c.args.most ≤ length (states_of c.loop-place.kept) =
+    omega (
+      arith,
+      many,
+      ap length c.as_slice-all.ensures.value,
+      length-map c.loop-place.kept.states.items (unpacked c.loop-place.kept.parts),
+    ) in
+    met
