@@ -106,17 +106,43 @@ fn same_stage(a: &Stage, b: &Stage) -> bool
     }
 }
 
-/// Whether two processes stand at one place.
+// Whether nothing that is to come depends on the procedures in which a process stood: it dies, leaves or is over.
+fn is_past(stage: &Stage) -> bool
+    ensures { result ≡ true → (f g : FrameIn) (callers others : List Caller)
+        → standing stage.now f callers ≡ standing stage.now g others }
+{
+    matches!(
+        stage,
+        Stage::Dying(_, _) | Stage::Leaving(_) | Stage::Over(_)
+    )
+}
+
+// Whether nothing that is to come depends on the procedure that runs: it has ended, and hands its result over.
+fn is_returning(stage: &Stage) -> bool
+    ensures { result ≡ true → (f g : FrameIn) (callers : List Caller)
+        → standing stage.now f callers ≡ standing stage.now g callers }
+{
+    matches!(stage, Stage::Returning(_))
+}
+
+/// Whether two processes stand at one place. Of one that dies, leaves or is over the procedures don't matter any more, and
+/// of one that hands a result to its caller the procedure that ended doesn't.
 pub fn same_process(a: &Process, b: &Process) -> bool
     ensures { result ≡ true → process_of a.now ≡ process_of b.now }
 {
     if !same_stage(&a.stage, &b.stage) {
         return false;
     }
-    if !same_frame(&a.frame, &b.frame) {
-        return false;
+    if is_past(&a.stage) {
+        return true;
     }
     let first = a.callers.as_slice();
     let second = b.callers.as_slice();
-    same_callers(first, second)
+    if !same_callers(first, second) {
+        return false;
+    }
+    if is_returning(&a.stage) {
+        return true;
+    }
+    same_frame(&a.frame, &b.frame)
 }

@@ -117,11 +117,23 @@ fn feed_stage(stage: &Stage, digest: &mut Mixer) {
     }
 }
 
-fn feed_process(process: &Process, digest: &mut Mixer) {
-    feed_stage(&process.stage, digest);
-    feed_frame(&process.frame, digest);
+fn feed_callers(process: &Process, digest: &mut Mixer) {
     for caller in process.callers.as_slice() {
         feed_frame(caller, digest);
+    }
+}
+
+// Of a process that dies, leaves or is over the procedures don't matter any more, and of one that hands a result to its
+// caller the procedure that ended doesn't.
+fn feed_process(process: &Process, digest: &mut Mixer) {
+    feed_stage(&process.stage, digest);
+    match &process.stage {
+        Stage::Dying(_, _) | Stage::Leaving(_) | Stage::Over(_) => {}
+        Stage::Returning(_) => feed_callers(process, digest),
+        _ => {
+            feed_frame(&process.frame, digest);
+            feed_callers(process, digest);
+        }
     }
 }
 
