@@ -7,6 +7,7 @@ ghost use Rattle.syntax.specs.View as v;
 ghost use Rattle.types.specs.Kinds.{parameter_kinds, locals_kinds};
 ghost use Rattle.types.specs.Pieces.{pieces};
 ghost use Rattle.types.specs.Resolved as r;
+ghost use Rattle.types.specs.Standings.{IsNameScope};
 ghost use Rattle.callees.specs.Names.{IsCallees};
 ghost use Rattle.callees.specs.Pieces.{piece_of};
 ghost use Rattle.resolver.specs.Clean.{is_clean};
@@ -44,6 +45,40 @@ fn locals(alloc: Global, trees: &[Local<'_>]) -> Result<Vec<ValueType>, AllocErr
     Ok(kinds)
 }
 
+// A piece with these names in scope, and whether its statements are clean.
+fn in_scope<'a>(
+    alloc: Global,
+    standing: &NameScope<'_, 'a>,
+    callees: &Callees<'_, 'a>,
+    piece: &Piece<'_, 'a>,
+) -> Result<(Procedure, bool), AllocError>
+    ensures procedure { (u : UnitTree) → IsCallees u callees.now
+        → IsNameScope (record { unit = u; piece = piece_of piece.now }) standing.now
+        → IfOk result (λ x. p.procedure_of x.0 ≡ r.procedure u (piece_of piece.now)) }
+    ensures clean { (u : UnitTree) → IsCallees u callees.now
+        → IsNameScope (record { unit = u; piece = piece_of piece.now }) standing.now
+        → IfOk result (λ x. x.1 ≡ is_clean (piece_faults u (piece_of piece.now))) }
+{
+    let returns = result_of(piece.returns);
+    let site = Site {
+        callees,
+        standing,
+        role: piece.role,
+        returns,
+    };
+    let parameters = parameters(alloc, piece.parameters)?;
+    let locals = locals(alloc, &piece.body.locals)?;
+    let (statements, is_clean) = block(&piece.body.statements, alloc, &site)?;
+    let procedure = Procedure {
+        role: piece.role,
+        parameters,
+        locals,
+        result: returns,
+        body: statements,
+    };
+    Ok((procedure, is_clean))
+}
+
 // A piece, and whether its statements are clean.
 fn procedure<'a>(
     alloc: Global,
@@ -58,27 +93,9 @@ fn procedure<'a>(
         → Contains (pieces u) (piece_of piece.now)
         → IfOk result (λ x. x.1 ≡ is_clean (piece_faults u (piece_of piece.now))) }
 {
-    let body = piece.body;
     let own = callees.own(piece.role);
-    let standing = NameScope::new(alloc, piece.parameters, &body.locals, own)?;
-    let returns = result_of(piece.returns);
-    let site = Site {
-        callees,
-        standing: &standing,
-        role: piece.role,
-        returns,
-    };
-    let (statements, is_clean) = block(&body.statements, alloc, &site)?;
-    let parameters = parameters(alloc, piece.parameters)?;
-    let locals = locals(alloc, &body.locals)?;
-    let procedure = Procedure {
-        role: piece.role,
-        parameters,
-        locals,
-        result: returns,
-        body: statements,
-    };
-    Ok((procedure, is_clean))
+    let standing = NameScope::new(alloc, piece.parameters, &piece.body.locals, own)?;
+    in_scope(alloc, &standing, callees, piece)
 }
 
 /// The pieces of a unit, and whether the statements of all are clean.
