@@ -36,6 +36,8 @@ run_explained runs text image may limit r c below report =
       accepts = c.accepts;
       is_report = reported;
       steps = steps;
+      count = count;
+      labels = same;
       machine_run = run;
       explained = refines.follows run_buckets steps (pieces_at (parts r.last)) (omega arith) run few;
     }

@@ -100,6 +100,8 @@ followed_log text lines image entries slice r c reads same f =
       log = record { program = c.program; accepts = c.accepts; entries = entries; reads = reads };
       followed = followed;
       steps = steps;
+      count = count;
+      labels = labels;
       machine_run = run;
       explained = refines.follows run_buckets steps (pieces_at (parts r.last)) (omega arith) run few;
     }

@@ -1,6 +1,7 @@
 -- What a run of a source text answers.
-use Rattle.std.specs.Prelude.{◌≡◌, ◌⊎◌, ℕ, List}
+use Rattle.std.specs.Prelude.{◌≡◌, ◌⊎◌, ℕ, List, length, map}
 use Rattle.words.specs.Limits.{run_buckets}
+use Rattle.machine.specs.FrontRuns.{event_label, label_of}
 use Rattle.machine.specs.PieceSteps.{PieceRun}
 use Rattle.machine.specs.Runs.{Step}
 use Rattle.piece_machine.specs.PieceConcrete.{pieces_at}
@@ -10,7 +11,8 @@ use Rattle.lowering.specs.Pieces.{code_of}
 use Rattle.refinement.specs.Pieces.{ExplainedInPieces}
 use Rattle.runner.specs.declared.fault.RunFault.{RunFault}
 use Rattle.runner.specs.declared.report.Report.{Report}
-use Rattle.runner.specs.Logs.{Outside}
+use Rattle.runner.specs.LogRuns.{steps_of}
+use Rattle.runner.specs.Logs.{Outside, cost}
 use Rattle.runner.specs.Reports.{IsReport, CanFail}
 use Rattle.mesamon.specs.declared.source_run.RunSourceFault.{RunSourceFault}
 use Rattle.mesamon.specs.declared.source_run.RunSourceFault.TheVariants.{Refused, Run}
@@ -18,12 +20,14 @@ use Rattle.compiler.specs.Accepts.{AcceptsText, RefusesText}
 use Rattle.scanner.specs.Refusals.{out_of_memory}
 
 -- a report of a run of the code of the text's program, with no more from outside than may be in it: a run of the machine,
--- which a run of the program explains
+-- whose steps are those of the report's log, one by one, and which a run of the program explains
 pub record IsRunOfText (text : List ℕ) (may : Outside) (limit : ℕ) (report : Report) : Type 0 where
   pub program : Program
   pub accepts : AcceptsText text program
   pub is_report : IsReport (code_of program) may limit report
   pub steps : List Step
+  pub count : length steps ≡ cost report.log.items
+  pub labels : map label_of steps ≡ map event_label (steps_of report.log.items)
   pub machine_run : PieceRun (code_of program) run_buckets steps (pieces_at (parts report.last))
   pub explained : ExplainedInPieces program (code_of program) steps (pieces_at (parts report.last))
 

@@ -1,8 +1,9 @@
 -- What a log that comes from outside answers, as the text of its lines: explained, or run again.
-use Rattle.std.specs.Prelude.{◌≡◌, ◌<◌, ◌^◌, ◌⊎◌, ℕ, List, map}
+use Rattle.std.specs.Prelude.{◌≡◌, ◌<◌, ◌^◌, ◌⊎◌, ℕ, List, length, map}
 use Rattle.words.specs.Limits.{run_buckets}
 use Rattle.isa.specs.Programs.{Program as Image}
 use Rattle.machine.specs.declared.event.Entry.{Entry}
+use Rattle.machine.specs.FrontRuns.{event_label, label_of}
 use Rattle.machine.specs.PieceSteps.{PieceRun}
 use Rattle.machine.specs.Runs.{Step}
 use Rattle.machine.specs.Views.{concrete}
@@ -16,6 +17,7 @@ use Rattle.refinement.specs.Pieces.{ExplainedInPieces}
 use Rattle.source_states.specs.Actions.{action_of}
 use Rattle.backend.specs.Refusals.{CodeFits}
 use Rattle.runner.specs.LogSchedules.{IsBadLogEntry, IsFollowedLog}
+use Rattle.runner.specs.LogRuns.{steps_of}
 use Rattle.runner.specs.Logs.{cost}
 use Rattle.runner.specs.Reports.{IsVerdict}
 use Rattle.runner.specs.declared.report.Report.{Report}
@@ -108,12 +110,14 @@ IsWantOfMemory (Refused e) = e ≡ out_of_memory
 IsWantOfMemory Memory = Unit {0}
 IsWantOfMemory fault = ⊥
 
--- the report of the code of the text's program, run by the threads and counts of the log that the lines are, which a
--- run of the program explains
+-- the report of the code of the text's program, run by the threads and counts of the log that the lines are: a run of the
+-- machine, whose steps are those of the report's own log, one by one, and which a run of the program explains
 pub record IsReplayOfLog (text lines : List ℕ) (report : Report) : Type 0 where
   pub log : ReadsLog text lines
   pub followed : IsFollowedLog (code_of log.program) log.entries report
   pub steps : List Step
+  pub count : length steps ≡ cost report.log.items
+  pub labels : map label_of steps ≡ map event_label (steps_of report.log.items)
   pub machine_run : PieceRun (code_of log.program) run_buckets steps (pieces_at (parts report.last))
   pub explained : ExplainedInPieces log.program (code_of log.program) steps (pieces_at (parts report.last))
 
