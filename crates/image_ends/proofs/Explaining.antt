@@ -1,5 +1,5 @@
 -- A run that explains a run of the machine has stray wake-ups only where that has, and has its ends.
-use Rattle.std.proofs.Common.{◌≡◌, ◌⊎◌, ◌<◌, ◌^◌, ℕ, Bool, true, false, cond, List, [], ◌∷◌, filter, length, map}
+use Rattle.std.proofs.Common.{◌≡◌, ◌⊎◌, ◌<◌, ◌^◌, ℕ, Bool, true, false, cond, List, [], ◌∷◌, filter, length, map, is_some}
 use Rattle.std.specs.Prelude.{if◌then◌else◌}
 use Rattle.std.proofs.Common.{Option, ap, arith, subst}
 use Rattle.std.proofs.Common.{Some, None, refl, sym, ◌∙◌, inl, inr}
@@ -19,7 +19,9 @@ use Rattle.proof_exploration.specs.Exploring.{IsOver, IsStuck}
 use Rattle.refinement.specs.Refines.{Explained, Refines, is_kill_kind, is_stray_kind, processes_of}
 use Rattle.refinement.specs.Outside.{killed_threads, stray_threads}
 use Rattle.refinement.specs.Pieces.{ExplainedInPieces, RefinesInPieces, RestsInPieces}
+use Rattle.refinement.specs.Resting.{AreOver, HaveEnded}
 use Rattle.refinement.specs.Seen.{machine_end, process_end, source_end}
+use Rattle.refinement.proofs.Waiting.{ended_so, ended_in_pieces}
 use Rattle.source_search.specs.Found.{AreFrom, AreNamed, HasFailed, IsCounted, IsNamed, LeadsNowhere, kills_of, one_kill}
 use Rattle.source_search.specs.declared.outside.Outside.{Outside}
 use Rattle.image_ends.specs.Ending.{AllOver, IsSearched}
@@ -104,17 +106,22 @@ module _ (p : Program) (may : Outside) (steps : List Step) (actions : List Actio
       absurd (nowhere actions source is_run from
       (record { rests = rests; process = q; at = at; stands = stands; goes_on = not }))
 
-  -- where no run gets stuck, and no process can move, each is over
+  -- where no run gets stuck, and no process can move, each is over, and so has each thread ended
   pub each_over : (s : State) → s.output ≡ source.printed → ((q : ℕ) → machine_end s q ≡ source_end source q)
+      → ((q : ℕ) → is_some (s.thread q) ≡ is_some (source.process q)) → (AreOver source → HaveEnded s)
       → LeadsNowhere p may (IsStuck p) → ((q : ℕ) → CanMove p source q → ⊥) → AllOver p s
-  each_over s output ends nowhere rests = record {
-    actions = actions;
-    source = source;
-    run = is_run;
-    output = output;
-    ends = ends;
-    over = λ q at stands. over_at nowhere rests q at stands (is_over at);
-  }
+  each_over s output ends made ended nowhere rests =
+      let over : AreOver source = λ q at stands. over_at nowhere rests q at stands (is_over at) in
+      record {
+        actions = actions;
+        source = source;
+        run = is_run;
+        output = output;
+        ends = ends;
+        over = over;
+        made = made;
+        ended = ended over;
+      }
 
   -- where none aborts in any run, none has
   pub nobody_aborted : LeadsNowhere p may (HasFailed may) → (q : ℕ) (cause : Cause)
@@ -131,7 +138,8 @@ module _ (p : Program) (image : Image) (may : Outside) (steps : List Step) (s : 
   pub all_over : LeadsNowhere p may (IsStuck p) → ((t : ℕ) → CanStep s t → ⊥) → AllOver p s
   all_over nowhere rests =
       each_over p may steps explained.actions explained.source explained.run explained.strays explained.kills calm s
-      explained.output explained.ends nowhere (explained.at_rest rests)
+      explained.output explained.ends explained.made (ended_so p image steps s explained rests) nowhere
+      (explained.at_rest rests)
 
   pub none_aborted : LeadsNowhere p may (HasFailed may) → (q : ℕ) (cause : Cause)
       → machine_end s q ≡ Some (outcome.Aborted cause) → IsCounted may cause → ⊥
@@ -149,8 +157,8 @@ module _ (p : Program) (image : Image) (may : Outside) (buckets : ℕ) (steps : 
   pub all_over_in_pieces : LeadsNowhere p may (IsStuck p) → RestsInPieces image s → AllOver p s.base
   all_over_in_pieces nowhere rests =
       let e = explained_in_pieces in
-      each_over p may steps e.actions e.source e.run e.strays e.kills calm s.base e.output e.ends nowhere
-      (e.at_rest rests)
+      each_over p may steps e.actions e.source e.run e.strays e.kills calm s.base e.output e.ends e.made
+      (ended_in_pieces p image steps s e rests) nowhere (e.at_rest rests)
 
   pub none_aborted_in_pieces : LeadsNowhere p may (HasFailed may) → (q : ℕ) (cause : Cause)
       → machine_end s.base q ≡ Some (outcome.Aborted cause) → IsCounted may cause → ⊥

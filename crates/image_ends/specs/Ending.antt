@@ -1,5 +1,5 @@
--- A machine at whose end all processes are over.
-use Rattle.std.specs.Prelude.{ℕ, ◌≡◌, ◌≤◌, false, List, [], Some, length}
+-- A machine at whose end all processes are over, and all threads have ended.
+use Rattle.std.specs.Prelude.{ℕ, ◌≡◌, ◌≤◌, false, is_some, List, [], Some, length}
 use Rattle.machine.specs.Runs.{Step}
 use Rattle.machine.specs.States.{State}
 use Rattle.program.specs.Trees.{Program}
@@ -9,6 +9,7 @@ use Rattle.meaning.specs.Runs.{IsRun}
 use Rattle.meaning.specs.States.{SourceState}
 use Rattle.proof_exploration.specs.Exploring.{IsOver}
 use Rattle.refinement.specs.Outside.{killed_threads, stray_threads}
+use Rattle.refinement.specs.Resting.{HaveEnded}
 use Rattle.refinement.specs.Seen.{machine_end, source_end}
 use Rattle.source_search.specs.declared.outside.Outside.{Outside}
 
@@ -21,6 +22,9 @@ pub record AllOver (p : Program) (s : State) : Type 0 where
   pub output : s.output ≡ source.printed
   pub ends : (q : ℕ) → machine_end s q ≡ source_end source q
   pub over : (q : ℕ) (at : Process) → source.process q ≡ Some at → IsOver at
+  -- the machine has the run's processes as threads, and each of them has ended
+  pub made : (q : ℕ) → is_some (s.thread q) ≡ is_some (source.process q)
+  pub ended : HaveEnded s
 
 -- what came from outside in these steps of the machine is what was searched: no more are killed than may be, and without
 -- stray wake-ups nobody who waits on a condition is woken from outside

@@ -16,8 +16,8 @@ ghost use Rattle.source_search.specs.declared.outside.Outside.{Outside};
 ghost use Rattle.image_ends.specs.Ending.{AllOver, IsSearched};
 
 /// Of each run of an image that refines a program, under whatever schedule, of fewer than 2^32 steps: where no run of
-/// the program gets stuck, and no thread can move, each process of the run of the program that explains it is over; and
-/// where no process aborts in any run of the program, no thread has aborted; where kills are searched, none by a fault.
+/// the program gets stuck, and no thread can move, each process of the run of the program that explains it is over, and
+/// each thread, of which there is one for each process, has ended; and where no process aborts in any run of the program, no thread has aborted; where kills are searched, none by a fault.
 /// This is said of the runs of the image in which no more are killed than in the runs of the program; and where those are
 /// the ones without stray wake-ups, of those in which nobody who waits on a condition is woken from outside. The same is
 /// said of the runs in which futex calls are taken in pieces, over any number of buckets.

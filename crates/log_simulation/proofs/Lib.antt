@@ -8,6 +8,7 @@ pub mod Pending
 pub mod Taking
 pub mod Entering
 pub mod Records
+pub mod Verdicts
 pub mod Recording
 pub mod Keeping
 pub mod Progressing

@@ -47,6 +47,7 @@ use Rattle.log_simulation.specs.Requests.{visible_step}
 use Rattle.log_simulation.proofs.Visible.{visible_so}
 use Rattle.log_simulation.specs.declared.recorder.Recorder.{Recorder}
 use Rattle.log_simulation.specs.Explanations.{IsExplanationOf}
+use Rattle.log_simulation.proofs.Verdicts.{verdict_so}
 use Rattle.log_simulation.specs.Recording.{Counts, IsAlong, IsOf, Records, RecordsUnlessLong, progress_rest}
 use Rattle.log_simulation.specs.Deferred.{deferral_of, deferred_by_next_step, CountsDeferred, Raises}
 use Rattle.log_simulation.specs.declared.deferral.Deferral.{Deferral}
@@ -331,6 +332,7 @@ module _ (p : Program) where
             ∙ ap (λ (x : Progress). x.actions ++ actions_up_to (length k.concrete.threads) x.deferred) (sym c.comes);
         explained = e.0;
         same = e.1 ∙ sym told;
+        says = verdict_so p c.steps k e.0;
       }
 
 -- one local step more

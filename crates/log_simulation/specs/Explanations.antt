@@ -10,12 +10,15 @@ use Rattle.piece_machine.specs.PieceConcrete.{PieceConcrete, pieces_at}
 use Rattle.piece_machine.specs.PieceViews.{parts}
 use Rattle.runner.specs.LogRuns.{steps_of}
 use Rattle.runner.specs.Logs.{Runs, cost, opening}
+use Rattle.runner.specs.Reports.{IsVerdict}
+use Rattle.runner.specs.declared.report.Verdict.{Verdict}
 use Rattle.program.specs.Trees.{Program}
 use Rattle.lowering.specs.Pieces.{code_of}
 use Rattle.meaning.specs.Labels.{Action}
 use Rattle.proof_explaining.specs.PieceProgress.{explanation_of_pieces}
 use Rattle.refinement.specs.Pieces.{ExplainedInPieces}
 use Rattle.source_states.specs.Actions.{action_of}
+use Rattle.log_simulation.specs.Verdicts.{SaysOf}
 use Rattle.log_simulation.specs.declared.explained_log.ExplainedLog.{ExplainedLog}
 use Rattle.log_simulation.specs.declared.explained_log.LogExplanation.{LogExplanation}
 use Rattle.log_simulation.specs.declared.explained_log.LogExplanation.TheVariants as told
@@ -39,7 +42,7 @@ pub record StopsAt (image : Image) (log : List Entry) (number : ℕ) : Type 0 wh
   pub stops : IsNoLog image (take number log)
 
 -- a run of the machine of these steps leads there, and the actions are its explanation, which explains it in all that a
--- refinement promises
+-- refinement promises. A verdict on the machine is one on the source
 pub record IsExplanationOf (p : Program) (events : List EventStep) (k : PieceConcrete)
     (actions : List Action) : Type 0 where
   pub steps : List Step
@@ -48,6 +51,7 @@ pub record IsExplanationOf (p : Program) (events : List EventStep) (k : PieceCon
   pub explains : actions ≡ explanation_of_pieces p run_buckets steps (pieces_at k) run
   pub explained : ExplainedInPieces p (code_of p) steps (pieces_at k)
   pub same : explained.actions ≡ actions
+  pub says : (verdict : Verdict) → IsVerdict k.concrete verdict → SaysOf verdict p explained.source
 
 -- the log is legal for the code of the program, and the actions explain the run of the machine that it is
 pub record IsRecorded (p : Program) (log : List Entry) (actions : List Action) : Type 0 where

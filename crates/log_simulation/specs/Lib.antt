@@ -5,5 +5,6 @@ pub mod Requests
 pub mod Going
 pub mod Deferred
 pub mod Recording
+pub mod Verdicts
 pub mod Explanations
 pub mod Entries

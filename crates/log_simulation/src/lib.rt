@@ -14,4 +14,4 @@ mod same_event;
 mod walking;
 
 pub use explained_log::{ExplainedLog, LogExplanation, explain_log};
-pub use log_law::progress_follows_logs;
+pub use log_law::{progress_follows_logs, verdicts_are_the_sources};

@@ -2,8 +2,9 @@ ghost use Rattle.lowering.specs.Pieces.{code_of};
 ghost use Rattle.locals.specs.Looks.{look};
 ghost use Rattle.machine.specs.ConcretePieces.{is_piece};
 ghost use Rattle.machine.specs.FrontRuns.{doing_of};
+ghost use Rattle.machine.specs.Runs.{Step};
 ghost use Rattle.machine.specs.States.{state_of};
-ghost use Rattle.piece_machine.specs.PieceConcrete.{PieceConcrete, kill_piece, stray_piece};
+ghost use Rattle.piece_machine.specs.PieceConcrete.{PieceConcrete, kill_piece, pieces_at, stray_piece};
 ghost use Rattle.proof_explaining.specs.Events.{whole_of};
 ghost use Rattle.machine.specs.declared.event.Entry.{Entry};
 ghost use Rattle.machine.specs.declared.event.Event.{Event};
@@ -20,6 +21,10 @@ ghost use Rattle.std.specs.Prelude.{[], ◌≡◌, ◌+◌, ◌++◌, ◌<◌, �
 ghost use Rattle.log_simulation.specs.Entries.{ComesTo, entry_steps, is_visible, progress_entry, progress_locally};
 ghost use Rattle.log_simulation.specs.Entries.{progress_outside};
 ghost use Rattle.log_simulation.specs.Going.{IsKillDue, IsStrayDue};
+ghost use Rattle.log_simulation.specs.Verdicts.{SaysOf};
+ghost use Rattle.refinement.specs.Pieces.{ExplainedInPieces};
+ghost use Rattle.runner.specs.Reports.{IsVerdict};
+ghost use Rattle.runner.specs.declared.report.Verdict.{Verdict};
 
 /// What the source has come to behind a legal log of a program's code is a function of the log, entry by entry: each
 /// local step, and each shared one that isn't visible, adds the action that it completes by the marks of the code, if
@@ -68,4 +73,12 @@ pub fn progress_follows_logs()
         ≡ true
         → length events + e.local + 1 < 2 ^ 32
         → IsDue p (whole_of p k') e.thread (progress_locally p e.thread e.local enters.origin g) }
+{}
+
+/// A verdict on a machine says of the run of the program that explains the machine's run: Done, that each process is
+/// over; Stuck, that the source is stuck, and what each process waits for that isn't over.
+pub fn verdicts_are_the_sources()
+    ensures { (p : Program) (steps : List Step) (k : PieceConcrete)
+        (e : ExplainedInPieces p (code_of p) steps (pieces_at k)) (verdict : Verdict)
+        → IsVerdict k.concrete verdict → SaysOf verdict p e.source }
 {}

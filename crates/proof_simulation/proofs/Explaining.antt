@@ -57,6 +57,7 @@ use Rattle.proof_simulation.proofs.Whole.{kills_append, kills_of, one_kill}
 use Rattle.proof_simulation.proofs.Worlds.{put_put}
 use Rattle.proof_simulation.proofs.Observing.{ends, sound}
 use Rattle.proof_simulation.proofs.Resting.{at_rest, sleepers}
+use Rattle.proof_simulation.proofs.Sleeping.{made, locks, asleep}
 use Rattle.proof_simulation.proofs.Paces.{count_by-append}
 use Rattle.proof_simulation.proofs.Counting.{count, counts, count_map, count_one, count_stray, count_kill, of_none}
 use Rattle.proof_simulation.proofs.Counting.{done_count, traced_count, traced_behind}
@@ -571,6 +572,9 @@ module _ (p : Program) (w : WellFormed p) where
             output = k.output;
             variables = k.variables;
             ends = ends p w n s source k;
+            made = made p w n s source k;
+            locks = locks p w n s source k;
+            asleep = asleep p w n s source k;
             at_rest = at_rest p w n s source k;
             sleepers = sleepers p w n s source k;
             pace = λ t parts e.

@@ -1,6 +1,6 @@
 -- What is seen of a run in pieces is what is seen of its state with whole calls.
-use Rattle.std.proofs.Common.{◌≡◌, ◌⊎◌, ◌∙◌, ℕ, false, List, Option, Some, None, refl, sym, ap}
-use Rattle.std.proofs.Common.{inl, inr}
+use Rattle.std.proofs.Common.{◌≡◌, ◌⊎◌, ◌∙◌, ℕ, false, is_some, List, Option, Some, None, refl, sym, ap}
+use Rattle.std.proofs.Common.{inl, inr, subst}
 use Rattle.words.specs.Process.{process_word}
 use Rattle.words.proofs.Updates.{put_same}
 use Rattle.futexcalls.specs.declared.pieces.FutexCall.TheVariants.{Wait}
@@ -11,12 +11,13 @@ use Rattle.locals.specs.Threads.{Thread, Runs, Dies, Exits, is_dying}
 use Rattle.locals.specs.Looks.{Request, AskLoad, AskWait, Look, Asks, look}
 use Rattle.machine.specs.States.{State, with_thread}
 use Rattle.machine.specs.AbstractServing.{IsUnserved}
-use Rattle.machine.specs.Runs.{Step, NextIsBroken, IsBroken, has_ended}
+use Rattle.machine.specs.Runs.{Step, CanStep, NextIsBroken, IsBroken, has_ended}
 use Rattle.machine.specs.PieceStates.{PieceState, IsHeldRight, call_at, called, committed, committed_at}
 use Rattle.machine.specs.PieceSteps.{NextPieceIsBroken}
 use Rattle.program.specs.Trees.{Program}
 use Rattle.refinement.specs.Refines.{Sleeps, HasEnded, RunsFreely, Explained}
 use Rattle.refinement.specs.Seen.{end_by}
+use Rattle.refinement.proofs.Waiting.{still_so}
 use Rattle.refinement.specs.Pieces.{ExplainedInPieces}
 use Rattle.meaning.specs.Labels.{Action}
 use Rattle.proof_pieces.specs.Whole.{either, behind, resumed, whole_at, whole}
@@ -48,6 +49,11 @@ whole_end : (p : Image) (t word : ℕ) (phase : FutexPhase) (o : Option Thread)
     → end_by word (whole_at p t phase o) ≡ end_by word o
 whole_end p t word phase None = refl
 whole_end p t word phase (Some x) = behind_end p t word phase x
+
+-- and it was made in the whole where it was
+whole_made : (p : Image) (t : ℕ) (phase : FutexPhase) (o : Option Thread) → is_some o ≡ is_some (whole_at p t phase o)
+whole_made p t phase None = refl
+whole_made p t phase (Some x) = refl
 
 -- a thread stands in the whole where it stands, or it has committed to sleep
 stands_behind : (phase : FutexPhase) (l : Look) (x : Thread)
@@ -136,8 +142,14 @@ explained_in_pieces p image steps s right e actions same = (
     output = e.output;
     variables = e.variables;
     ends = λ q. sym (whole_end image q (s.base.word (process_word q 5)) (s.phase q) (s.base.thread q)) ∙ e.ends q;
+    made = λ q. whole_made image q (s.phase q) (s.base.thread q) ∙ e.made q;
+    locks = e.locks;
+    asleep = λ q a sleeps. e.asleep q a (sleeps_so image s q a sleeps);
     goes_on = λ b u holds. holders_go_on image s b u right holds;
     free = λ rest. (rests image s right rest).0;
+    still = λ rest.
+        let r = rests image s right rest in
+        still_so s.base (subst (λ (x : State). (t : ℕ) → CanStep x t → ⊥) r.1 r.2);
     at_rest = λ rest. e.at_rest (rests image s right rest).2;
     sleepers = λ outside t sleeps.
         e.sleepers (all_outside image s outside) t (sleeps.0, sleeps_so image s t sleeps.0 sleeps.1);

@@ -27,6 +27,7 @@ pub mod Local
 pub mod Starting
 pub mod Acting
 pub mod Resting
+pub mod Sleeping
 pub mod Ending
 pub mod Opening
 pub mod Claiming

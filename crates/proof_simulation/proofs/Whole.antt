@@ -41,6 +41,7 @@ use Rattle.proof_simulation.proofs.Paces.{Trail, rests, goes, keeps_pace}
 use Rattle.proof_simulation.proofs.Opening.{opens}
 use Rattle.proof_simulation.proofs.Observing.{sound, ends}
 use Rattle.proof_simulation.proofs.Resting.{at_rest, sleepers}
+use Rattle.proof_simulation.proofs.Sleeping.{made, locks, asleep}
 use Rattle.proof_thread.specs.Deferrals.{mark_of}
 use Rattle.proof_simulation.specs.Deferred.{Stage, Works, Leaves as Leaves', stages, raised_at, Agrees, has_failed}
 use Rattle.proof_simulation.specs.Progress.{answer_whole, visible_step}
@@ -535,6 +536,9 @@ module _ (p : Program) (w : WellFormed p) where
         output = r.ties.output;
         variables = r.ties.variables;
         ends = ends p w r.many s r.source r.ties;
+        made = made p w r.many s r.source r.ties;
+        locks = locks p w r.many s r.source r.ties;
+        asleep = asleep p w r.many s r.source r.ties;
         at_rest = at_rest p w r.many s r.source r.ties;
         sleepers = sleepers p w r.many s r.source r.ties;
         pace = come_pace steps s _ r;

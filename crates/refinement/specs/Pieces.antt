@@ -1,6 +1,6 @@
 -- What the code owes to the program on a machine whose futex calls are taken in pieces: a call takes the buckets of its
 -- words, compares and acts in steps of its own, and steps of other threads come between.
-use Rattle.std.specs.Prelude.{ℕ, ◌≡◌, ◌<◌, ◌^◌, ◌⊎◌, List, length, Some, None}
+use Rattle.std.specs.Prelude.{ℕ, ◌≡◌, ◌<◌, ◌^◌, ◌⊎◌, List, length, Some, None, is_some}
 use Rattle.words.specs.Signed.{word_of}
 use Rattle.isa.specs.Programs.{Program as Image}
 use Rattle.locals.specs.Threads.{Thread}
@@ -16,6 +16,7 @@ use Rattle.meaning.specs.States.{SourceState}
 use Rattle.meaning.specs.Runs.{IsRun, CanMove}
 use Rattle.proof_thread.specs.Variables.{variable_address, IsVariable}
 use Rattle.refinement.specs.Seen.{machine_end, source_end}
+use Rattle.refinement.specs.Monitors.{machine_hold, StandsAsleep}
 use Rattle.refinement.specs.Outside.{stray_threads, killed_threads}
 use Rattle.refinement.specs.Pace.{KeepsPace, stretch_length}
 use Rattle.refinement.specs.Refines.{Sleeps, HasEnded, RunsFreely, is_stray_kind, is_kill_kind, processes_of}
@@ -36,10 +37,19 @@ pub record ExplainedInPieces (p : Program) (image : Image) (steps : List Step) (
   pub variables : (m : Member) (i : ℕ) → IsVariable p m i → s.base.word (variable_address p m i) ≡ word_of
       (source.variable m.monitor m.number i)
   pub ends : (q : ℕ) → machine_end s.base q ≡ source_end source q
+  -- thread q was made just where process q was
+  pub made : (q : ℕ) → is_some (s.base.thread q) ≡ is_some (source.process q)
+  -- lock words tell which monitors are free, which abandoned, and who holds the others
+  pub locks : (m : ℕ) → m < length p.monitors → machine_hold p s.base m ≡ source.table.hold m
+  -- who sleeps does so on the word of what its process waits for
+  pub asleep : (q a : ℕ) → s.base.asleep q ≡ Some a → StandsAsleep p source q a
   -- buckets lock nobody up: where one is held, some thread within a call can take its next piece
   pub goes_on : (b u : ℕ) → s.holder b ≡ Some u → (t : ℕ) × IsWithin image s t × CanTakePiece image s t
-  -- so none is held where no thread can take one. No wake was lost: there no process can move
+  -- so none is held where no thread can take one: there each thread sleeps or has ended. No wake was lost: there no
+  -- process can move
   pub free : RestsInPieces image s → (b : ℕ) → s.holder b ≡ None
+  pub still : RestsInPieces image s → (t : ℕ) (x : Thread) → s.base.thread t ≡ Some x
+      → Sleeps s.base t ⊎ HasEnded s.base t
   pub at_rest : RestsInPieces image s → (q : ℕ) → CanMove p source q → ⊥
   -- nor can one whose thread sleeps, where all others are outside the taking and giving up of locks: a thread within a
   -- call too, if its pending word is 0

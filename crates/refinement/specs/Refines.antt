@@ -1,5 +1,6 @@
 -- What the code owes to the program.
 use Rattle.std.specs.Prelude.{ℕ, ◌≡◌, ◌<◌, ◌^◌, ◌⊎◌, Bool, true, false, List, length, map, filter, Some, None}
+use Rattle.std.specs.Prelude.{is_some}
 use Rattle.words.specs.Process.{process_word}
 use Rattle.words.specs.Signed.{word_of}
 use Rattle.isa.specs.Programs.{Program as Image}
@@ -16,6 +17,7 @@ use Rattle.meaning.specs.States.{SourceState}
 use Rattle.meaning.specs.Runs.{IsRun, CanMove}
 use Rattle.proof_thread.specs.Variables.{variable_address, IsVariable}
 use Rattle.refinement.specs.Seen.{machine_end, source_end}
+use Rattle.refinement.specs.Monitors.{machine_hold, StandsAsleep}
 use Rattle.refinement.specs.Outside.{stray_threads, killed_threads}
 use Rattle.refinement.specs.Pace.{KeepsPace, stretch_length}
 
@@ -59,6 +61,12 @@ pub record Explained (p : Program) (image : Image) (steps : List Step) (s : Stat
   pub variables : (m : Member) (i : ℕ) → IsVariable p m i → s.word (variable_address p m i) ≡ word_of
       (source.variable m.monitor m.number i)
   pub ends : (q : ℕ) → machine_end s q ≡ source_end source q
+  -- thread q was made just where process q was
+  pub made : (q : ℕ) → is_some (s.thread q) ≡ is_some (source.process q)
+  -- lock words tell which monitors are free, which abandoned, and who holds the others
+  pub locks : (m : ℕ) → m < length p.monitors → machine_hold p s m ≡ source.table.hold m
+  -- who sleeps does so on the word of what its process waits for
+  pub asleep : (q a : ℕ) → s.asleep q ≡ Some a → StandsAsleep p source q a
   -- no wake was lost: where no thread can move, no process can
   pub at_rest : ((t : ℕ) → CanStep s t → ⊥) → (q : ℕ) → CanMove p source q → ⊥
   -- nor can one whose thread sleeps, where all others are outside the taking and giving up of locks

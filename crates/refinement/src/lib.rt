@@ -4,4 +4,4 @@
 
 mod law;
 
-pub use law::code_of_processes_follows;
+pub use law::{code_of_processes_follows, ends_are_the_sources};

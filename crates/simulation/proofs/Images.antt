@@ -4,6 +4,7 @@ use Rattle.isa.specs.Programs.{Program as Image, IsProgram}
 use Rattle.piece_machine.specs.PieceConcrete.{PieceConcrete}
 use Rattle.piece_machine.specs.PieceViews.{parts}
 use Rattle.machine.specs.declared.event.Entry.{Entry}
+use Rattle.runner.specs.Reports.{IsVerdict}
 use Rattle.scanner.specs.declared.refusal.Refusal.{Refusal}
 use Rattle.scanner.specs.declared.refusal.RefusalKind.TheVariants.{Memory}
 use Rattle.program.specs.Trees.{Program, as_version}
@@ -36,4 +37,6 @@ explains_entries p i entries e own h = record {
     leads = subst (λ (x : Image). LeadsTo x entries (parts e.last)) (sym own)
         (subst (λ (k : PieceConcrete). LeadsTo (code_of p) entries k) (sym h.last) h.recorded.legal);
   };
+  says = λ verdict is. h.recorded.explained.says verdict
+      (subst (λ (k : PieceConcrete). IsVerdict k.concrete verdict) h.last is);
 }
