@@ -1,5 +1,5 @@
-/// A word in capitals that the grammar uses. None of them is a name.
-#[derive(Clone, Copy, PartialEq, Eq)]
+/// A word in capitals that the grammar uses. None of them is a name. Hints write it by its Debug, in capitals.
+#[derive(Clone, Copy, PartialEq, Eq, Debug)]
 pub enum Keyword {
     Program,
     Monitor,
