@@ -4,3 +4,4 @@ mod NoSources
 mod Written
 mod Worked
 pub mod Workers
+mod Growing

@@ -3,7 +3,7 @@ use Rattle.std.proofs.Common.{◌≡◌, ◌⊎◌, inl, inr, ◌||◌, ◌∙�
 use Rattle.std.proofs.Common.{codes, refl, sym, true≢false}
 use Rattle.clap.specs.Words.{Row, Text, first_of, one_of}
 use Rattle.commandline.specs.CommandLine.{IsExplainedBy, IsReplayedBy, ReadsKills, ReadsOrder, ReadsSeed, ReadsSteps}
-use Rattle.commandline.specs.CommandLine.{IsNumberOf, ReadsAction, ReadsChart, ReadsStrays, has_any, is_written}
+use Rattle.commandline.specs.CommandLine.{IsCountOf, IsNumberOf, ReadsAction, ReadsChart, ReadsStrays, has_any, is_written}
 use Rattle.commandline.specs.declared.options.ChartOptions.{ChartOptions}
 use Rattle.commandline.specs.declared.options.ExplainedBy.{ExplainedBy}
 use Rattle.commandline.specs.declared.options.ExplainedBy.TheVariants.{Order as ByOrder, Seed as BySeed}
@@ -41,7 +41,7 @@ second_out a b ids rows h = first_out b ids rows (rest_out a (b ∷ ids) rows h)
 
 -- where no number can be read for stray wakes that are asked for, none is asked for
 pub no_count : (rows : List Row) (s : Option ℕ) → is_written (codes "strays") rows ≡ true
-    → ((n : ℕ) → IsNumberOf (one_of (codes "strays") rows) 32 n → ⊥) → ReadsStrays rows s → ⊥
+    → ((n : ℕ) → IsCountOf (one_of (codes "strays") rows) n → ⊥) → ReadsStrays rows s → ⊥
 no_count rows None written none h = clash _ written h
 no_count rows (Some n) written none h = none n h.1
 

@@ -1,18 +1,26 @@
 -- The commands of the program, and which job the words of a command line ask for. How words are read as a command's
 -- arguments is the definition of the crate clap (`App`, `subcommand_of`).
 use Rattle.std.specs.Prelude.{◌≡◌, ◌<◌, ◌≤◌, ◌^◌, ℕ, Bool, true, false, List, [], ◌∷◌, Option, Some, None, ◌⊎◌, codes}
+use Rattle.std.specs.Option.{option_map_or}
 use Rattle.std.specs.Prelude.{find, option_and_then, option_map}
 use Rattle.std.specs.List.{list_any}
 use Rattle.std.specs.Str.{bytes_eq}
 use Rattle.std.specs.Str.Parse.{IsNumeral, digits_value, without_leading_plus}
-use Rattle.clap.specs.Words.{App, Row, Rule, Text, first_of, new_app, new_rule, one_of, with_rule, with_subcommand}
-use Rattle.clap.specs.Words.{subcommand_of}
+use Rattle.clap.specs.Words.{App, Row, Rule, Text, app_of, first_of, new_app, new_rule, one_of, with_rule, with_subcommand}
+use Rattle.clap.specs.Words.{fault_of, subcommand_of}
 use Rattle.clap.specs.declared.builder.action.ArgAction.TheVariants.{SetTrue}
 use Rattle.clap.specs.declared.builder.value_parser.ValueParser.TheVariants.{Unsigned}
 use Rattle.clap.specs.declared.parser.matches.ValueSource.{ValueSource}
 use Rattle.clap.specs.declared.parser.matches.ValueSource.TheVariants.{CommandLine}
 use Rattle.words.specs.declared.version.ImageVersion.{ImageVersion}
 use Rattle.words.specs.declared.version.ImageVersion.TheVariants.{One, Two}
+use Rattle.clap.specs.declared.builder.command.Command.{Command}
+use Rattle.clap.specs.declared.builder.command.Command.TheViews.{out-Command as fields_of}
+use Rattle.commandline.specs.declared.arguments.Argument.{Argument}
+use Rattle.commandline.specs.declared.arguments.Kind.{Kind}
+use Rattle.commandline.specs.declared.arguments.Kind.TheVariants.{Positional, Optional, Flag, Valued, Number}
+use Rattle.commandline.specs.declared.arguments.Numbers.{Numbers}
+use Rattle.commandline.specs.declared.builder.Subcommand.{Subcommand}
 use Rattle.commandline.specs.declared.options.Order.{Order}
 use Rattle.commandline.specs.declared.options.Order.TheVariants.{Workers, InOrder, Seed}
 use Rattle.commandline.specs.declared.options.ReplayedBy.{ReplayedBy}
@@ -175,6 +183,41 @@ explore_command =
     (positional (codes "FILE"))) states_option) (flag (codes "strays"))) kills_option)) (valued (codes "timeline")))
     (flag (codes "hints"))
 
+-- an option that takes these numbers
+abbrev pub with_numbers : Rule → Numbers → Rule
+with_numbers rule numbers =
+    let defaults = option_map_or (λ text. text.now ∷ []) numbers.default rule.defaults in
+    record rule { value_names = 1; defaults = defaults; parser = Some (Unsigned numbers.least numbers.most) }
+
+-- what the parser makes of an argument
+abbrev pub rule_by : Text → Kind → Rule
+rule_by name Positional = positional name
+rule_by name Optional = new_rule name
+rule_by name Flag = flag name
+rule_by name (Valued value) = valued name
+rule_by name (Number numbers) = with_numbers (record (new_rule name) { long = Some name }) numbers
+
+abbrev pub rule_for : Argument → Rule
+rule_for argument = rule_by argument.name.now argument.kind
+
+-- a command with these arguments behind its own
+abbrev pub with_arguments : App → List Argument → App
+with_arguments app [] = app
+with_arguments app (argument ∷ arguments) = with_arguments (with_rule app (rule_for argument)) arguments
+
+abbrev pub app_for : Subcommand → App
+app_for subcommand = with_arguments (new_app subcommand.name.now) subcommand.arguments.now
+
+-- a command with these behind its own
+abbrev pub with_subcommands : App → List Subcommand → App
+with_subcommands app [] = app
+with_subcommands app (subcommand ∷ subcommands) =
+    with_subcommands (with_subcommand app (app_for subcommand).top) subcommands
+
+-- a command of the parser that is this one, and hands no argument down to those below it
+abbrev pub IsCommandOf : App → Command → Type 0
+IsCommandOf app command = (app_of command ≡ app) × ((fields_of command).has_globals ≡ false)
+
 -- whether the words have this argument; its default, which they don't have, is no such
 abbrev pub is_of_words : Option ValueSource → Bool
 is_of_words (Some CommandLine) = true
@@ -193,13 +236,17 @@ IsNumberOf text bits n =
     (t : Text) × (text ≡ Some t) × IsNumeral 10 (without_leading_plus t)
     × (n ≡ digits_value 10 (without_leading_plus t)) × (n < 2 ^ bits)
 
--- the text that stands for `--steps` is this number
-abbrev pub ReadsSteps : List Row → ℕ → Type 0
-ReadsSteps rows steps = IsNumberOf (one_of (codes "steps") rows) 32 steps
+-- a text that is this number, from 1, which 32 bits hold
+abbrev pub IsCountOf : Option Text → ℕ → Type 0
+IsCountOf text n = IsNumberOf text 32 n × (1 ≤ n)
 
--- the text that stands for `--states` is this number
+-- the text that stands for `--steps` is this number, from 1
+abbrev pub ReadsSteps : List Row → ℕ → Type 0
+ReadsSteps rows steps = IsCountOf (one_of (codes "steps") rows) steps
+
+-- the text that stands for `--states` is this number, from 1
 abbrev pub ReadsStates : List Row → ℕ → Type 0
-ReadsStates rows states = IsNumberOf (one_of (codes "states") rows) 32 states
+ReadsStates rows states = IsCountOf (one_of (codes "states") rows) states
 
 -- the text that stands for `--workers` is this number, from 1 to 64
 abbrev pub ReadsWorkers : List Row → ℕ → Type 0
@@ -214,11 +261,11 @@ ReadsVersion rows Two = IsNumberOf (one_of (codes "image") rows) 32 2
 abbrev pub ReadsSeed : List Row → ℕ → Type 0
 ReadsSeed rows seed = IsNumberOf (one_of (codes "seed") rows) 64 seed
 
--- the text that stands for `--strays` is this number, where one stands
+-- the text that stands for `--strays` is this number, from 1, where one stands
 abbrev pub ReadsStrays : List Row → Option ℕ → Type 0
 ReadsStrays rows None = is_written (codes "strays") rows ≡ false
 ReadsStrays rows (Some strays) =
-    (is_written (codes "strays") rows ≡ true) × IsNumberOf (one_of (codes "strays") rows) 32 strays
+    (is_written (codes "strays") rows ≡ true) × IsCountOf (one_of (codes "strays") rows) strays
 
 -- the text that stands for `--kills` is this number
 abbrev pub ReadsKills : List Row → ℕ → Type 0
@@ -369,6 +416,11 @@ IsAskedBy (Some (name, rows)) job =
     ⊎ (((name ≡ codes "exec") × AsksForExec rows job) ⊎ (((name ≡ codes "replay") × AsksForReplay rows job)
     ⊎ (((name ≡ codes "explain") × IsExplainOf rows job) ⊎ (((name ≡ codes "emit") × IsEmitOf rows job)
     ⊎ ((name ≡ codes "explore") × IsExploreOf rows job))))))))
+
+-- the parser finds nothing wrong with the words: they are those of one of the commands, each option at most once, each
+-- number within its bounds, and nothing is missing
+abbrev pub AreInOrder : List Text → Type 0
+AreInOrder words = fault_of command_line words ≡ []
 
 -- the words ask for this job
 abbrev pub AsksFor : List Text → Job → Type 0

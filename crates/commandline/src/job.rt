@@ -2,7 +2,7 @@ ghost use Rattle.std.specs.Prelude.{IfOk, IfErr, IfSome, None, true, map, ◌≡
 ghost use Rattle.clap.specs.Words.{app_of, found_of, kind_of, subcommand_rows_of, takes};
 ghost use Rattle.clap.specs.Walk.{rows_of};
 ghost use Rattle.clap.specs.declared.error.kind.ErrorKind.TheVariants.{OutOfMemory};
-ghost use Rattle.commandline.specs.CommandLine.{AsksFor, IsAskedBy, IsCheckOf, IsCompileOf, IsEmitOf, IsExplainOf, IsListOf};
+ghost use Rattle.commandline.specs.CommandLine.{AreInOrder, AsksFor, IsAskedBy, IsCheckOf, IsCompileOf, IsEmitOf, IsExplainOf, IsListOf};
 ghost use Rattle.commandline.specs.CommandLine.{IsExploreOf};
 ghost use Rattle.commandline.specs.CommandLine.{AsksForExec, AsksForReplay, AsksForRun, command_line};
 ghost use Rattle.commandline.specs.declared.job.Job.{Job as JobOf};
@@ -126,6 +126,7 @@ pub enum Job<'a> {
 /// Words that are taken and ask for a job are refused for want of memory alone.
 pub fn line<'a>(alloc: Global, words: &'a [&'a str]) -> Result<Job<'a>, WordsFault>
     ensures job { IfOk result (AsksFor (map (λ w. w.now) words.now)) }
+    ensures taken { IfOk result (λ job. AreInOrder (map (λ w. w.now) words.now)) }
     ensures only { (job : JobOf) → takes command_line (map (λ w. w.now) words.now) ≡ true
         → AsksFor (map (λ w. w.now) words.now) job → IfErr result (λ e. e ≡ WordsFault.Memory) }
 {
@@ -134,6 +135,7 @@ pub fn line<'a>(alloc: Global, words: &'a [&'a str]) -> Result<Job<'a>, WordsFau
 
 fn parse<'a>(alloc: Global, words: &'a [&'a str]) -> Result<Job<'a>, Error>
     ensures job { IfOk result (AsksFor (map (λ w. w.now) words.now)) }
+    ensures taken { IfOk result (λ job. AreInOrder (map (λ w. w.now) words.now)) }
     ensures only { (job : JobOf) → takes command_line (map (λ w. w.now) words.now) ≡ true
         → AsksFor (map (λ w. w.now) words.now) job
         → IfErr result (λ e. kind_of e ≡ OutOfMemory) }
@@ -150,6 +152,7 @@ fn parse_by<'a>(
 ) -> Result<Job<'a>, Error>
     requires { app_of command.old ≡ command_line }
     ensures job { IfOk result (AsksFor (map (λ w. w.now) words.now)) }
+    ensures taken { IfOk result (λ job. AreInOrder (map (λ w. w.now) words.now)) }
     ensures only { (job : JobOf) → takes command_line (map (λ w. w.now) words.now) ≡ true
         → AsksFor (map (λ w. w.now) words.now) job
         → IfErr result (λ e. kind_of e ≡ OutOfMemory) }

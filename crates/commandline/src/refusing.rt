@@ -1,5 +1,6 @@
-use crate::builder::{exec_command, explain_command, explore_command, replay_command, run_command};
+use crate::builder::Subcommand;
 use crate::sources::explained_by;
+use crate::tables::{EXEC, EXPLAIN, EXPLORE, REPLAY, RUN};
 use crate::values::is_written;
 use clap::error::ErrorKind;
 use clap::{ArgMatches, Command, Error};
@@ -37,19 +38,28 @@ fn told(
     let Some((name, inner)) = matches.subcommand() else {
         return command.error(ErrorKind::MissingSubcommand, "a command is missing");
     };
+    let (subcommand, usage) = refused(name);
+    told_by(subcommand.build(alloc)?, usage, reason(name, inner))
+}
+
+// The command of a name whose words may ask for no job, and how its usage begins.
+fn refused(name: &str) -> (Subcommand<'static>, &'static str) {
     match name {
-        "run" => told_by(run_command(alloc)?, "mesamon run", no_order(inner)),
-        "exec" => told_by(exec_command(alloc)?, "mesamon exec", no_order(inner)),
-        "replay" => {
-            let why = (ErrorKind::MissingRequiredArgument, NO_SCHEDULE);
-            told_by(replay_command(alloc)?, "mesamon replay", why)
-        }
-        "explore" => told_by(explore_command(alloc)?, "mesamon explore", no_chart(inner)),
-        _ => told_by(
-            explain_command(alloc)?,
-            "mesamon explain",
-            no_explanation(inner),
-        ),
+        "run" => (RUN, "mesamon run"),
+        "exec" => (EXEC, "mesamon exec"),
+        "replay" => (REPLAY, "mesamon replay"),
+        "explore" => (EXPLORE, "mesamon explore"),
+        _ => (EXPLAIN, "mesamon explain"),
+    }
+}
+
+// Why the arguments of the command of a name ask for no job.
+fn reason(name: &str, matches: &ArgMatches<'_>) -> (ErrorKind, &'static str) {
+    match name {
+        "run" | "exec" => no_order(matches),
+        "replay" => (ErrorKind::MissingRequiredArgument, NO_SCHEDULE),
+        "explore" => no_chart(matches),
+        _ => no_explanation(matches),
     }
 }
 

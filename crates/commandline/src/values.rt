@@ -2,7 +2,7 @@ ghost use Rattle.std.specs.Prelude.{IfSome, None, Option as OptionOf, ℕ, ◌�
 ghost use Rattle.clap.specs.Words.{found_of, one_of};
 ghost use Rattle.clap.specs.Walk.{rows_of};
 ghost use Rattle.commandline.specs.CommandLine as line;
-ghost use Rattle.commandline.specs.CommandLine.{IsNumberOf, ReadsKills, ReadsOptions, ReadsOrder, ReadsSeed, ReadsSteps};
+ghost use Rattle.commandline.specs.CommandLine.{IsCountOf, IsNumberOf, ReadsKills, ReadsOptions, ReadsOrder, ReadsSeed, ReadsSteps};
 ghost use Rattle.commandline.specs.CommandLine.{ReadsAction, ReadsChart, ReadsStates, ReadsStrays, ReadsVersion, ReadsWorkers};
 ghost use Rattle.words.specs.declared.version.ImageVersion.{ImageVersion as VersionOf};
 ghost use Rattle.commandline.specs.declared.options.ChartOptions.{ChartOptions as ChartOf};
@@ -36,6 +36,19 @@ fn number_of(matches: &ArgMatches<'_>, id: &str) -> Option<u32>
     matches.get_one::<u32>(id)
 }
 
+// The number from 1, of 32 bits, that stands for this argument.
+fn count_of(matches: &ArgMatches<'_>, id: &str) -> Option<u32>
+    ensures number { IfSome result (IsCountOf (one_of id.now (rows_of (found_of matches.now)))) }
+    ensures none { result ≡ None → (n : ℕ)
+        → IsCountOf (one_of id.now (rows_of (found_of matches.now))) n → ⊥ }
+{
+    let number = number_of(matches, id)?;
+    if number < 1 {
+        return None;
+    }
+    Some(number)
+}
+
 // The number of 64 bits that stands for this argument.
 fn long_number_of(matches: &ArgMatches<'_>, id: &str) -> Option<u64>
     ensures number { IfSome result (IsNumberOf (one_of id.now (rows_of (found_of matches.now))) 64) }
@@ -50,7 +63,7 @@ pub fn steps_of(matches: &ArgMatches<'_>) -> Option<u32>
     ensures number { IfSome result (ReadsSteps (rows_of (found_of matches.now))) }
     ensures none { result ≡ None → (n : ℕ) → ReadsSteps (rows_of (found_of matches.now)) n → ⊥ }
 {
-    number_of(matches, "steps")
+    count_of(matches, "steps")
 }
 
 /// The limit of states.
@@ -58,7 +71,7 @@ pub fn states_of(matches: &ArgMatches<'_>) -> Option<u32>
     ensures number { IfSome result (ReadsStates (rows_of (found_of matches.now))) }
     ensures none { result ≡ None → (n : ℕ) → ReadsStates (rows_of (found_of matches.now)) n → ⊥ }
 {
-    number_of(matches, "states")
+    count_of(matches, "states")
 }
 
 /// How many workers compile.
@@ -104,7 +117,7 @@ pub fn strays_of(matches: &ArgMatches<'_>) -> Option<Option<u32>>
     if !is_written(matches, "strays") {
         return Some(None);
     }
-    let strays = number_of(matches, "strays")?;
+    let strays = count_of(matches, "strays")?;
     Some(Some(strays))
 }
 

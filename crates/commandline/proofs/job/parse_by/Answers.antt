@@ -1,14 +1,25 @@
-use Rattle.std.proofs.Common.{◌≡◌, ap, ◌∙◌, map, true, refl, subst, sym, List, Option, rules}
-use Rattle.clap.specs.Words.{App, HasMatchesOf, Row, Text, is_simple, subcommand_of, subcommand_rows_of, takes}
+use Rattle.std.proofs.Common.{◌≡◌, ap, ◌∙◌, map, true, refl, subst, sym, List, Ok, Option, rules}
+use Rattle.clap.specs.Words.{App, FailsBy, HasMatchesOf, Row, Text, fault_of, is_simple, is_simple_and_free}
+use Rattle.clap.specs.Words.{subcommand_of, subcommand_rows_of, takes}
 use Rattle.clap.specs.declared.parser.matches.ArgMatches.{ArgMatches}
 use Rattle.clap.proofs.OnLiterals.{clap_on_literals}
-use Rattle.commandline.specs.CommandLine.{IsAskedBy, command_line}
+use Rattle.commandline.specs.CommandLine.{AreInOrder, IsAskedBy, command_line}
 use Rattle.commandline.specs.declared.job.Job.{Job}
 use Rattle.commandline.proofs.job.parse_by.Goals as goal
 
 simple_line : is_simple command_line ≡ true
 unfolding clap_on_literals
 simple_line = refl
+
+free_line : is_simple_and_free command_line ≡ true
+unfolding clap_on_literals
+free_line = refl
+
+-- where no kind of error comes, there is no fault
+in_order : (a : App) (words : List Text) (m : ArgMatches) → a ≡ command_line
+    → (is_simple_and_free a ≡ true → FailsBy (fault_of a words) (Ok m)) → AreInOrder words
+in_order a words m same fails =
+    ap (λ (x : App). fault_of x words) (sym same) ∙ fails (ap is_simple_and_free same ∙ free_line)
 
 -- the matches hold what the words name
 same_command : (a b : App) (words : List Text) (m : ArgMatches) → a ≡ b → is_simple b ≡ true
@@ -29,6 +40,10 @@ pub returns-in-Some-clause-job : goal.returns-in-Some-clause-job
 returns-in-Some-clause-job c =
     asked_by _ _ c.in-Some.job (same_command _ command_line _ c.in_ok-matches.matches c.requires
     simple_line c.in_ok-matches.ensures.ok.2) c.in-Some.ensures.job
+
+pub returns-in-Some-clause-taken : goal.returns-in-Some-clause-taken
+returns-in-Some-clause-taken c =
+    in_order _ (map (λ w. w.now) c.args.words.now) c.in_ok-matches.matches c.requires c.in_ok-matches.ensures.kinds
 
 pub returns-clause-only : goal.returns-clause-only
 returns-clause-only c = λ job taken asks. absurd (c.in-None.ensures.none refl job
