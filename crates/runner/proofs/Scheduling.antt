@@ -1,9 +1,9 @@
 -- Steps that are taken one by one, each an entry of its own.
-use Rattle.std.proofs.Common.{◌≡◌, ℕ, ◌+◌, ◌<◌, ◌≤◌, ◌^◌, List, [], ◌∷◌, ◌++◌, take, length}
+use Rattle.std.proofs.Common.{◌≡◌, ℕ, ◌+◌, ◌<◌, ◌≤◌, ◌^◌, ◌⊎◌, List, [], ◌∷◌, ◌++◌, take, length}
 use Rattle.std.proofs.Common.{Bool, true, false, zero, suc, is_ok, is_err, is_some, if◌then◌else◌, Some, Result, Ok, Err, IfOk, IfErr}
 use Rattle.std.proofs.Common.{Option, None, refl, ap, sym, ◌∙◌, subst, arith, get_or, inl, inr}
 use Rattle.std.specs.List.{All}
-use Rattle.std.proofs.lemmas.List.{take_more, take_all, map-append}
+use Rattle.std.proofs.lemmas.List.{take_more, map-append}
 use Rattle.std.proofs.lemmas.List.Elements.{All-append, All-cons, All-nil}
 use Rattle.std.proofs.lemmas.Option.{slice_get-get_or}
 use Rattle.isa.specs.Programs.{Program}
@@ -22,6 +22,7 @@ use Rattle.piece_machine.proofs.Refused.{piece_refuses_so}
 use Rattle.piece_machine.proofs.Wanted.{takes_so}
 use Rattle.runner.specs.declared.report.Report.{Report}
 use Rattle.runner.specs.declared.schedule.ScheduleFault.{ScheduleFault}
+use Rattle.runner.specs.declared.schedule.ScheduleFault.TheVariants.{Memory}
 use Rattle.runner.specs.declared.schedule.Turn.{Turn}
 use Rattle.runner.specs.declared.schedule.Turn.TheVariants.{Step, Stray, Kill}
 use Rattle.runner.specs.Logs.{Ends, Enters, EntersOutside, EntersOwn, event_cost, opening}
@@ -120,22 +121,29 @@ fails_at p q schedule i number d turn log k fault inside names few is same f ref
     )
 
 -- the report of a schedule that was followed to its end
-pub followed : (p : Program) (schedule : List Turn) (i : ℕ) (log : List Entry) (last : MachineView) (r : Report)
-    → length schedule ≤ i → i ≤ length schedule → i < 2 ^ 32 → Follows p (take i schedule) log (parts last)
+pub followed : (p : Program) (schedule : List Turn) (log : List Entry) (last : MachineView) (r : Report)
+    → length schedule < 2 ^ 32 → Follows p schedule log (parts last)
     → last.view.program ≡ p → r.log.items ≡ log → r.last ≡ last → r.output.items ≡ last.view.output
     → IsVerdict (concrete last.view) r.verdict → IsFollowed p schedule r
-followed p schedule i log last r past inside few f program logged same output verdict =
-    let all : Follows p schedule log (parts last) = subst (λ (ts : List Turn). Follows p ts log (parts last))
-    (take_all i schedule past) f in
+followed p schedule log last r few all program logged same output verdict =
     let of_log : Follows p schedule r.log.items (parts last) = subst
     (λ (es : List Entry). Follows p schedule es (parts last)) (sym logged) all in
     record {
       follows = subst (λ (v : MachineView). Follows p schedule r.log.items (parts v)) (sym same) of_log;
-      few = omega arith;
+      few = few;
       program = ap (λ (v : MachineView). v.view.program) same ∙ program;
       output = output ∙ ap (λ (v : MachineView). v.view.output) (sym same);
       verdict = subst (λ (v : MachineView). IsVerdict (concrete v.view) r.verdict) (sym same) verdict;
     }
+
+-- what is refused behind turns that were taken, or for want of memory
+pub fails_behind : {T : Type 0} (p : Program) (schedule : List Turn) (done : Result T ScheduleFault) (fault : ScheduleFault)
+    → IfErr done (λ (f : ScheduleFault). FailsAt p schedule f) → (fault ≡ Memory) ⊎ (done ≡ Err fault)
+    → FailsAt p schedule fault
+fails_behind p schedule done fault fails (inl is) =
+    subst (λ (f : ScheduleFault). FailsAt p schedule f) (sym is) (inl tt)
+fails_behind p schedule done fault fails (inr is) =
+    subst (λ (r : Result _ ScheduleFault). IfErr r (λ (f : ScheduleFault). FailsAt p schedule f)) is fails
 
 -- a thread that can take a step is refused it only where that may not be
 pub only_broken : (p : Program) (k : PieceConcrete) (t : ℕ) (f : StepFault) → IsFit p k → can_take p k t ≡ true

@@ -35,7 +35,7 @@ use piece_machine::{PieceMachine, Told};
 use words::MOST_LOCAL_STEPS;
 
 /// What comes behind the local steps of an entry that a thread made in its place.
-#[derive(Clone, Copy, PartialEq, Eq, Debug)]
+#[derive(Clone, Copy)]
 pub enum Behind {
     /// No shared step.
     Nothing,
@@ -46,7 +46,7 @@ pub enum Behind {
 }
 
 /// An entry that a thread made in its place.
-#[derive(Clone, Copy, PartialEq, Eq, Debug)]
+#[derive(Clone, Copy)]
 pub struct Taken {
     /// How many local steps it has.
     pub local: u32,

@@ -1,6 +1,8 @@
-ghost use Rattle.std.specs.Prelude.{◌≡◌, IfOk, IfErr};
+ghost use Rattle.std.specs.Prelude.{◌≡◌, IfOk, IfErr, OnOk};
 ghost use Rattle.runner.specs.Logs.{nothing_outside};
 ghost use Rattle.runner.specs.Reports.{IsReport, CanFail};
+ghost use Rattle.runner.specs.Rounds.{Idle};
+ghost use Rattle.runner.specs.Views.{log_state};
 
 use crate::fault::RunFault;
 use crate::naming::RunName;
@@ -71,7 +73,22 @@ pub fn finish<J: RunName, G: Gate>(
     ensures err { IfErr result (λ fault. CanFail J.program J.outside J.limit fault) }
 {
     let mut shared = shared;
-    run_rounds(&mut shared, image, share, gate)?;
+    let done = run_rounds(&mut shared, image, share, gate);
+    report_run(alloc, shared, done)
+}
+
+/// What is told of a run whose entries came to this end.
+pub fn report_run<J: RunName>(
+    alloc: Global,
+    shared: Shared<J>,
+    done: Result<(), RunFault>,
+) -> Result<Report, RunFault>
+    requires ok { OnOk done (Idle J.program J.limit (log_state shared)) }
+    requires err { IfErr done (λ fault. CanFail J.program J.outside J.limit fault) }
+    ensures ok { IfOk result (λ report. IsReport J.program J.outside J.limit report) }
+    ensures err { IfErr result (λ fault. CanFail J.program J.outside J.limit fault) }
+{
+    done?;
     let (log, last) = shared.into_parts();
     report_of(alloc, log, last).map_err(|_| RunFault::Memory)
 }

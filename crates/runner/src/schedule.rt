@@ -1,11 +1,13 @@
-ghost use Rattle.std.specs.Prelude.{◌≡◌, ◌<◌, ◌≤◌, ◌^◌, true, IfOk, IfErr, OnErr, Err};
+ghost use Rattle.std.specs.Prelude.{◌≡◌, ◌<◌, ◌≤◌, ◌^◌, ◌⊎◌, [], length, true, IfOk, IfErr, IsOk, OnErr, OnOk, Err};
 ghost use Rattle.machine.specs.declared.event.StepFault.TheVariants.{Broken};
+ghost use Rattle.machine.specs.Views.{concrete};
 ghost use Rattle.piece_machine.specs.PieceConcrete.{can_take, piece_of};
 ghost use Rattle.piece_machine.specs.PieceViews.{parts};
-ghost use Rattle.runner.specs.Logs.{Enters, EntersOutside, EntersOwn};
+ghost use Rattle.runner.specs.Logs.{Enters, EntersOutside, EntersOwn, opening};
+ghost use Rattle.runner.specs.Reports.{IsVerdict};
 ghost use Rattle.runner.specs.declared.schedule.ScheduleFault.TheVariants.{Memory};
 ghost use Rattle.runner.specs.declared.schedule.Turn.TheVariants.{Step, Stray, Kill};
-ghost use Rattle.runner.specs.Schedules.{FailsAt, IsFollowed, IsOneStep, RefusesSchedule, turn_of};
+ghost use Rattle.runner.specs.Schedules.{FailsAt, Follows, IsFollowed, IsOneStep, RefusesSchedule, turn_of};
 
 use crate::entering::wake_from_outside;
 use crate::report::{Report, report_of};
@@ -61,17 +63,49 @@ pub fn follow(alloc: Global, image: &Image, schedule: &[Turn]) -> Result<Report,
     ensures ok { IfOk result (λ report. IsFollowed image.now schedule.now report) }
     ensures err { IfErr result (λ fault. FailsAt image.now schedule.now fault) }
 {
-    let mut machine = PieceMachine::new(alloc, image, BUCKETS)?;
     let mut log = PackedLog::new(alloc);
+    let mut machine = PieceMachine::new(alloc, image, BUCKETS)?;
+    let done = follow_turns(&mut machine, &mut log, schedule);
+    report_behind(alloc, log, machine, done)
+}
+
+// What is told of a run that left this log and this machine, where no turn was refused.
+fn report_behind(
+    alloc: Global,
+    log: PackedLog,
+    last: PieceMachine,
+    done: Result<(), ScheduleFault>,
+) -> Result<Report, ScheduleFault>
+    ensures ok { IfOk result (λ report. IsOk done × (report.log.items ≡ log.items) × (report.last ≡ last)
+        × (report.output.items ≡ last.view.output) × IsVerdict (concrete last.view) report.verdict) }
+    ensures err { IfErr result (λ fault. (fault ≡ Memory) ⊎ (done ≡ Err fault)) }
+{
+    done?;
+    Ok(report_of(alloc, log, last)?)
+}
+
+// Takes the turns of a schedule, from the beginning on.
+fn follow_turns(
+    machine: &mut PieceMachine,
+    log: &mut PackedLog,
+    schedule: &[Turn],
+) -> Result<(), ScheduleFault>
+    requires begins { parts machine.old ≡ opening machine.old.view.program }
+    requires empty { log.old.items ≡ [] }
+    ensures ok { OnOk result (Follows machine.old.view.program schedule.now log.new.items (parts machine.new)
+        × (length schedule.now < 2 ^ 32)) }
+    ensures err { IfErr result (λ fault. FailsAt machine.old.view.program schedule.now fault) }
+    ensures program { machine.new.view.program ≡ machine.old.view.program }
+{
     let mut number: u64 = 0;
     for turn in schedule {
         number += 1;
-        let entry = take_turn(&mut machine, number, *turn)?;
+        let entry = take_turn(machine, number, *turn)?;
         if log.push(entry).is_err() {
             return Err(ScheduleFault::Memory);
         }
     }
-    Ok(report_of(alloc, log, machine)?)
+    Ok(())
 }
 
 // Takes the turn of this number, which is an entry of its own.

@@ -5,7 +5,8 @@ ghost use Rattle.runner.specs.Reports.{IsReport, CanFail};
 use crate::drawing::{Outside, run_drawn};
 use crate::fault::RunFault;
 use crate::naming::RunName;
-use crate::report::{Report, report_of};
+use crate::report::Report;
+use crate::running::report_run;
 use crate::share::PARTS;
 use crate::shared::Shared;
 use isa::Image;
@@ -85,7 +86,6 @@ fn run_as<J: RunName>(
     };
     let mut generator = SplitMix64::seed_from_u64(seed);
     let outside = Outside::new(strays, kills, &mut generator);
-    run_drawn(&mut shared, image, &mut share, &mut generator, outside)?;
-    let (log, last) = shared.into_parts();
-    report_of(alloc, log, last).map_err(|_| RunFault::Memory)
+    let done = run_drawn(&mut shared, image, &mut share, &mut generator, outside);
+    report_run(alloc, shared, done)
 }

@@ -9,5 +9,5 @@ use locals::NextStep;
 pub fn is_local(next: &NextStep) -> bool
     ensures { (l : Look) → next.now ≡ next_step_of l → result ≡ is_some (local_next l) }
 {
-    *next == NextStep::Local
+    matches!(*next, NextStep::Local)
 }

@@ -1,40 +1,33 @@
-use Rattle.std.proofs.Common.{◌≡◌, ◌<◌, ◌+◌, ◌^◌, refl, ◌∙◌, arith}
-use Rattle.std.proofs.lemmas.Result.{err_from_is_err_and}
+use Rattle.std.proofs.Common.{◌≡◌, ◌<◌, ◌∙◌, ◌^◌, ap, length, sym, subst}
+use Rattle.std.proofs.lemmas.Result.{IfOk-weaker, IfErr-weaker}
+use Rattle.isa.specs.Programs.{Program}
 use Rattle.piece_machine.specs.PieceViews.{parts}
-use Rattle.runner.specs.declared.schedule.Turn.TheVariants.{Step}
-use Rattle.runner.proofs.Scheduling.{follows_more, fails_at, followed, pushed}
+use Rattle.runner.specs.Logs.{opening}
+use Rattle.runner.specs.Schedules.{FailsAt, Follows}
+use Rattle.runner.proofs.Scheduling.{fails_behind, followed}
+use Rattle.runner.proofs.Turning.{on_ok}
 use Rattle.runner.proofs.schedule.follow.Goals as goal
 
-pub returns-in_err-entry-clause-err : goal.returns-in_err-entry-clause-err
-returns-in_err-entry-clause-err c =
-    let l = c.loop-turn in
-    let p = err_from_is_err_and c.from_residual-in_err-entry.result c.from_residual-in_err-entry.ensures.1 in
-    let few : l.turn-index < 2 ^ 32 = omega (arith, l.invariant.number, l.invariant.few) in
-    let next : l.number + 1 ≡ l.turn-index + 1 = omega (arith, l.invariant.number) in
-    rw (p.1, p.2) (fails_at c.args.image.now l.machine.view.program c.args.schedule.now l.turn-index (l.number + 1)
-    (Step 0) _ l.log.items (parts l.machine) _ c.loop-turn-test.true refl few next l.invariant.program
-    l.invariant.follows c.in_err-entry.ensures.err)
-
-pub loop-turn-preserved : goal.loop-turn-preserved
-loop-turn-preserved c =
-    let l = c.loop-turn in
-    let ok = c.in_ok-entry.ensures.ok in
-    record {
-      follows = follows_more c.args.image.now l.machine.view.program c.args.schedule.now l.turn-index (Step 0) _ l.log.items
-          c.push.new.self.items (parts l.machine) (parts c.take_turn.new.machine) c.in_ok-entry.entry
-          c.loop-turn-test.true refl l.invariant.program l.invariant.follows ok.0 ok.1 ok.2
-          (pushed c.push.result c.is_err.result c.push.new.self.items l.log.items c.in_ok-entry.entry
-          c.is_err.ensures.value c.if-is_err.false c.push.ensures);
-      number = omega (arith, l.invariant.number);
-      few = omega (arith, ok.3);
-      program = c.in_ok-entry.ensures.program ∙ l.invariant.program;
-    }
+pub follow_turns-done-requires-clause-begins : goal.follow_turns-done-requires-clause-begins
+follow_turns-done-requires-clause-begins c = c.in_ok-machine.ensures.parts ∙ ap opening (sym c.in_ok-machine.ensures.program)
 
 pub returns-clause-ok : goal.returns-clause-ok
 returns-clause-ok c =
-    let l = c.loop-turn in
-    let e = c.in_ok-report_of.ensures in
-    followed c.args.image.now c.args.schedule.now l.turn-index l.log.items l.machine c.in_ok-report_of.field-0
-    (omega (arith, c.loop-turn-test.false)) (omega (arith, l.auto.turn-index-end))
-    (omega (arith, l.invariant.number, l.invariant.few)) l.invariant.follows l.invariant.program e.log e.last e.output
-    e.verdict
+    let own = c.in_ok-machine.ensures.program in
+    let schedule = c.args.schedule.now in
+    let log = c.follow_turns-done.new.log.items in
+    let last = c.follow_turns-done.new.machine in
+    let after = c.follow_turns-done.ensures in
+    IfOk-weaker c.report_behind.result _ _ (λ r h.
+    let all = on_ok c.follow_turns-done.result _ h.0 after.ok in
+    followed c.args.image.now schedule log last r all.1
+    (subst (λ (p : Program). Follows p schedule log (parts last)) own all.0)
+    (after.program ∙ own) h.1 h.2 h.3 h.4) c.report_behind.ensures.ok
+
+pub returns-clause-err : goal.returns-clause-err
+returns-clause-err c =
+    let own = c.in_ok-machine.ensures.program in
+    IfErr-weaker c.report_behind.result _ _ (λ f h.
+    subst (λ (p : Program). FailsAt p c.args.schedule.now f) own
+    (fails_behind _ c.args.schedule.now c.follow_turns-done.result f c.follow_turns-done.ensures.err h))
+    c.report_behind.ensures.err

@@ -1,8 +1,10 @@
+use Rattle.std.proofs.Common.{rules}
 use Rattle.runner.specs.declared.report.Report.{Report}
 use Rattle.runner.specs.Reports.{IsReport}
 use Rattle.runner.specs.Views.{log_state}
 use Rattle.runner.proofs.Reporting.{passed_on, reported}
-use Rattle.runner.proofs.seeded.run_as.Goals as goal
+use Rattle.runner.proofs.Turning.{on_ok}
+use Rattle.runner.proofs.running.report_run.Goals as goal
 
 pub returns-clause-ok : goal.returns-clause-ok
 returns-clause-ok g c =
@@ -13,6 +15,6 @@ returns-clause-ok g c =
     let e = c.report_of.ensures in
     passed_on (λ (r : Report). IsReport p may limit r) _ c.report_of.result c.map_err.result c.map_err.ensures.cases
     c.map_err.ensures.variant
-    (reported p may limit (log_state c.run_drawn.new.shared) parts.result.0.items parts.result.1 c.report_of.result
-    parts.ensures.legal parts.ensures.own parts.ensures.within c.in_ok-run_drawn.ensures.ok parts.ensures.log
+    (reported p may limit (log_state c.args.shared) parts.result.0.items parts.result.1 c.report_of.result
+    parts.ensures.legal parts.ensures.own parts.ensures.within (on_ok c.args.done _ (search rules) c.requires.ok) parts.ensures.log
     parts.ensures.concrete parts.ensures.program e.log e.last e.output e.verdict e.fit)
