@@ -1,8 +1,10 @@
 pub mod RunsExplained
-mod Endings
-mod Explanations
+mod Answered
 mod Explored
 mod Failing
 mod LegalLogs
+mod Listed
+mod Refusing
 mod Replays
 mod SourceLogs
+mod Written

@@ -1,49 +1,58 @@
--- What a command that ended well has done: it wrote of some text, whose bytes a file gave.
-use Rattle.std.specs.Prelude.{codes, ◌≡◌, ◌⊎◌, ◌++◌, ℕ, Bool, true, false, List, [], length, map}
+-- What a command has done, of the bytes of the file that it is about, and how the program ends.
+use Rattle.std.specs.Prelude.{codes, ◌≡◌, ◌⊎◌, ◌++◌, ℕ, Bool, true, false, List, [], is_some, length, map}
 use Rattle.std.specs.List.{flat_map}
+use Rattle.clap.specs.Words.{takes}
 use Rattle.words.specs.declared.version.ImageVersion.{ImageVersion}
 use Rattle.isa.specs.Programs.{Program}
 use Rattle.isa.specs.Spelling.{IsSpelled, spelling}
 use Rattle.isa.specs.Lines.{lines}
-use Rattle.runner.specs.declared.report.Verdict.{Verdict}
-use Rattle.runner.specs.declared.report.Verdict.TheVariants as verdict
+use Rattle.scanner.specs.declared.refusal.Refusal.{Refusal}
+use Rattle.scanner.specs.Refusals.{refusal_text}
+use Rattle.log_text.specs.LogLines.{line_feed}
 use Rattle.runner.specs.declared.report.Report.{Report}
-use Rattle.runner.specs.declared.schedule.Turn.{Turn}
-use Rattle.runner.specs.Logs.{Outside}
 use Rattle.runner.specs.Reports.{IsReport}
-use Rattle.mesamon.specs.declared.status.Status.{Status}
-use Rattle.mesamon.specs.declared.status.Status.TheVariants.{Done, Stuck, Limit}
 use Rattle.program.specs.Trees.{Program as ProgramOf}
 use Rattle.source_states.specs.Actions.{action_of}
 use Rattle.actionlines.specs.Lines.{line}
 use Rattle.line_tails.specs.Beside.{with_tails}
-use Rattle.commandline.specs.CommandLine.{AsksFor}
+use Rattle.backend.specs.Refusals.{CodeFits}
+use Rattle.commandline.specs.CommandLine.{AsksFor, command_line}
 use Rattle.commandline.specs.declared.job.Job.{Job}
-use Rattle.compiler.specs.Accepts.{AcceptsText}
+use Rattle.commandline.specs.declared.job.Job.TheVariants.{Check, Compile, List as ListImage, Run, Exec, Replay, Explain, Emit, Explore}
+use Rattle.commandline.specs.declared.options.ExplainedBy.{ExplainedBy}
+use Rattle.commandline.specs.declared.options.RunOptions.{RunOptions}
+use Rattle.compiler.specs.Accepts.{AcceptsText, RefusesProgram, RefusesText, RefusesTextAs}
 use Rattle.compiler.specs.Compiles.{IsCompiledAs}
+use Rattle.mesamon.specs.declared.answer.Answer.{Answer}
 use Rattle.mesamon.specs.declared.explained_run.ExplainedRun.{ExplainedRun}
-use Rattle.mesamon.specs.Asked.{asks_for_more, searched_by, version_asked}
-use Rattle.mesamon.specs.Running.{IsRunOfText}
-use Rattle.mesamon.specs.Explaining.{IsExplanation, IsExplanationOfText}
-use Rattle.mesamon.specs.Replaying.{IsReplayOfText}
-use Rattle.mesamon.specs.SourceLog.{IsExplanationOfLog, IsReplayOfLog}
+use Rattle.mesamon.specs.declared.failure.NoAnswer.{NoAnswer}
+use Rattle.mesamon.specs.declared.failure.NoAnswer.TheVariants as left
+use Rattle.mesamon.specs.declared.status.Status.{Status}
+use Rattle.mesamon.specs.declared.status.Status.TheVariants.{Done, Refused, Usage, Stuck, Limit, Memory, Failed}
+use Rattle.mesamon.specs.Answers.{IsToldOrMemory, TellsAlone, TellsReport, status_of_verdict}
+use Rattle.mesamon.specs.Asked.{IsExplainedAs, IsReplayedAs, IsRunAs, asks_for_hints, outside_by}
 use Rattle.mesamon.specs.Exploring.{HasExplored}
-use Rattle.account_text.specs.Accounts.{account, output_lines}
 use Rattle.mesamon.specs.ImageLine.{image_line}
+use Rattle.mesamon.specs.Overwriting.{overwrites}
 
--- some text was checked, and it was told that it is a program
-pub record HasChecked (Wrote : List ℕ → Type 0) : Type 0 where
-  pub text : List ℕ
+-- the text was checked, and it was told that it is a program
+pub record HasChecked (text : List ℕ) (a : Answer) : Type 0 where
   pub program : ProgramOf
   pub accepts : AcceptsText text program
-  pub wrote : Wrote (codes "ok\n")
+  pub tells : TellsAlone (codes "ok\n") a
 
--- some text was compiled to an image of this version, and the line of that image was written
-pub record HasCompiled (version : ImageVersion) (Wrote : List ℕ → Type 0) : Type 0 where
-  pub text : List ℕ
+-- the text is a program whose code fits, of which C was made, and that was told
+pub record HasEmitted (text : List ℕ) (a : Answer) : Type 0 where
+  pub program : ProgramOf
+  pub accepts : AcceptsText text program
+  pub fits : CodeFits program
+  pub tells : TellsAlone (codes "ok\n") a
+
+-- the text was compiled to an image of this version, and the line of that image was told
+pub record HasCompiled (version : ImageVersion) (text : List ℕ) (a : Answer) : Type 0 where
   pub image : Program
   pub compiled : IsCompiledAs version text image
-  pub wrote : Wrote (image_line (length image.code))
+  pub tells : TellsAlone (image_line (length image.code)) a
 
 -- lines are told as they are; where more is asked for, with something before the first of them and before each one's
 -- line feed
@@ -51,98 +60,138 @@ abbrev pub AreTold : Bool → List ℕ → List ℕ → Type 0
 AreTold false lines told = told ≡ lines
 AreTold true lines told = (head : List ℕ) × (tails : List (List ℕ)) × (told ≡ head ++ with_tails lines tails)
 
--- some bytes spell an image, and the lines of its instructions were written
-pub record HasListed (more : Bool) (Wrote : List ℕ → Type 0) : Type 0 where
-  pub bytes : List ℕ
+-- the command is done, and tells these lines alone, with more beside them where that is asked for
+pub record TellsLines (more : Bool) (lines : List ℕ) (a : Answer) : Type 0 where
+  pub ended : a.status ≡ Done
+  pub are_told : AreTold more lines a.output.items
+  pub account : a.account.items ≡ []
+
+-- the bytes spell an image, and the lines of its instructions were told
+pub record HasListed (more : Bool) (bytes : List ℕ) (a : Answer) : Type 0 where
   pub image : Program
   pub spelled : IsSpelled image
   pub is : spelling image ≡ bytes
-  pub told : List ℕ
-  pub are_told : AreTold more (lines 0 image.code) told
-  pub wrote : Wrote told
+  pub tells : TellsLines more (lines 0 image.code) a
 
--- the exit status of a run, by its verdict
-abbrev pub status_of_verdict : Verdict → Status
-status_of_verdict verdict.Done = Done
-status_of_verdict verdict.Stuck = Stuck
-status_of_verdict verdict.Limit = Limit
-
--- a report of a run of the text within some limit of steps, with something from outside or without, or by some schedule,
--- or by the log that some text is
-abbrev pub IsReportOf : List ℕ → Report → Type 0
-IsReportOf text report =
-    ((may : Outside) × (limit : ℕ) × IsRunOfText text may limit report)
-    ⊎ (((schedule : List Turn) × IsReplayOfText text schedule report)
-    ⊎ ((lines : List ℕ) × IsReplayOfLog text lines report))
-
--- some text was run, and its output and its account were written
-pub record HasRun (Wrote WroteErrors : List ℕ → Type 0) (status : Status) : Type 0 where
-  pub text : List ℕ
-  pub trace : Bool
+-- the text was run so, and its output and its account were told
+pub record HasRun (IsRun : List ℕ → Report → Type 0) (trace : Bool) (text : List ℕ) (a : Answer) : Type 0 where
   pub report : Report
-  pub run : IsReportOf text report
-  pub ended : status ≡ status_of_verdict report.verdict
-  pub wrote : Wrote (output_lines report.output.items)
-  pub told : WroteErrors (account report trace)
+  pub run : IsRun text report
+  pub tells : TellsReport report trace a
 
--- some bytes spell an image that was run within some limit of steps, with something from outside or without, and its
--- output and its account were written
-pub record HasExecuted (Wrote WroteErrors : List ℕ → Type 0) (status : Status) : Type 0 where
-  pub bytes : List ℕ
+-- the image was run as the options say, and its output and its account were told
+pub record RunsImage (options : RunOptions) (image : Program) (a : Answer) : Type 0 where
+  pub report : Report
+  pub run : IsReport image (outside_by options.order) options.steps report
+  pub tells : TellsReport report options.trace a
+
+-- the bytes spell an image that was run so
+pub record HasExecuted (options : RunOptions) (bytes : List ℕ) (a : Answer) : Type 0 where
   pub image : Program
   pub spelled : IsSpelled image
   pub is : spelling image ≡ bytes
-  pub may : Outside
-  pub limit : ℕ
-  pub trace : Bool
-  pub report : Report
-  pub run : IsReport image may limit report
-  pub ended : status ≡ status_of_verdict report.verdict
-  pub wrote : Wrote (output_lines report.output.items)
-  pub told : WroteErrors (account report trace)
+  pub runs : RunsImage options image a
 
 -- the lines of the actions of an explained run, by the names of its program
 abbrev pub explained_lines : ExplainedRun → List ℕ
 explained_lines r = flat_map (line r.checked.names) (map action_of r.actions.items)
 
--- the actions are those of a run of the text within some limit of steps, with something from outside or without, or by
--- some schedule, or of the log that some lines are
-abbrev pub IsExplained : List ℕ → ExplainedRun → Type 0
-IsExplained text r =
-    ((may : Outside) × (limit : ℕ) × IsExplanationOfText text may limit r)
-    ⊎ (((schedule : List Turn) × IsExplanation text (IsReplayOfText text schedule) r)
-    ⊎ ((lines : List ℕ) × IsExplanationOfLog text lines r))
+-- the lines of the actions of an explained run are told alone, with their places where those are asked for
+pub record TellsRun (places : Bool) (r : ExplainedRun) (a : Answer) : Type 0 where
+  pub ended : a.status ≡ status_of_verdict r.report.verdict
+  pub are_told : AreTold places (explained_lines r) a.output.items
+  pub account : a.account.items ≡ []
 
--- some text was run and its run explained, or a log of it, and the lines of the actions were written
-pub record HasExplained (more : Bool) (Wrote : List ℕ → Type 0) (status : Status) : Type 0 where
-  pub text : List ℕ
+-- the text was run as was asked for and its run explained, or a log of it, and that was told
+pub record HasExplained (by : ExplainedBy) (places : Bool) (text : List ℕ) (a : Answer) : Type 0 where
   pub explained_run : ExplainedRun
-  pub explained : IsExplained text explained_run
-  pub ended : status ≡ status_of_verdict explained_run.report.verdict
-  pub told : List ℕ
-  pub are_told : AreTold more (explained_lines explained_run) told
-  pub wrote : Wrote told
+  pub explained : IsExplainedAs by text explained_run
+  pub tells : TellsRun places explained_run a
 
--- a command that ended so has run some text or some image, has explained a run, or has searched all runs of some text,
--- with nothing told of it as an error where it ran nothing
-abbrev pub HasEnded : Job → (Wrote WroteErrors : List ℕ → Type 0) → Status → Type 0
-HasEnded job Wrote WroteErrors status =
-    HasRun Wrote WroteErrors status ⊎ (HasExecuted Wrote WroteErrors status
-    ⊎ ((HasExplained (asks_for_more job) Wrote status × WroteErrors [])
-    ⊎ (HasExplored (searched_by job) Wrote status × WroteErrors [])))
+-- the job was done, with these bytes in the file that it is about: what it asks for is what is told
+abbrev pub HasDone : Job → (bytes : List ℕ) → Answer → Type 0
+HasDone (Check file hints) bytes a = HasChecked bytes a
+HasDone (Compile file out workers version hints) bytes a = HasCompiled version bytes a
+HasDone (ListImage image source hints) bytes a = HasListed (is_some source) bytes a
+HasDone (Run file options hints) bytes a = HasRun (IsRunAs options) options.trace bytes a
+HasDone (Exec image options) bytes a = HasExecuted options bytes a
+HasDone (Replay file by trace hints) bytes a = HasRun (IsReplayedAs by) trace bytes a
+HasDone (Explain file by chart timeline places hints) bytes a = HasExplained by places bytes a
+HasDone (Emit file out hints) bytes a = HasEmitted bytes a
+HasDone (Explore file states strays kills chart timeline hints) bytes a =
+    HasExplored (record { strays = strays; kills = kills }) bytes a
 
--- a command that ended well has compiled, has listed, has run, has explained or has checked
-abbrev pub HasDone : Job → (Wrote WroteErrors : List ℕ → Type 0) → Status → Type 0
-HasDone job Wrote WroteErrors Done =
-    HasCompiled (version_asked job) Wrote ⊎ (HasListed (asks_for_more job) Wrote
-    ⊎ (HasEnded job Wrote WroteErrors Done ⊎ HasChecked Wrote))
-HasDone job Wrote WroteErrors Stuck = HasEnded job Wrote WroteErrors Stuck
-HasDone job Wrote WroteErrors Limit = HasEnded job Wrote WroteErrors Limit
-HasDone job Wrote WroteErrors _ = ⊥
+-- some text has this refusal, of an image of some version
+abbrev pub RefusesSource : Refusal → Type 0
+RefusesSource e = (version : ImageVersion) × (text : List ℕ) × RefusesTextAs version text e
 
--- a command ended so that did the job which the words ask for: more stands beside its lines only where that job asks
--- for it, an image is of the version that it says, and what may come from outside in the runs that it searches is what that job says
+-- this is the refusal of the text that the job is about: with these bytes in its file, or for a listing in the source's
+abbrev pub RefusesJob : Job → (bytes : List ℕ) → Refusal → Type 0
+RefusesJob (Check file hints) bytes e = RefusesProgram bytes e
+RefusesJob (Compile file out workers version hints) bytes e = RefusesTextAs version bytes e
+RefusesJob (ListImage image source hints) bytes e = RefusesSource e
+RefusesJob (Exec image options) bytes e = ⊥
+RefusesJob (Run file options hints) bytes e = RefusesText bytes e
+RefusesJob (Replay file by trace hints) bytes e = RefusesText bytes e
+RefusesJob (Explain file by chart timeline places hints) bytes e = RefusesText bytes e
+RefusesJob (Emit file out hints) bytes e = RefusesText bytes e
+RefusesJob (Explore file states strays kills chart timeline hints) bytes e = RefusesText bytes e
+
+-- the job that the words ask for was done, and ended so; what it tells was written, each byte of it, and to standard error
+-- hints behind that, where the job asks for hints
 pub record HasAnswered (words : List (List ℕ)) (Wrote WroteErrors : List ℕ → Type 0) (status : Status) : Type 0 where
   pub job : Job
   pub asks : AsksFor words job
-  pub done : HasDone job Wrote WroteErrors status
+  pub apart : overwrites job ≡ false
+  pub bytes : List ℕ
+  pub answer : Answer
+  pub done : HasDone job bytes answer
+  pub ended : answer.status ≡ status
+  pub hints : List ℕ
+  pub unasked : asks_for_hints job ≡ false → hints ≡ []
+  pub wrote : Wrote answer.output.items
+  pub told : WroteErrors (answer.account.items ++ hints)
+
+-- the text that the words ask about is refused, and the line of its refusal was written to standard error, with hints
+-- behind it where the job asks for hints; to standard output nothing was
+pub record IsRefused (words : List (List ℕ)) (Wrote WroteErrors : List ℕ → Type 0) : Type 0 where
+  pub job : Job
+  pub asks : AsksFor words job
+  pub bytes : List ℕ
+  pub refusal : Refusal
+  pub refuses : RefusesJob job bytes refusal
+  pub hints : List ℕ
+  pub unasked : asks_for_hints job ≡ false → hints ≡ []
+  pub wrote : Wrote []
+  pub told : WroteErrors ((refusal_text refusal ++ line_feed) ++ hints)
+
+-- the words ask for no job, or for one that would write a file that it reads, or one file twice
+abbrev pub IsNoCommand : List (List ℕ) → Type 0
+IsNoCommand words =
+    ((job : Job) → takes command_line words ≡ true → AsksFor words job → ⊥)
+    ⊎ ((job : Job) × AsksFor words job × (overwrites job ≡ true))
+
+-- why a job has no answer was told, with hints behind it: a refusal by its line, and what failed by its name
+abbrev pub IsToldLeft : (Wrote : List ℕ → Type 0) (Fails : Type 0) (hints : List ℕ) → NoAnswer → Status → Type 0
+IsToldLeft Wrote Fails hints (left.Refused e) status =
+    IsToldOrMemory Wrote (Wrote ((refusal_text e ++ line_feed) ++ hints)) Fails Refused status
+IsToldLeft Wrote Fails hints (left.Failed f) status =
+    IsToldOrMemory Wrote ((name : List ℕ) × (more : List ℕ) × Wrote ((name ++ line_feed) ++ more)) Fails Failed status
+
+-- a failure was named to standard error, and nothing was written to standard output
+pub record IsNamed (Wrote WroteErrors : List ℕ → Type 0) : Type 0 where
+  pub name : List ℕ
+  pub hints : List ℕ
+  pub wrote : Wrote []
+  pub told : WroteErrors ((name ++ line_feed) ++ hints)
+
+-- what is so of a program that ended with this status, of which standard output and standard error got so much: where it
+-- failed, one of the two did, or what failed was named
+abbrev pub EndsSo : (words : List (List ℕ)) (Wrote WroteErrors : List ℕ → Type 0) (Fails : Type 0) → Status → Type 0
+EndsSo words Wrote WroteErrors Fails Done = HasAnswered words Wrote WroteErrors Done
+EndsSo words Wrote WroteErrors Fails Stuck = HasAnswered words Wrote WroteErrors Stuck
+EndsSo words Wrote WroteErrors Fails Limit = HasAnswered words Wrote WroteErrors Limit
+EndsSo words Wrote WroteErrors Fails Refused = IsRefused words Wrote WroteErrors
+EndsSo words Wrote WroteErrors Fails Usage = IsNoCommand words × Wrote []
+EndsSo words Wrote WroteErrors Fails Memory = Wrote [] × WroteErrors (codes "memory\n")
+EndsSo words Wrote WroteErrors Fails Failed = Fails ⊎ IsNamed Wrote WroteErrors

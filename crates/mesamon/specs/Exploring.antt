@@ -25,6 +25,7 @@ use Rattle.source_search.specs.declared.runs.Exploration.{Exploration}
 use Rattle.actionlines.specs.Lines.{line}
 use Rattle.compiler.specs.Accepts.{AcceptsText}
 use Rattle.log_text.specs.LogLines.{line_feed}
+use Rattle.mesamon.specs.declared.answer.Answer.{Answer}
 use Rattle.mesamon.specs.declared.exploring.ExploredText.{ExploredText}
 use Rattle.mesamon.specs.declared.status.Status.{Status}
 use Rattle.mesamon.specs.declared.status.Status.TheVariants.{Done, Stuck, Limit}
@@ -94,10 +95,14 @@ found_status false false = Limit
 abbrev pub explored_status : Exploration → Status
 explored_status e = found_status (is_some e.stuck) e.complete
 
--- all runs of some text were searched, with as much from outside as may be, and what was found was written
-pub record HasExplored (may : Outside) (Wrote : List ℕ → Type 0) (status : Status) : Type 0 where
-  pub text : List ℕ
+-- what was found is told alone
+pub record TellsFound (may : Outside) (r : ExploredText) (a : Answer) : Type 0 where
+  pub ended : a.status ≡ explored_status r.exploration
+  pub output : a.output.items ≡ explored_lines may r
+  pub account : a.account.items ≡ []
+
+-- all runs of the text's program were searched, with as much from outside as may be, and what was found was told
+pub record HasExplored (may : Outside) (text : List ℕ) (a : Answer) : Type 0 where
   pub explored_text : ExploredText
   pub explored : IsExploredText text may explored_text
-  pub ended : status ≡ explored_status explored_text.exploration
-  pub wrote : Wrote (explored_lines may explored_text)
+  pub tells : TellsFound may explored_text a

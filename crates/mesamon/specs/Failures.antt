@@ -1,13 +1,9 @@
--- What a failure comes of, and the exit status that it has.
-use Rattle.std.specs.Prelude.{◌≡◌, ◌≢◌, ◌⊎◌, None}
+-- What it comes of that a job has no answer.
+use Rattle.std.specs.Prelude.{◌≡◌, ◌≢◌, ◌⊎◌}
 use Rattle.std.specs.declared.io.ErrorKind.{ErrorKind}
 use Rattle.std.specs.declared.io.ErrorKind.TheVariants as io
-use Rattle.commandline.specs.declared.fault.WordsFault.{WordsFault}
-use Rattle.commandline.specs.declared.fault.WordsFault.TheVariants as words
 use Rattle.devices.specs.declared.reading.ReadFault.{ReadFault}
 use Rattle.devices.specs.declared.reading.ReadFault.TheVariants as read
-use Rattle.devices.specs.declared.report.WriteFault.{WriteFault}
-use Rattle.devices.specs.declared.report.WriteFault.TheVariants as write
 use Rattle.isa.specs.declared.fault.DecodeFault.{DecodeFault}
 use Rattle.isa.specs.declared.fault.DecodeFault.TheVariants as image
 use Rattle.scanner.specs.declared.refusal.Refusal.{Refusal}
@@ -23,25 +19,9 @@ use Rattle.mesamon.specs.declared.explained_run.ExplainSourceFault.TheVariants a
 use Rattle.mesamon.specs.declared.source_log.SourceLogFault.{SourceLogFault}
 use Rattle.mesamon.specs.declared.source_log.SourceLogFault.TheVariants as log
 use Rattle.mesamon.specs.declared.failure.Failure.{Failure}
-use Rattle.mesamon.specs.declared.failure.Failure.TheVariants.{Usage, Read, Write, OtherImage, Refused, Image, Run, Schedule}
-use Rattle.mesamon.specs.declared.failure.Failure.TheVariants.{LogLine, LogEntry, Output, Memory}
-use Rattle.mesamon.specs.declared.status.Status.{Status}
-use Rattle.mesamon.specs.declared.status.Status.TheVariants as status
-
--- the exit status of a failure
-abbrev pub status_of : Failure → Status
-status_of (Usage e) = status.Usage
-status_of (Read name reason) = status.Failed
-status_of (Write name reason) = status.Failed
-status_of (OtherImage name) = status.Failed
-status_of (Refused e hints) = status.Refused
-status_of (Image e) = status.Failed
-status_of (Run e) = status.Failed
-status_of (Schedule number) = status.Failed
-status_of (LogLine number) = status.Failed
-status_of (LogEntry number) = status.Failed
-status_of Output = status.Failed
-status_of Memory = status.Memory
+use Rattle.mesamon.specs.declared.failure.Failure.TheVariants.{Image, Run, Schedule, LogLine, LogEntry, Memory}
+use Rattle.mesamon.specs.declared.failure.NoAnswer.{NoAnswer}
+use Rattle.mesamon.specs.declared.failure.NoAnswer.TheVariants.{Refused, Failed}
 
 -- an error of input or output is this failure, but for want of memory that of memory
 abbrev pub OfIo : ErrorKind → Failure → Failure → Type 0
@@ -51,21 +31,6 @@ OfIo k other f = ((k ≡ io.OutOfMemory) × (f ≡ Memory)) ⊎ ((k ≢ io.OutOf
 abbrev pub OfSource : ReadFault → Failure → Failure → Type 0
 OfSource read.Device other f = f ≡ other
 OfSource read.Memory other f = f ≡ Memory
-
--- where what a run tells isn't written, it is the failure of output, but for want of memory
-abbrev pub OfReport : WriteFault → Failure → Type 0
-OfReport write.Output f = f ≡ Output
-OfReport write.Errors f = f ≡ Output
-OfReport write.Memory f = f ≡ Memory
-
--- so is the fault of the words of a command line
-abbrev pub OfWords : WordsFault → Failure → Type 0
-OfWords (words.Usage text) f = f ≡ Usage text
-OfWords words.Memory f = f ≡ Memory
-
--- and so is a refusal, without hints
-abbrev pub OfRefusal : Refusal → Failure → Type 0
-OfRefusal e f = ((e.kind ≡ kind.Memory) × (f ≡ Memory)) ⊎ ((e.kind ≢ kind.Memory) × (f ≡ Refused e None))
 
 -- and so is the fault of an image
 abbrev pub OfImage : DecodeFault → Failure → Type 0
@@ -77,25 +42,35 @@ abbrev pub OfFault : RunFault → Failure → Type 0
 OfFault fault.Memory f = f ≡ Memory
 OfFault e f = f ≡ Run e
 
--- the failure that comes of a fault of `run`
-abbrev pub OfRun : RunSourceFault → Failure → Type 0
-OfRun (source.Refused e) f = OfRefusal e f
-OfRun (source.Run e) f = OfFault e f
+-- a refusal stands for itself, but for that of memory, which is a failure
+abbrev pub OfRefusal : Refusal → NoAnswer → Type 0
+OfRefusal e n =
+    ((e.kind ≡ kind.Memory) × (n ≡ Failed Memory)) ⊎ ((e.kind ≢ kind.Memory) × (n ≡ Refused e))
 
--- the failure that comes of a fault of `replay`
-abbrev pub OfReplay : ReplayFault → Failure → Type 0
-OfReplay (replay.Refused e) f = OfRefusal e f
-OfReplay (replay.BadEntry number) f = f ≡ Schedule number
-OfReplay replay.Memory f = f ≡ Memory
+-- what comes of a fault of `run`
+abbrev pub OfRun : RunSourceFault → NoAnswer → Type 0
+OfRun (source.Refused e) n = OfRefusal e n
+OfRun (source.Run e) n = (f : Failure) × OfFault e f × (n ≡ Failed f)
 
--- the failure that comes of a fault of `explain`
-abbrev pub OfExplain : ExplainSourceFault → Failure → Type 0
-OfExplain (explain.Refused e) f = OfRefusal e f
-OfExplain explain.Memory f = f ≡ Memory
+-- what comes of a fault of `replay`
+abbrev pub OfReplay : ReplayFault → NoAnswer → Type 0
+OfReplay (replay.Refused e) n = OfRefusal e n
+OfReplay (replay.BadEntry number) n = n ≡ Failed (Schedule number)
+OfReplay replay.Memory n = n ≡ Failed Memory
 
--- the failure that comes of a fault of a log
-abbrev pub OfSourceLog : SourceLogFault → Failure → Type 0
-OfSourceLog (log.Refused e) f = OfRefusal e f
-OfSourceLog (log.Line number) f = f ≡ LogLine number
-OfSourceLog (log.Entry number) f = f ≡ LogEntry number
-OfSourceLog log.Memory f = f ≡ Memory
+-- what comes of a fault of `explain`
+abbrev pub OfExplain : ExplainSourceFault → NoAnswer → Type 0
+OfExplain (explain.Refused e) n = OfRefusal e n
+OfExplain explain.Memory n = n ≡ Failed Memory
+
+-- what comes of a fault of a log
+abbrev pub OfSourceLog : SourceLogFault → NoAnswer → Type 0
+OfSourceLog (log.Refused e) n = OfRefusal e n
+OfSourceLog (log.Line number) n = n ≡ Failed (LogLine number)
+OfSourceLog (log.Entry number) n = n ≡ Failed (LogEntry number)
+OfSourceLog log.Memory n = n ≡ Failed Memory
+
+-- where it is a refusal, it is one of this kind
+abbrev pub IsRefusalBy : (Refusal → Type 0) → NoAnswer → Type 0
+IsRefusalBy Refuses (Refused e) = Refuses e
+IsRefusalBy Refuses (Failed f) = Unit {0}

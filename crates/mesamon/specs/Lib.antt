@@ -8,4 +8,6 @@ pub mod Exploring
 pub mod Statuses
 pub mod ImageLine
 pub mod Failures
+pub mod Overwriting
+pub mod Answers
 pub mod Commands

@@ -1,41 +1,40 @@
-ghost use Rattle.std.specs.Prelude.{◌≡◌, ◌≤◌, IfOk, OnOk, map};
+ghost use Rattle.std.specs.Prelude.{◌≡◌, ◌⊎◌, ◌++◌, List, [], ℕ, false, IfOk, map, string_bytes};
+ghost use Rattle.commandline.specs.CommandLine.{AsksFor};
 ghost use Rattle.devices.specs.Writing.{HasAll};
-ghost use Rattle.program.specs.Names.{said_by};
-ghost use Rattle.program.specs.Trees.{Program};
-ghost use Rattle.compiler.specs.Accepts.{AcceptsText};
-ghost use Rattle.compiler.specs.Compiles.{IsCompiledAs};
-ghost use Rattle.mesamon.specs.Commands.{HasAnswered, HasChecked, HasCompiled};
+ghost use Rattle.log_text.specs.LogLines.{line_feed};
+ghost use Rattle.scanner.specs.Refusals.{refusal_text};
+ghost use Rattle.mesamon.specs.Answers.{HasMetFailure, IsTold, IsToldOrMemory};
+ghost use Rattle.mesamon.specs.Commands.{EndsSo, IsToldLeft};
+ghost use Rattle.mesamon.specs.Statuses.{status_code};
+ghost use Rattle.mesamon.specs.declared.status.Status.{Status as StatusOf};
 
-use crate::drawing::Drawings;
-use crate::explaining::explain_file;
-use crate::exploring::explore_file;
-use crate::failure::Failure;
-use crate::files::{bytes_of, put_bytes};
-use crate::hinting::{SourceText, hinted};
-use crate::lines::{line_of_image, write_text};
-use crate::listing::list_file;
-use crate::running::{exec_file, replay_file, run_file};
+use crate::answer::Answer;
+use crate::failure::{Failure, NoAnswer};
+use crate::jobs::{asks_for_hints, do_job};
+use crate::lines::write_text;
+use crate::overwriting::overwrites;
 use crate::status::Status;
-use crate::telling::{tell_failure, wants_hints};
-use commandline::{Job, line};
-use compiler::{check_text, compile_checked, compile_with_as};
+use crate::telling::tell_failure;
+use commandline::{Job, WordsFault, line};
 use devices::Counted;
-use emit::emit;
-use isa::{Image, encode};
-use program::Checked;
-use source_search::{Outside, Progress};
-use std::alloc::Global;
-use std::io;
+use scanner::Refusal;
+use source_search::Progress;
+use std::alloc::{AllocError, Global};
+use std::fmt::Write as _;
 use std::io::Write;
 use std::rt::Files;
 use std::sync::Wait;
 use std::thread::Threads;
-use words::{ImageVersion, OpenGate};
+
+// What is told where there was no memory.
+const MEMORY: &str = "memory\n";
+
+// What is told where a job would write over what it reads or has written.
+const TWICE: &str = "error: a file that is to be written is named twice\n";
 
 /// Does the command that these words ask for, those after the program's name, and answers the exit status. `output`
-/// and `errors` stand for standard output and standard error; what is to stand behind what `errors` got is appended to
-/// `hints`, where the words ask for hints. `progress` is told how far a search over all runs has come, as it goes, and
-/// gives nothing back.
+/// and `errors` stand for standard output and standard error; the hints that the words ask for stand behind all else that
+/// `errors` gets. `progress` is told how far a search over all runs has come, as it goes, and gives nothing back.
 ///
 /// The first fault decides: of the words, of reading the files, of the source text or the image, of its run, of
 /// writing.
@@ -45,243 +44,170 @@ use words::{ImageVersion, OpenGate};
 ///
 /// The status is 0 where the command was done, 1 where the source text is refused, 2 for words that are no command, 3
 /// where the run was stuck, 4 where it reached its limit, 5 where memory ran out, and 6 for any other failure.
-pub fn perform<R: Files + AllocGlobal + Threads + Wait + Sync, O: Write, E: Write, P: Progress>(
-    rt: &R,
-    words: &[&str],
-    output: &mut Counted<O>,
-    errors: &mut Counted<E>,
-    hints: &mut String,
-    progress: &mut P,
-) -> u8
-    ensures known { result ≤ 6 }
-    ensures done { result ≡ 0 → HasAnswered (map (λ w. w.now) words.now)
-        (HasAll O.contents output.old output.new)
-        (HasAll E.contents errors.old errors.new) Status.Done }
-    ensures stuck { result ≡ 3 → HasAnswered (map (λ w. w.now) words.now)
-        (HasAll O.contents output.old output.new)
-        (HasAll E.contents errors.old errors.new) Status.Stuck }
-    ensures limit { result ≡ 4 → HasAnswered (map (λ w. w.now) words.now)
-        (HasAll O.contents output.old output.new)
-        (HasAll E.contents errors.old errors.new) Status.Limit }
-{
-    match do_job(rt, words, output, errors, hints, progress) {
-        Ok(status) => status.code(),
-        Err(failure) => {
-            let _told = tell(errors, &failure);
-            if wants_hints(words) {
-                tell_failure(hints, &failure);
-            }
-            failure.status().code()
-        }
-    }
-}
-
-/// As `perform`, and then writes the hints to `errors`, behind what they speak of. Where they can't be written, a command
-/// that ended well has failed.
 pub fn perform_with_hints<
     R: Files + AllocGlobal + Threads + Wait + Sync,
     O: Write,
     E: Write,
     P: Progress,
 >(rt: &R, words: &[&str], output: &mut Counted<O>, errors: &mut Counted<E>, progress: &mut P) -> u8
-    ensures { result ≤ 6 }
+    ensures { (status : StatusOf) × (result ≡ status_code status) × EndsSo (map (λ w. w.now) words.now)
+        (HasAll O.contents output.old output.new) (HasAll E.contents errors.old errors.new)
+        (HasMetFailure output.new ⊎ HasMetFailure errors.new) status }
 {
-    let mut hints = String::new(rt.alloc());
-    let status = perform(rt, words, output, errors, &mut hints, progress);
-    if hints.is_empty() || write_text(errors, hints.as_str()).is_ok() {
-        return status;
-    }
-    match status {
-        1 | 2 | 5 => status,
-        _ => Status::Failed.code(),
-    }
+    perform(rt, words, output, errors, progress).code()
 }
 
-// Writes what is to be said of a failure.
-fn tell<E: Write>(errors: &mut Counted<E>, failure: &Failure<'_>) -> io::Result<()> {
-    match failure {
-        Failure::Usage(text) => write!(errors, "{text}"),
-        Failure::Output => Ok(()),
-        Failure::Refused {
-            refusal,
-            hints: Some(hints),
-        } => write!(errors, "{refusal}\n{hints}"),
-        other => writeln!(errors, "{other}"),
-    }
-}
-
-fn do_job<'a, R: Files + AllocGlobal + Threads + Wait + Sync, O: Write, E: Write, P: Progress>(
+// The same, and answers how it ended.
+fn perform<R: Files + AllocGlobal + Threads + Wait + Sync, O: Write, E: Write, P: Progress>(
     rt: &R,
-    words: &'a [&'a str],
+    words: &[&str],
     output: &mut Counted<O>,
     errors: &mut Counted<E>,
-    told: &mut String,
     progress: &mut P,
-) -> Result<Status, Failure<'a>>
-    ensures { IfOk result (HasAnswered (map (λ w. w.now) words.now)
-        (HasAll O.contents output.old output.new)
-        (HasAll E.contents errors.old errors.new)) }
+) -> Status
+    ensures { EndsSo (map (λ w. w.now) words.now)
+        (HasAll O.contents output.old output.new) (HasAll E.contents errors.old errors.new)
+        (HasMetFailure output.new ⊎ HasMetFailure errors.new) result }
 {
-    match line(rt.alloc(), words)? {
-        Job::Check { file, hints } => check_file(rt, file, hints, output),
-        Job::Compile {
-            file,
-            out,
-            workers,
-            version,
-            hints,
-        } => compile_file(rt, file, out, version, workers, hints, output),
-        Job::List {
-            image,
-            source,
-            hints,
-        } => list_file(rt, image, source, hints, output),
-        Job::Run {
-            file,
-            options,
-            hints,
-        } => run_file(rt, file, options, hints, output, errors, told),
-        Job::Exec { image, options } => exec_file(rt, image, options, output, errors),
-        Job::Replay {
-            file,
-            by,
-            trace,
-            hints,
-        } => replay_file(rt, file, by, trace, hints, output, errors, told),
-        Job::Explain {
-            file,
-            by,
-            chart,
-            timeline,
-            places,
-            hints,
-        } => {
-            let drawings = Drawings { chart, timeline };
-            explain_file(rt, file, by, drawings, places, hints, output, told)
-        }
-        Job::Emit { file, out, hints } => emit_file(rt, file, out, hints, output),
-        Job::Explore {
-            file,
-            states,
-            strays,
-            kills,
-            chart,
-            timeline,
-            hints,
-        } => {
-            let drawings = Drawings { chart, timeline };
-            let outside = Outside { strays, kills };
-            explore_file(
-                rt, file, states, outside, drawings, hints, output, told, progress,
-            )
-        }
+    match line(rt.alloc(), words) {
+        Ok(job) => perform_job(rt, job, output, errors, progress),
+        Err(WordsFault::Usage(text)) => tell(errors, text.as_str(), Status::Usage),
+        Err(WordsFault::Memory) => tell(errors, MEMORY, Status::Memory),
     }
 }
 
-// Checks a text; its refusal with hints where they are wanted, as below.
-fn check<'a>(alloc: Global, text: &SourceText<'_>) -> Result<(), Failure<'a>>
-    ensures { IfOk result (λ _. (p : Program) × AcceptsText text.now.bytes.now p) }
-{
-    check_text(alloc, text.bytes).map_err(|refusal| hinted(alloc, text, Failure::from(refusal)))
-}
-
-// The image of this version of a text.
-fn image_of<'a, R: AllocGlobal + Threads + Wait + Sync>(
+// Does a job, and writes what comes of it.
+fn perform_job<R: Files + AllocGlobal + Threads + Wait + Sync, O: Write, E: Write, P: Progress>(
     rt: &R,
-    text: &SourceText<'_>,
-    version: ImageVersion,
-    workers: u32,
-) -> Result<Image, Failure<'a>>
-    requires { (1 ≤ workers) × (workers ≤ 64) }
-    ensures { IfOk result (λ image. IsCompiledAs version text.now.bytes.now image) }
+    job: Job<'_>,
+    output: &mut Counted<O>,
+    errors: &mut Counted<E>,
+    progress: &mut P,
+) -> Status
+    requires { (ws : List (List ℕ)) × AsksFor ws job }
+    ensures { (ws : List (List ℕ)) → AsksFor ws job.entry → EndsSo ws
+        (HasAll O.contents output.old output.new) (HasAll E.contents errors.old errors.new)
+        (HasMetFailure output.new ⊎ HasMetFailure errors.new) result }
 {
-    let image = compile_with_as(rt, rt.alloc(), text.bytes, version, workers, &OpenGate);
-    image.map_err(|refusal| hinted(rt.alloc(), text, Failure::from(refusal)))
-}
-
-// The program of a text whose code fits.
-fn checked_of<'a, 't>(alloc: Global, text: &SourceText<'t>) -> Result<Checked<'t>, Failure<'a>>
-    ensures { IfOk result (λ checked. AcceptsText text.now.bytes.now (said_by checked)) }
-{
-    match compile_checked(alloc, text.bytes) {
-        Ok((checked, _)) => Ok(checked),
-        Err(refusal) => Err(hinted(alloc, text, Failure::from(refusal))),
+    if overwrites(&job) {
+        return tell(errors, TWICE, Status::Usage);
+    }
+    let mut hints = String::new(rt.alloc());
+    let done = do_job(rt, job, &mut hints, progress);
+    tell_failure(&mut hints, &done);
+    let behind = asked_hints(asks_for_hints(&job), hints.as_str());
+    match done {
+        Ok(answer) => tell_answer(&answer, behind, output, errors),
+        Err(left) => tell_left(rt.alloc(), left, behind, errors),
     }
 }
 
-// Checks a file.
-fn check_file<'a, R: Files + AllocGlobal, O: Write>(
-    rt: &R,
-    file: &'a str,
-    hints: bool,
-    output: &mut Counted<O>,
-) -> Result<Status, Failure<'a>>
-    ensures done { IfOk result (λ s. s ≡ Status.Done) }
-    ensures wrote { OnOk result
-        (HasChecked (HasAll O.contents output.old output.new)) }
+// The hints, where they are asked for.
+fn asked_hints<'h>(asked: bool, hints: &'h str) -> &'h str
+    ensures { asked ≡ false → result.now ≡ [] }
 {
-    let bytes = bytes_of(rt, file)?;
-    let text = SourceText {
-        file,
-        bytes: bytes.as_slice(),
-        hints,
-    };
-    check(rt.alloc(), &text)?;
-    write_text(output, "ok\n")?;
-    Ok(Status::Done)
+    if asked { hints } else { "" }
 }
 
-// Compiles a file to another.
-fn compile_file<'a, R: Files + AllocGlobal + Threads + Wait + Sync, O: Write>(
-    rt: &R,
-    file: &'a str,
-    out: &'a str,
-    version: ImageVersion,
-    workers: u32,
-    hints: bool,
-    output: &mut Counted<O>,
-) -> Result<Status, Failure<'a>>
-    requires { (1 ≤ workers) × (workers ≤ 64) }
-    ensures done { IfOk result (λ s. s ≡ Status.Done) }
-    ensures wrote { OnOk result
-        (HasCompiled version (HasAll O.contents output.old output.new)) }
+// Writes a text to standard error, and answers this status; where it can't be written, the command has failed.
+fn tell<E: Write>(errors: &mut Counted<E>, text: &str, status: Status) -> Status
+    ensures { IsTold (HasAll E.contents errors.old errors.new text.now) (HasMetFailure errors.new) status result }
 {
-    let source = bytes_of(rt, file)?;
-    let text = SourceText {
-        file,
-        bytes: source.as_slice(),
-        hints,
-    };
-    let image = image_of(rt, &text, version, workers)?;
-    let bytes = encode(rt.alloc(), &image)?;
-    let count = image.code().len();
-    let line = line_of_image(rt.alloc(), count)?;
-    put_bytes(rt, out, bytes.as_slice())?;
-    write_text(output, line.as_str())?;
-    Ok(Status::Done)
+    match write_text(errors, text) {
+        Ok(()) => status,
+        Err(_) => Status::Failed,
+    }
 }
 
-// Writes the program of a file as one in C to another.
-fn emit_file<'a, R: Files + AllocGlobal, O: Write>(
-    rt: &R,
-    file: &'a str,
-    out: &'a str,
-    hints: bool,
+// Writes what a command that was done tells, and hints behind it.
+fn tell_answer<O: Write, E: Write>(
+    answer: &Answer,
+    hints: &str,
     output: &mut Counted<O>,
-) -> Result<Status, Failure<'a>>
-    ensures done { IfOk result (λ s. s ≡ Status.Done) }
-    ensures wrote { OnOk result
-        (HasChecked (HasAll O.contents output.old output.new)) }
+    errors: &mut Counted<E>,
+) -> Status
+    ensures { IsTold
+        (HasAll O.contents output.old output.new answer.now.output.items
+        × HasAll E.contents errors.old errors.new (answer.now.account.items ++ hints.now))
+        (HasMetFailure output.new ⊎ HasMetFailure errors.new) answer.now.status result }
 {
-    let bytes = bytes_of(rt, file)?;
-    let text = SourceText {
-        file,
-        bytes: bytes.as_slice(),
-        hints,
-    };
-    let checked = checked_of(rt.alloc(), &text)?;
-    let lines = emit(rt.alloc(), &checked)?;
-    put_bytes(rt, out, lines.as_slice())?;
-    write_text(output, "ok\n")?;
-    Ok(Status::Done)
+    match answer.write(hints, output, errors) {
+        Ok(()) => answer.status,
+        Err(_) => Status::Failed,
+    }
+}
+
+// Writes why a job has no answer, and hints behind it.
+fn tell_left<E: Write>(
+    alloc: Global,
+    left: NoAnswer<'_>,
+    hints: &str,
+    errors: &mut Counted<E>,
+) -> Status
+    ensures { IsToldLeft (HasAll E.contents errors.old errors.new) (HasMetFailure errors.new) hints.now
+        left.entry result }
+{
+    match left {
+        NoAnswer::Refused(refusal) => tell_refusal(alloc, refusal, hints, errors),
+        NoAnswer::Failed(failure) => tell_failed(alloc, failure, hints, errors),
+    }
+}
+
+// Writes the line of a refusal, and hints behind it, at once.
+fn tell_refusal<E: Write>(
+    alloc: Global,
+    refusal: Refusal,
+    hints: &str,
+    errors: &mut Counted<E>,
+) -> Status
+    ensures { IsToldOrMemory (HasAll E.contents errors.old errors.new)
+        (HasAll E.contents errors.old errors.new ((refusal_text refusal ++ line_feed) ++ hints.now))
+        (HasMetFailure errors.new) Status.Refused result }
+{
+    match refusal_lines(alloc, refusal, hints) {
+        Ok(lines) => tell(errors, lines.as_str(), Status::Refused),
+        Err(_) => tell(errors, MEMORY, Status::Memory),
+    }
+}
+
+// Writes the line of a failure, and hints behind it, at once.
+fn tell_failed<E: Write>(
+    alloc: Global,
+    failure: Failure<'_>,
+    hints: &str,
+    errors: &mut Counted<E>,
+) -> Status
+    ensures { IsToldOrMemory (HasAll E.contents errors.old errors.new)
+        ((name : List ℕ) × (more : List ℕ)
+        × HasAll E.contents errors.old errors.new ((name ++ line_feed) ++ more))
+        (HasMetFailure errors.new) Status.Failed result }
+{
+    if let Failure::Memory = failure {
+        return tell(errors, MEMORY, Status::Memory);
+    }
+    match failure_lines(alloc, failure, hints) {
+        Ok(lines) => tell(errors, lines.as_str(), Status::Failed),
+        Err(_) => tell(errors, MEMORY, Status::Memory),
+    }
+}
+
+// The line of a refusal, and hints.
+fn refusal_lines(alloc: Global, refusal: Refusal, hints: &str) -> Result<String, AllocError>
+    ensures { IfOk result (λ s. string_bytes s ≡ (refusal_text refusal ++ line_feed) ++ hints.now) }
+{
+    let mut lines = String::new(alloc);
+    writeln!(lines, "{refusal}")?;
+    lines.push_str(hints)?;
+    Ok(lines)
+}
+
+// The line of a failure, and hints.
+fn failure_lines(alloc: Global, failure: Failure<'_>, hints: &str) -> Result<String, AllocError>
+    ensures { IfOk result (λ s. (name : List ℕ) × (string_bytes s ≡ (name ++ line_feed) ++ hints.now)) }
+{
+    let mut lines = String::new(alloc);
+    write!(lines, "{failure}")?;
+    lines.push_str("\n")?;
+    lines.push_str(hints)?;
+    Ok(lines)
 }

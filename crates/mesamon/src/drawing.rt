@@ -35,21 +35,45 @@ pub struct ShownRun<'r, 'n> {
 }
 
 impl<'a> Drawings<'a> {
-    /// Writes them for a run.
+    /// Writes them for a run. All are made before the first is written.
     pub fn put<R: Files + AllocGlobal>(
         &self,
         rt: &R,
         run: &ShownRun<'_, '_>,
     ) -> Result<(), Failure<'a>> {
-        if let Some(options) = self.chart {
-            let picture = picture_of(rt.alloc(), run, options)?;
+        let picture = self.picture(rt.alloc(), run)?;
+        let records = self.records(rt.alloc(), run)?;
+        if let (Some(options), Some(picture)) = (self.chart, &picture) {
             put_bytes(rt, options.out, picture.as_slice())?;
         }
-        if let Some(out) = self.timeline {
-            let records = timeline(rt.alloc(), run.checked, run.actions)?;
+        if let (Some(out), Some(records)) = (self.timeline, &records) {
             put_bytes(rt, out, records.as_slice())?;
         }
         Ok(())
+    }
+
+    // The picture, where one is wanted.
+    fn picture(
+        &self,
+        alloc: Global,
+        run: &ShownRun<'_, '_>,
+    ) -> Result<Option<Vec<u8>>, AllocError> {
+        match self.chart {
+            Some(options) => Ok(Some(picture_of(alloc, run, options)?)),
+            None => Ok(None),
+        }
+    }
+
+    // The records of the timeline, where one is wanted.
+    fn records(
+        &self,
+        alloc: Global,
+        run: &ShownRun<'_, '_>,
+    ) -> Result<Option<Vec<u8>>, AllocError> {
+        match self.timeline {
+            Some(_) => Ok(Some(timeline(alloc, run.checked, run.actions)?)),
+            None => Ok(None),
+        }
     }
 }
 

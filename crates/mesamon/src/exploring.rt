@@ -1,21 +1,20 @@
-ghost use Rattle.std.specs.Prelude.{◌≡◌, ◌++◌, ◌⊎◌, IfOk, MatchResult, OnOk, string_bytes};
-ghost use Rattle.devices.specs.Writing.{HasAll};
+ghost use Rattle.std.specs.Prelude.{◌≡◌, ◌++◌, ◌⊎◌, IfOk, IfErr, MatchResult, OnOk, string_bytes};
 ghost use Rattle.scanner.specs.Refusals.{out_of_memory};
 ghost use Rattle.program.specs.Names.{naming_of, said_by};
 ghost use Rattle.compiler.specs.Accepts.{RefusesText};
 ghost use Rattle.mesamon.specs.Exploring.{end_lines, explored_lines, explored_status, none_aborts, states_line};
-ghost use Rattle.mesamon.specs.Exploring.{HasExplored, IsExploredText, IsFoundOf};
+ghost use Rattle.mesamon.specs.Exploring.{HasExplored, IsExploredText, IsFoundOf, TellsFound};
+ghost use Rattle.mesamon.specs.Failures.{IsRefusalBy};
 
+use crate::answer::Answer;
 use crate::drawing::{Drawings, ShownRun};
-use crate::failure::Failure;
-use crate::files::bytes_of;
-use crate::hinting::{SourceText, hinted};
+use crate::failure::{Failure, NoAnswer};
+use crate::hinting::SourceText;
 use crate::status::Status;
 use crate::telling::tell_found;
 use crate::titles::title_of_found;
 use actionlines::action_lines;
 use compiler::{compile_checked, text_laws};
-use devices::{Counted, write_bytes};
 use image_ends::image_laws;
 use packed_log::PackedLog;
 use program::{Checked, Names};
@@ -24,7 +23,6 @@ use source_search::{Exploration, Outside, Progress, explore};
 use source_states::Action;
 use std::alloc::{AllocError, Global};
 use std::fmt::Write as _;
-use std::io::Write;
 use std::rt::Files;
 
 /// A source text's program, and what a search over all its runs found.
@@ -82,50 +80,46 @@ fn explore_checked<P: Progress>(
     explore(alloc, checked, most_states, outside, progress)
 }
 
-/// Searches all runs of the source text of a file, with as much from outside as may be, prints what is found, and shows
-/// it in other files where they are named and anything was found. How far the search has come is told as it goes.
-pub fn explore_file<'a, R: Files + AllocGlobal, O: Write, P: Progress>(
+/// Searches all runs of a source text, with as much from outside as may be, tells what is found, and shows it in other
+/// files where they are named and anything was found. How far the search has come is told as it goes.
+pub fn answer_explore<'a, R: Files + AllocGlobal, P: Progress>(
     rt: &R,
-    file: &'a str,
+    text: &SourceText<'_>,
     most_states: u32,
     outside: Outside,
     drawings: Drawings<'a>,
-    hints: bool,
-    output: &mut Counted<O>,
     told: &mut String,
     progress: &mut P,
-) -> Result<Status, Failure<'a>>
-    ensures { IfOk result
-        (λ s. HasExplored outside (HasAll O.contents output.old output.new) s) }
+) -> Result<Answer, NoAnswer<'a>>
+    ensures done { IfOk result (HasExplored outside text.now.bytes.now) }
+    ensures refused { IfErr result (IsRefusalBy (RefusesText text.now.bytes.now)) }
 {
-    let bytes = bytes_of(rt, file)?;
-    let text = SourceText {
-        file,
-        bytes: bytes.as_slice(),
-        hints,
-    };
-    let explored = explore_text(rt.alloc(), &text, most_states, outside, progress)?;
-    let lines = lines_of(rt.alloc(), &explored, outside)?;
+    let explored = explore_source(
+        rt.alloc(),
+        text.bytes,
+        most_states as usize,
+        outside,
+        progress,
+    )?;
     let found = shown(&explored.exploration);
-    tell_found(rt.alloc(), told, &text, &explored.checked, found);
-    put_found(rt, drawings, &text, &explored)?;
-    write_bytes(output, lines.as_slice())?;
-    Ok(status_of_found(&explored.exploration))
+    tell_found(rt.alloc(), told, text, &explored.checked, found);
+    Ok(show_found(rt, text, &explored, outside, drawings)?)
 }
 
-// Searches all runs of a text's program; its refusal with hints where they are wanted.
-fn explore_text<'a, 't, P: Progress>(
-    alloc: Global,
-    text: &SourceText<'t>,
-    most_states: u32,
+// Tells what was found, and shows it in other files where they are named.
+fn show_found<'a, R: Files + AllocGlobal>(
+    rt: &R,
+    text: &SourceText<'_>,
+    explored: &ExploredText<'_>,
     outside: Outside,
-    progress: &mut P,
-) -> Result<ExploredText<'t>, Failure<'a>>
-    ensures { IfOk result (λ explored. IsExploredText text.now.bytes.now outside explored) }
+    drawings: Drawings<'a>,
+) -> Result<Answer, Failure<'a>>
+    ensures { IfOk result (TellsFound outside explored.now) }
 {
-    explore_source(alloc, text.bytes, most_states as usize, outside, progress).map_err(|refusal| {
-        hinted(alloc, text, Failure::from(refusal))
-    })
+    let lines = lines_of(rt.alloc(), explored, outside)?;
+    put_found(rt, drawings, text, explored)?;
+    let status = status_of_found(&explored.exploration);
+    Ok(Answer::quiet(rt.alloc(), status, lines))
 }
 
 // Shows the run that was found in files.

@@ -1,16 +1,15 @@
-ghost use Rattle.std.specs.Prelude.{◌≡◌, None, Some};
+ghost use Rattle.std.specs.Prelude.{◌≡◌, Some, None};
 ghost use Rattle.std.specs.IoError.{error_kind};
-ghost use Rattle.mesamon.specs.declared.failure.Failure.TheVariants.{Memory as memory, Output as output};
-ghost use Rattle.mesamon.specs.Failures.{status_of, OfExplain, OfFault, OfImage, OfIo, OfRefusal};
-ghost use Rattle.mesamon.specs.Failures.{OfReplay, OfReport, OfRun, OfSource, OfSourceLog, OfWords};
+ghost use Rattle.mesamon.specs.declared.failure.Failure.TheVariants.{Memory as memory};
+ghost use Rattle.mesamon.specs.declared.failure.NoAnswer.TheVariants.{Failed as failed};
+ghost use Rattle.mesamon.specs.Failures.{OfExplain, OfFault, OfImage, OfIo, OfRefusal};
+ghost use Rattle.mesamon.specs.Failures.{OfReplay, OfRun, OfSource, OfSourceLog};
 
 use crate::explained_run::ExplainSourceFault;
 use crate::replaying::ReplayFault;
 use crate::source_log::SourceLogFault;
 use crate::source_run::RunSourceFault;
-use crate::status::Status;
-use commandline::WordsFault;
-use devices::{ReadFault, WriteFault};
+use devices::ReadFault;
 use isa::DecodeFault;
 use runner::RunFault;
 use scanner::{Refusal, RefusalKind};
@@ -18,12 +17,9 @@ use std::alloc::AllocError;
 use std::io;
 use thiserror::Error;
 
-/// Why a command was not done. It is shown as the line for standard error, or for `Usage` as lines.
-#[derive(Debug, Drop, Error)]
+/// Why a command was not done, where that is no refusal of a source text. It is shown as the line for standard error.
+#[derive(Clone, Copy, Debug, Error)]
 pub enum Failure<'a> {
-    /// The words of the command line are no command, or ask for help: what the user is told.
-    #[error("{0}")]
-    Usage(String),
     /// A file could not be read.
     #[error("cannot read {name}")]
     Read {
@@ -43,14 +39,6 @@ pub enum Failure<'a> {
     /// The image is not that of the source text of the file of this name.
     #[error("image of another text than {0}")]
     OtherImage(&'a str),
-    /// The source text was refused.
-    #[error("{refusal}")]
-    Refused {
-        /// Why.
-        refusal: Refusal,
-        /// The lines that come behind that of the refusal, where hints are wanted.
-        hints: Option<String>,
-    },
     /// The bytes are no image.
     #[error("{0}")]
     Image(DecodeFault),
@@ -67,9 +55,6 @@ pub enum Failure<'a> {
     /// The entry of the log that has this number is the first with which it is no log of the program.
     #[error("log entry {0}")]
     LogEntry(u64),
-    /// Output could not be written.
-    #[error("cannot write output")]
-    Output,
     /// There was no memory.
     #[error("memory")]
     Memory,
@@ -117,51 +102,13 @@ impl<'a> Failure<'a> {
             }
         }
     }
-
-    /// How the command ended.
-    pub fn status(&self) -> Status
-        ensures { result ≡ status_of self.now }
-    {
-        match self {
-            Failure::Usage(_) => Status::Usage,
-            Failure::Refused { .. } => Status::Refused,
-            Failure::Memory => Status::Memory,
-            Failure::Read { .. }
-            | Failure::Write { .. }
-            | Failure::OtherImage(_)
-            | Failure::Image(_)
-            | Failure::Run(_)
-            | Failure::Schedule(_)
-            | Failure::LogLine(_)
-            | Failure::LogEntry(_)
-            | Failure::Output => Status::Failed,
-        }
-    }
 }
 
-impl From<WordsFault> for Failure<'_> {
-    ghost from_gives = { OfWords };
+impl From<AllocError> for Failure<'_> {
+    ghost from_gives = { λ _ f. f ≡ memory };
 
-    fn from(fault: WordsFault) -> Self {
-        match fault {
-            WordsFault::Usage(text) => Failure::Usage(text),
-            WordsFault::Memory => Failure::Memory,
-        }
-    }
-}
-
-impl From<Refusal> for Failure<'_> {
-    ghost from_gives = { OfRefusal };
-
-    fn from(refusal: Refusal) -> Self {
-        if refusal.kind == RefusalKind::Memory {
-            Failure::Memory
-        } else {
-            Failure::Refused {
-                refusal,
-                hints: None,
-            }
-        }
+    fn from(_error: AllocError) -> Self {
+        Failure::Memory
     }
 }
 
@@ -187,77 +134,86 @@ impl From<RunFault> for Failure<'_> {
     }
 }
 
-impl From<RunSourceFault> for Failure<'_> {
+/// Why a job has no answer.
+#[derive(Clone, Copy)]
+pub enum NoAnswer<'a> {
+    /// The source text is refused.
+    Refused(Refusal),
+    /// Something failed.
+    Failed(Failure<'a>),
+}
+
+impl<'a> From<Failure<'a>> for NoAnswer<'a> {
+    ghost from_gives = { λ f n. n ≡ failed f };
+
+    fn from(failure: Failure<'a>) -> Self {
+        NoAnswer::Failed(failure)
+    }
+}
+
+impl From<AllocError> for NoAnswer<'_> {
+    ghost from_gives = { λ _ n. n ≡ failed memory };
+
+    fn from(_error: AllocError) -> Self {
+        NoAnswer::Failed(Failure::Memory)
+    }
+}
+
+impl From<Refusal> for NoAnswer<'_> {
+    ghost from_gives = { OfRefusal };
+
+    fn from(refusal: Refusal) -> Self {
+        if refusal.kind == RefusalKind::Memory {
+            NoAnswer::Failed(Failure::Memory)
+        } else {
+            NoAnswer::Refused(refusal)
+        }
+    }
+}
+
+impl From<RunSourceFault> for NoAnswer<'_> {
     ghost from_gives = { OfRun };
 
     fn from(fault: RunSourceFault) -> Self {
         match fault {
-            RunSourceFault::Refused(refusal) => Failure::from(refusal),
-            RunSourceFault::Run(fault) => Failure::from(fault),
+            RunSourceFault::Refused(refusal) => NoAnswer::from(refusal),
+            RunSourceFault::Run(fault) => NoAnswer::Failed(Failure::from(fault)),
         }
     }
 }
 
-impl From<ReplayFault> for Failure<'_> {
+impl From<ReplayFault> for NoAnswer<'_> {
     ghost from_gives = { OfReplay };
 
     fn from(fault: ReplayFault) -> Self {
         match fault {
-            ReplayFault::Refused(refusal) => Failure::from(refusal),
-            ReplayFault::BadEntry(number) => Failure::Schedule(number),
-            ReplayFault::Memory => Failure::Memory,
+            ReplayFault::Refused(refusal) => NoAnswer::from(refusal),
+            ReplayFault::BadEntry(number) => NoAnswer::Failed(Failure::Schedule(number)),
+            ReplayFault::Memory => NoAnswer::Failed(Failure::Memory),
         }
     }
 }
 
-impl From<ExplainSourceFault> for Failure<'_> {
+impl From<ExplainSourceFault> for NoAnswer<'_> {
     ghost from_gives = { OfExplain };
 
     fn from(fault: ExplainSourceFault) -> Self {
         match fault {
-            ExplainSourceFault::Refused(refusal) => Failure::from(refusal),
-            ExplainSourceFault::Memory => Failure::Memory,
+            ExplainSourceFault::Refused(refusal) => NoAnswer::from(refusal),
+            ExplainSourceFault::Memory => NoAnswer::Failed(Failure::Memory),
         }
     }
 }
 
-impl From<SourceLogFault> for Failure<'_> {
+impl From<SourceLogFault> for NoAnswer<'_> {
     ghost from_gives = { OfSourceLog };
 
     fn from(fault: SourceLogFault) -> Self {
         match fault {
-            SourceLogFault::Refused(refusal) => Failure::from(refusal),
-            SourceLogFault::Line(number) => Failure::LogLine(number),
-            SourceLogFault::Entry(number) => Failure::LogEntry(number),
-            SourceLogFault::Memory => Failure::Memory,
+            SourceLogFault::Refused(refusal) => NoAnswer::from(refusal),
+            SourceLogFault::Line(number) => NoAnswer::Failed(Failure::LogLine(number)),
+            SourceLogFault::Entry(number) => NoAnswer::Failed(Failure::LogEntry(number)),
+            SourceLogFault::Memory => NoAnswer::Failed(Failure::Memory),
         }
-    }
-}
-
-impl From<WriteFault> for Failure<'_> {
-    ghost from_gives = { OfReport };
-
-    fn from(fault: WriteFault) -> Self {
-        match fault {
-            WriteFault::Output | WriteFault::Errors => Failure::Output,
-            WriteFault::Memory => Failure::Memory,
-        }
-    }
-}
-
-// The failure of writing output, for which no memory is asked. A file's is named: `of_read`, `of_write`.
-impl From<io::Error> for Failure<'_> {
-    ghost from_gives = { λ _ f. f ≡ output };
-
-    fn from(_error: io::Error) -> Self {
-        Failure::Output
-    }
-}
-
-impl From<AllocError> for Failure<'_> {
-    ghost from_gives = { λ _ f. f ≡ memory };
-
-    fn from(_error: AllocError) -> Self {
-        Failure::Memory
     }
 }

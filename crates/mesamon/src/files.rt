@@ -1,5 +1,10 @@
+ghost use Rattle.std.specs.Prelude.{◌≡◌, IfOk};
+ghost use Rattle.isa.specs.Spelling.{IsSpelled, spelling};
+
 use crate::failure::Failure;
 use devices::{Counted, put_file, read_source, read_whole};
+use isa::{Image, decode};
+use std::alloc::Global;
 use std::fs;
 use std::rt::Files;
 
@@ -30,4 +35,11 @@ pub fn put_bytes<'a, R: Files + AllocGlobal>(
     bytes: &[u8],
 ) -> Result<(), Failure<'a>> {
     put_file(rt, name, bytes).map_err(|error| Failure::of_write(name, &error))
+}
+
+/// The image that these bytes spell.
+pub fn image_of<'a>(alloc: Global, bytes: &[u8]) -> Result<Image, Failure<'a>>
+    ensures { IfOk result (λ i. IsSpelled i × (spelling i ≡ bytes.now)) }
+{
+    Ok(decode(alloc, bytes)?)
 }

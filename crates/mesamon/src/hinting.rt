@@ -1,35 +1,30 @@
-ghost use Rattle.std.specs.Prelude.{◌≡◌, false};
-ghost use Rattle.mesamon.specs.Failures.{status_of};
-
-use crate::failure::Failure;
+use crate::failure::NoAnswer;
 use refusal_hints::hints_of;
-use std::alloc::Global;
+use std::alloc::{AllocError, Global};
 
-/// A source text, and how its refusal is told.
-#[derive(Clone, Copy, Debug)]
+/// A source text, and whether hints stand behind what is told of it.
+#[derive(Clone, Copy)]
 pub struct SourceText<'a> {
     /// The name of its file.
     pub file: &'a str,
     /// Its bytes.
     pub bytes: &'a [u8],
-    /// Whether hints stand behind its refusal.
+    /// Whether hints are wanted.
     pub hints: bool,
 }
 
-/// The failure of a command on this source text: a refusal gets hints where they are wanted. Where there is no memory
-/// for them it stands alone.
-pub fn hinted<'a>(alloc: Global, text: &SourceText<'_>, failure: Failure<'a>) -> Failure<'a>
-    ensures status { status_of result ≡ status_of failure.entry }
-    ensures unasked { text.now.hints ≡ false → result ≡ failure.entry }
-{
-    if !text.hints {
-        return failure;
+/// Appends hints, where there was memory for them.
+pub fn append_told(told: &mut String, hints: Result<String, AllocError>) {
+    if let Ok(hints) = hints {
+        let _appended = told.push_str(hints.as_str());
     }
-    match failure {
-        Failure::Refused { refusal, .. } => Failure::Refused {
-            refusal,
-            hints: hints_of(alloc, text.file, text.bytes, &refusal).ok(),
-        },
-        other => other,
+}
+
+/// Appends the hints to the refusal of a text, where it was refused and they are wanted.
+pub fn tell_refused(alloc: Global, told: &mut String, text: &SourceText<'_>, left: NoAnswer<'_>) {
+    if let NoAnswer::Refused(refusal) = left {
+        if text.hints {
+            append_told(told, hints_of(alloc, text.file, text.bytes, &refusal));
+        }
     }
 }

@@ -1,7 +1,9 @@
 //! The runs of source texts, and the commands of the program.
 #![tactic(auto)]
 
+mod answer;
 mod commands;
+mod compiling;
 mod drawing;
 mod explained_run;
 mod explaining;
@@ -9,15 +11,16 @@ mod exploring;
 mod failure;
 mod files;
 mod hinting;
+mod jobs;
 mod lines;
 mod listing;
+mod overwriting;
 mod progress;
 mod replaying;
 mod run_ends;
 mod run_entries;
 mod running;
 mod schedule;
-mod showing;
 mod source_log;
 mod source_run;
 mod status;
@@ -27,7 +30,7 @@ mod titles;
 pub use commandline::{
     ChartOptions, ExplainedBy, Job, Order, ReplayedBy, RunOptions, WordsFault, line,
 };
-pub use commands::{perform, perform_with_hints};
+pub use commands::perform_with_hints;
 pub use compiler::{
     check_text, compile, compile_as, compile_checked, compile_checked_as, compile_with,
     compile_with_as,

@@ -1,5 +1,6 @@
-ghost use Rattle.std.specs.Prelude.{◌≡◌, ◌++◌, IfOk, OnOk, string_bytes};
+ghost use Rattle.std.specs.Prelude.{◌≡◌, ◌++◌, IfOk, OnOk, OnErr, string_bytes};
 ghost use Rattle.devices.specs.Writing.{HasAll};
+ghost use Rattle.mesamon.specs.Answers.{HasMetFailure};
 ghost use Rattle.mesamon.specs.ImageLine.{image_line};
 
 use devices::{Counted, write_bytes};
@@ -10,7 +11,8 @@ use std::io::Write;
 
 /// Writes a text.
 pub fn write_text<W: Write>(writer: &mut Counted<W>, text: &str) -> io::Result<()>
-    ensures { OnOk result (HasAll W.contents writer.old writer.new text.now) }
+    ensures ok { OnOk result (HasAll W.contents writer.old writer.new text.now) }
+    ensures failed { OnErr result (HasMetFailure writer.new) }
 {
     write_bytes(writer, text.as_bytes())
 }

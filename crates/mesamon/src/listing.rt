@@ -1,20 +1,19 @@
-ghost use Rattle.std.specs.Prelude.{◌≡◌, IfOk, OnOk, is_some};
-ghost use Rattle.std.specs.String.{string_bytes};
-ghost use Rattle.devices.specs.Writing.{HasAll};
-ghost use Rattle.mesamon.specs.Commands.{AreTold, HasListed};
-ghost use Rattle.mesamon.specs.declared.status.Status.TheVariants as status;
+ghost use Rattle.std.specs.Prelude.{IfOk, IfErr, is_some, string_bytes};
+ghost use Rattle.isa.specs.Lines.{lines};
+ghost use Rattle.mesamon.specs.Commands.{AreTold, HasListed, RefusesSource, TellsLines};
+ghost use Rattle.mesamon.specs.Failures.{IsRefusalBy};
 
-use crate::failure::Failure;
-use crate::files::bytes_of;
-use crate::hinting::{SourceText, hinted};
+use crate::answer::Answer;
+use crate::failure::{Failure, NoAnswer};
+use crate::files::{bytes_of, image_of};
+use crate::hinting::{SourceText, tell_refused};
 use crate::status::Status;
 use compiler::compile_checked_as;
-use devices::{Counted, write_bytes};
-use isa::{Image, decode, encode, list_lines};
+use isa::{Image, encode, list_lines};
 use line_tails::put_beside;
+use program::Checked;
 use source_listing::{Listing, listing_of};
 use std::alloc::{AllocError, Global};
-use std::io::Write;
 use std::rt::Files;
 
 // Whether two images are one.
@@ -24,27 +23,60 @@ fn are_same(alloc: Global, a: &Image, b: &Image) -> Result<bool, AllocError> {
     Ok(first.as_slice() == second.as_slice())
 }
 
-// What stands beside the lines of an image, which has to be that of the source text of a file.
-fn beside<'a, R: Files + AllocGlobal>(
+// What stands beside the lines of an image, which has to be this one of the source text of a file.
+fn listing_beside<'a>(
+    alloc: Global,
+    text: &[u8],
+    source: &'a str,
+    checked: &Checked,
+    own: &Image,
+    image: &Image,
+) -> Result<Listing, Failure<'a>> {
+    if !are_same(alloc, image, own)? {
+        return Err(Failure::OtherImage(source));
+    }
+    Ok(listing_of(alloc, text, checked, image.version(), image.code())?)
+}
+
+// The same, of the source text itself.
+fn listing_of_text<'a>(
+    alloc: Global,
+    text: &SourceText<'_>,
+    source: &'a str,
+    image: &Image,
+    told: &mut String,
+) -> Result<Listing, NoAnswer<'a>>
+    ensures { IfErr result (IsRefusalBy RefusesSource) }
+{
+    match compile_checked_as(alloc, text.bytes, image.version()) {
+        Ok((checked, lowered)) => {
+            Ok(listing_beside(alloc, text.bytes, source, &checked, &lowered.image, image)?)
+        }
+        Err(refusal) => {
+            let refused = NoAnswer::from(refusal);
+            tell_refused(alloc, told, text, refused);
+            Err(refused)
+        }
+    }
+}
+
+// The same, of the file of the source text.
+fn listing_of_file<'a, R: Files + AllocGlobal>(
     rt: &R,
     source: &'a str,
     hints: bool,
     image: &Image,
-) -> Result<Listing, Failure<'a>> {
+    told: &mut String,
+) -> Result<Listing, NoAnswer<'a>>
+    ensures { IfErr result (IsRefusalBy RefusesSource) }
+{
     let bytes = bytes_of(rt, source)?;
     let text = SourceText {
         file: source,
         bytes: bytes.as_slice(),
         hints,
     };
-    let version = image.version();
-    let (checked, lowered) = compile_checked_as(rt.alloc(), text.bytes, version).map_err(
-        |refusal| hinted(rt.alloc(), &text, Failure::from(refusal)),
-    )?;
-    if !are_same(rt.alloc(), image, &lowered.image)? {
-        return Err(Failure::OtherImage(source));
-    }
-    Ok(listing_of(rt.alloc(), text.bytes, &checked, version, image.code())?)
+    listing_of_text(rt.alloc(), &text, source, image, told)
 }
 
 // The lines of an image, with those of the source text of a file beside them, where one is named.
@@ -54,14 +86,16 @@ fn lines_beside<'a, R: Files + AllocGlobal>(
     hints: bool,
     image: &Image,
     lines: String,
-) -> Result<Vec<u8>, Failure<'a>>
-    ensures { IfOk result
+    told: &mut String,
+) -> Result<Vec<u8>, NoAnswer<'a>>
+    ensures told { IfOk result
         (λ v. AreTold (is_some source.entry) (string_bytes lines) v.items) }
+    ensures refused { IfErr result (IsRefusalBy RefusesSource) }
 {
     let Some(source) = source else {
         return Ok(lines.into_bytes());
     };
-    let Listing { head, tails } = beside(rt, source, hints, image)?;
+    let Listing { head, tails } = listing_of_file(rt, source, hints, image, told)?;
     Ok(put_beside(
         rt.alloc(),
         head.as_str(),
@@ -70,23 +104,34 @@ fn lines_beside<'a, R: Files + AllocGlobal>(
     )?)
 }
 
-/// Lists the instructions of an image's file, with the lines of the source text of another, whose image it has to be,
-/// where one is named.
-pub fn list_file<'a, R: Files + AllocGlobal, O: Write>(
+// Lists the instructions of an image.
+fn list_image<'a, R: Files + AllocGlobal>(
     rt: &R,
-    file: &'a str,
+    image: &Image,
     source: Option<&'a str>,
     hints: bool,
-    output: &mut Counted<O>,
-) -> Result<Status, Failure<'a>>
-    ensures done { IfOk result (λ s. s ≡ status.Done) }
-    ensures wrote { OnOk result
-        (HasListed (is_some source.entry) (HasAll O.contents output.old output.new)) }
+    told: &mut String,
+) -> Result<Answer, NoAnswer<'a>>
+    ensures done { IfOk result (TellsLines (is_some source.entry) (lines 0 image.now.code)) }
+    ensures refused { IfErr result (IsRefusalBy RefusesSource) }
 {
-    let bytes = bytes_of(rt, file)?;
-    let image = decode(rt.alloc(), bytes.as_slice())?;
-    let lines = list_lines(rt.alloc(), &image)?;
-    let told = lines_beside(rt, source, hints, &image, lines)?;
-    write_bytes(output, told.as_slice())?;
-    Ok(Status::Done)
+    let lines = list_lines(rt.alloc(), image)?;
+    let output = lines_beside(rt, source, hints, image, lines, told)?;
+    Ok(Answer::quiet(rt.alloc(), Status::Done, output))
+}
+
+/// Lists the instructions of the image that these bytes spell, with the lines of the source text of a file, whose image it
+/// has to be, where one is named.
+pub fn answer_list<'a, R: Files + AllocGlobal>(
+    rt: &R,
+    bytes: &[u8],
+    source: Option<&'a str>,
+    hints: bool,
+    told: &mut String,
+) -> Result<Answer, NoAnswer<'a>>
+    ensures done { IfOk result (HasListed (is_some source.entry) bytes.now) }
+    ensures refused { IfErr result (IsRefusalBy RefusesSource) }
+{
+    let image = image_of(rt.alloc(), bytes)?;
+    list_image(rt, &image, source, hints, told)
 }

@@ -60,6 +60,17 @@ fn hints_behind(
     }
 }
 
+// The report of a run of a text's image by a schedule, where it has one.
+fn followed(alloc: Global, text: &[u8], turns: &[Turn]) -> Option<Report> {
+    let Ok(image) = compile(alloc, text) else {
+        return None;
+    };
+    match follow(alloc, &image, turns) {
+        Ok(report) => Some(report),
+        Err(_) => None,
+    }
+}
+
 /// The hints to the entry of a schedule that has this number, from 1, and is the first that is refused: why, in the
 /// words of the source.
 ///
@@ -76,12 +87,9 @@ pub fn schedule_entry_hints(
     let (Some(turn), Some(turns)) = (turns.get(before), turns.get(..before)) else {
         return Ok(String::new(alloc));
     };
-    let Ok(image) = compile(alloc, text.bytes) else {
-        return Ok(String::new(alloc));
-    };
-    match follow(alloc, &image, turns) {
-        Ok(report) => hints_behind(alloc, text, &report, wanted_by_turn(*turn)),
-        Err(_) => Ok(String::new(alloc)),
+    match followed(alloc, text.bytes, turns) {
+        Some(report) => hints_behind(alloc, text, &report, wanted_by_turn(*turn)),
+        None => Ok(String::new(alloc)),
     }
 }
 
@@ -92,6 +100,34 @@ fn first_of(alloc: Global, log: &PackedLog, count: usize) -> Result<PackedLog, A
         entries.push(entry)?;
     }
     Ok(entries)
+}
+
+// The report of a run of a text's image by the threads and counts of a log, where it has one.
+fn followed_log(alloc: Global, text: &[u8], log: LogReader<'_>) -> Option<Report> {
+    let Ok(image) = compile(alloc, text) else {
+        return None;
+    };
+    match follow_log(alloc, &image, log) {
+        Ok(report) => Some(report),
+        Err(_) => None,
+    }
+}
+
+// The hints to the entry of a log behind so many.
+fn hints_at(
+    alloc: Global,
+    text: &SourceText<'_>,
+    log: &PackedLog,
+    before: usize,
+) -> Result<String, AllocError> {
+    let Some(entry) = log.iter().nth(before) else {
+        return Ok(String::new(alloc));
+    };
+    let first = first_of(alloc, log, before)?;
+    match followed_log(alloc, text.bytes, first.iter()) {
+        Some(report) => hints_behind(alloc, text, &report, wanted_by_entry(&entry)),
+        None => Ok(String::new(alloc)),
+    }
 }
 
 /// The hints to the entry of a log, whose lines are given, that has this number, from 1, and is the first that is
@@ -106,19 +142,9 @@ pub fn log_entry_hints(
     lines: &[u8],
     number: u64,
 ) -> Result<String, AllocError> {
-    let Ok(entries) = read_log(alloc, lines) else {
-        return Ok(String::new(alloc));
-    };
     let before = (number as usize).saturating_sub(1);
-    let Some(entry) = entries.iter().nth(before) else {
-        return Ok(String::new(alloc));
-    };
-    let entries = first_of(alloc, &entries, before)?;
-    let Ok(image) = compile(alloc, text.bytes) else {
-        return Ok(String::new(alloc));
-    };
-    match follow_log(alloc, &image, entries.iter()) {
-        Ok(report) => hints_behind(alloc, text, &report, wanted_by_entry(&entry)),
+    match read_log(alloc, lines) {
+        Ok(log) => hints_at(alloc, text, &log, before),
         Err(_) => Ok(String::new(alloc)),
     }
 }

@@ -1,54 +1,47 @@
-ghost use Rattle.std.specs.Prelude.{◌≡◌, IfOk};
-ghost use Rattle.devices.specs.Writing.{HasAll};
+ghost use Rattle.std.specs.Prelude.{◌≡◌, IfOk, IfErr};
+ghost use Rattle.account_text.specs.Accounts.{account, output_lines};
+ghost use Rattle.compiler.specs.Accepts.{RefusesText};
 ghost use Rattle.runner.specs.Reports.{IsReport};
-ghost use Rattle.mesamon.specs.Asked.{IsReplayedAs, outside_by};
-ghost use Rattle.mesamon.specs.Commands.{HasExecuted, HasRun};
-ghost use Rattle.mesamon.specs.Running.{IsRunOfText};
+ghost use Rattle.mesamon.specs.Answers.{status_of_verdict};
+ghost use Rattle.mesamon.specs.Asked.{IsReplayedAs, IsRunAs, outside_by};
+ghost use Rattle.mesamon.specs.Commands.{HasExecuted, HasRun, RunsImage};
+ghost use Rattle.mesamon.specs.Failures.{IsRefusalBy};
+ghost use Rattle.mesamon.specs.Running.{IsRefusedRun, IsRunOfText};
 
-use crate::failure::Failure;
-use crate::files::{bytes_of, whole_bytes_of};
-use crate::hinting::{SourceText, hinted};
+use crate::answer::Answer;
+use crate::failure::{Failure, NoAnswer};
+use crate::files::{image_of, put_bytes, whole_bytes_of};
+use crate::hinting::SourceText;
 use crate::replaying::replay;
 use crate::schedule::schedule_of;
-use crate::showing::{Kept, show};
 use crate::source_log::replay_log_text;
 use crate::source_run::{RunSourceFault, run_by_seed, run_in_order, run_source};
-use crate::status::Status;
 use crate::telling::{tell_run, told_entry, told_turn};
 use commandline::{Order, ReplayedBy, RunOptions};
-use devices::Counted;
-use isa::{Image, decode};
+use isa::Image;
+use log_text::append_log;
+use packed_log::LogReader;
 use run_hints::Way;
 use runner::{Report, RunFault};
-use std::io::Write;
 use std::rt::Files;
 use std::sync::Wait;
 use std::thread::Threads;
 use words::OpenGate;
 use workers::Calls;
 
-/// Runs the source text of a file.
-pub fn run_file<'a, R: Files + AllocGlobal + Threads + Wait + Sync, O: Write, E: Write>(
+/// Runs a source text.
+pub fn answer_run<'a, R: Files + AllocGlobal + Threads + Wait + Sync>(
     rt: &R,
-    file: &'a str,
+    text: &SourceText<'_>,
     options: RunOptions<'a>,
-    hints: bool,
-    output: &mut Counted<O>,
-    errors: &mut Counted<E>,
     told: &mut String,
-) -> Result<Status, Failure<'a>>
-    ensures { IfOk result (λ s. HasRun (HasAll O.contents output.old output.new)
-        (HasAll E.contents errors.old errors.new) s) }
+) -> Result<Answer, NoAnswer<'a>>
+    ensures done { IfOk result (HasRun (IsRunAs options.entry) options.entry.trace text.now.bytes.now) }
+    ensures refused { IfErr result (IsRefusalBy (RefusesText text.now.bytes.now)) }
 {
-    let bytes = bytes_of(rt, file)?;
-    let text = SourceText {
-        file,
-        bytes: bytes.as_slice(),
-        hints,
-    };
-    let report = run_text(rt, &text, options.steps, options.order)?;
-    tell_run(rt.alloc(), told, &text, &report, way_of(options));
-    show(rt, &report, kept_by(options), output, errors)
+    let report = run_by(rt, text.bytes, options.steps, options.order)?;
+    tell_run(rt.alloc(), told, text, &report, way_of(options));
+    Ok(show(rt, &report, options.trace, options.log)?)
 }
 
 // How a run by these options is made. One with kills is looked at by its log, as one on real threads.
@@ -61,29 +54,14 @@ fn way_of(options: RunOptions<'_>) -> Way<'_> {
     }
 }
 
-// Runs a text; its refusal with hints where they are wanted.
-fn run_text<'a, R: AllocGlobal + Threads + Wait + Sync>(
-    rt: &R,
-    text: &SourceText<'_>,
-    steps: u32,
-    order: Order,
-) -> Result<Report, Failure<'a>>
-    ensures { IfOk result (λ report. IsRunOfText text.now.bytes.now (outside_by order) steps report) }
-{
-    run_by(rt, text.bytes, steps, order).map_err(|fault| hinted(
-        rt.alloc(),
-        text,
-        Failure::from(fault),
-    ))
-}
-
 fn run_by<R: AllocGlobal + Threads + Wait + Sync>(
     rt: &R,
     text: &[u8],
     steps: u32,
     order: Order,
 ) -> Result<Report, RunSourceFault>
-    ensures { IfOk result (λ report. IsRunOfText text.now (outside_by order) steps report) }
+    ensures report { IfOk result (λ report. IsRunOfText text.now (outside_by order) steps report) }
+    ensures fault { IfErr result (λ fault. IsRefusedRun text.now (outside_by order) steps fault) }
 {
     match order {
         Order::Workers => {
@@ -105,22 +83,57 @@ fn run_by<R: AllocGlobal + Threads + Wait + Sync>(
     }
 }
 
-/// Runs the image of a file.
-pub fn exec_file<'a, R: Files + AllocGlobal + Threads + Wait + Sync, O: Write, E: Write>(
+// What a run tells, whose log is written to a file of this name, where one is named. All texts are made before that.
+fn show<'a, R: Files + AllocGlobal>(
     rt: &R,
-    file: &'a str,
-    options: RunOptions<'a>,
-    output: &mut Counted<O>,
-    errors: &mut Counted<E>,
-) -> Result<Status, Failure<'a>>
-    ensures { IfOk result
-        (λ s. HasExecuted (HasAll O.contents output.old output.new)
-        (HasAll E.contents errors.old errors.new) s) }
+    report: &Report,
+    trace: bool,
+    log: Option<&'a str>,
+) -> Result<Answer, Failure<'a>>
+    ensures ended { IfOk result (λ a. a.status ≡ status_of_verdict report.now.verdict) }
+    ensures output { IfOk result (λ a. a.output.items ≡ output_lines report.now.output.items) }
+    ensures account { IfOk result (λ a. a.account.items ≡ account report.now trace) }
 {
-    let bytes = bytes_of(rt, file)?;
-    let image = decode(rt.alloc(), bytes.as_slice())?;
-    let report = run_image(rt, &image, options.steps, options.order)?;
-    show(rt, &report, kept_by(options), output, errors)
+    let answer = Answer::of_report(rt.alloc(), report, trace)?;
+    if let Some(name) = log {
+        put_log(rt, name, report.log.iter())?;
+    }
+    Ok(answer)
+}
+
+// Writes the lines of a log to a file.
+fn put_log<'a, R: Files + AllocGlobal>(
+    rt: &R,
+    name: &'a str,
+    log: LogReader<'_>,
+) -> Result<(), Failure<'a>> {
+    let mut text = String::new(rt.alloc());
+    append_log(&mut text, log)?;
+    put_bytes(rt, name, text.as_bytes())
+}
+
+/// Runs the image that these bytes spell.
+pub fn answer_exec<'a, R: Files + AllocGlobal + Threads + Wait + Sync>(
+    rt: &R,
+    bytes: &[u8],
+    options: RunOptions<'a>,
+) -> Result<Answer, Failure<'a>>
+    ensures { IfOk result (HasExecuted options.entry bytes.now) }
+{
+    let image = image_of(rt.alloc(), bytes)?;
+    exec_image(rt, &image, options)
+}
+
+// Runs an image, and tells that.
+fn exec_image<'a, R: Files + AllocGlobal + Threads + Wait + Sync>(
+    rt: &R,
+    image: &Image,
+    options: RunOptions<'a>,
+) -> Result<Answer, Failure<'a>>
+    ensures { IfOk result (RunsImage options.entry image.now) }
+{
+    let report = run_image(rt, image, options.steps, options.order)?;
+    show(rt, &report, options.trace, options.log)
 }
 
 // Runs an image.
@@ -152,30 +165,20 @@ fn run_image<R: AllocGlobal + Threads + Wait + Sync>(
     }
 }
 
-/// Runs the source text of a file by the schedule or the log of another.
-pub fn replay_file<'a, R: Files + AllocGlobal, O: Write, E: Write>(
+/// Runs a source text by the schedule or the log of a file.
+pub fn answer_replay<'a, R: Files + AllocGlobal>(
     rt: &R,
-    file: &'a str,
+    text: &SourceText<'_>,
     by: ReplayedBy<'a>,
     trace: bool,
-    hints: bool,
-    output: &mut Counted<O>,
-    errors: &mut Counted<E>,
     told: &mut String,
-) -> Result<Status, Failure<'a>>
-    ensures { IfOk result (λ s. HasRun (HasAll O.contents output.old output.new)
-        (HasAll E.contents errors.old errors.new) s) }
+) -> Result<Answer, NoAnswer<'a>>
+    ensures done { IfOk result (HasRun (IsReplayedAs by.entry) trace text.now.bytes.now) }
+    ensures refused { IfErr result (IsRefusalBy (RefusesText text.now.bytes.now)) }
 {
-    let bytes = bytes_of(rt, file)?;
-    let text = SourceText {
-        file,
-        bytes: bytes.as_slice(),
-        hints,
-    };
-    let report = replay_text(rt, &text, by, told)?;
-    tell_run(rt.alloc(), told, &text, &report, way_by(by));
-    let log = log_beside(by);
-    show(rt, &report, Kept { trace, log }, output, errors)
+    let report = replay_by(rt, text, by, told)?;
+    tell_run(rt.alloc(), told, text, &report, way_by(by));
+    Ok(show(rt, &report, trace, log_beside(by))?)
 }
 
 // How a replay is made.
@@ -186,25 +189,15 @@ fn way_by(by: ReplayedBy<'_>) -> Way<'_> {
     }
 }
 
-// Runs a text by the schedule or the log of a file; its refusal with hints where they are wanted.
-fn replay_text<'a, R: Files + AllocGlobal>(
-    rt: &R,
-    text: &SourceText<'_>,
-    by: ReplayedBy<'a>,
-    told: &mut String,
-) -> Result<Report, Failure<'a>>
-    ensures { IfOk result (λ report. IsReplayedAs by.entry text.now.bytes.now report) }
-{
-    replay_by(rt, text, by, told).map_err(|failure| hinted(rt.alloc(), text, failure))
-}
-
+// Runs a text by the schedule or the log of a file.
 fn replay_by<'a, R: Files + AllocGlobal>(
     rt: &R,
     text: &SourceText<'_>,
     by: ReplayedBy<'a>,
     told: &mut String,
-) -> Result<Report, Failure<'a>>
-    ensures { IfOk result (λ report. IsReplayedAs by.entry text.now.bytes.now report) }
+) -> Result<Report, NoAnswer<'a>>
+    ensures report { IfOk result (λ report. IsReplayedAs by.entry text.now.bytes.now report) }
+    ensures refused { IfErr result (IsRefusalBy (RefusesText text.now.bytes.now)) }
 {
     let alloc = rt.alloc();
     match by {
@@ -230,15 +223,5 @@ fn log_beside(by: ReplayedBy<'_>) -> Option<&str> {
     match by {
         ReplayedBy::Schedule { log, .. } => log,
         ReplayedBy::Log(_) => None,
-    }
-}
-
-// What these options keep of the log.
-fn kept_by<'a>(options: RunOptions<'a>) -> Kept<'a>
-    ensures { result.trace ≡ options.entry.trace }
-{
-    Kept {
-        trace: options.trace,
-        log: options.log,
     }
 }

@@ -1,6 +1,9 @@
+ghost use Rattle.mesamon.specs.Failures.{OfReplay, OfSourceLog};
+
+use crate::answer::Answer;
 use crate::explained_run::ExplainedRun;
-use crate::failure::Failure;
-use crate::hinting::SourceText;
+use crate::failure::{Failure, NoAnswer};
+use crate::hinting::{SourceText, append_told};
 use crate::replaying::ReplayFault;
 use crate::run_ends::{explained_hints, report_hints};
 use crate::run_entries::{log_entry_hints, schedule_entry_hints};
@@ -10,31 +13,12 @@ use program::Checked;
 use run_hints::{Way, end_hints};
 use runner::{Report, Turn};
 use source_states::Action;
-use std::alloc::{AllocError, Global};
+use std::alloc::Global;
 use std::io::ErrorKind;
 
 // What a line of a log has.
 const LINE: &str =
     "  a line has a thread, its local steps, and TURN 0 or a step's name and value\n";
-
-/// Whether the words of a command line ask for hints. What stands behind -- is no option.
-pub fn wants_hints(words: &[&str]) -> bool {
-    for word in words {
-        match *word {
-            "--" => return false,
-            "--hints" => return true,
-            _ => {}
-        }
-    }
-    false
-}
-
-// Appends hints, where there was memory for them.
-fn append_told(told: &mut String, hints: Result<String, AllocError>) {
-    if let Ok(hints) = hints {
-        let _appended = told.push_str(hints.as_str());
-    }
-}
 
 // Appends the system's reason, where it is known.
 fn append_reason(told: &mut String, reason: Option<ErrorKind>) {
@@ -43,9 +27,12 @@ fn append_reason(told: &mut String, reason: Option<ErrorKind>) {
     }
 }
 
-/// Appends what helps with a failure, where more is known than its line tells. What was to be told of a run isn't told
-/// where the run's own lines aren't written.
-pub fn tell_failure(told: &mut String, failure: &Failure<'_>) {
+/// Appends what helps where a job has no answer, and more is known than its line tells. What was to be told of a run isn't
+/// told where the run's own lines aren't.
+pub fn tell_failure(told: &mut String, done: &Result<Answer, NoAnswer<'_>>) {
+    let Err(NoAnswer::Failed(failure)) = done else {
+        return;
+    };
     match failure {
         Failure::LogLine(_) => {
             let _appended = told.push_str(LINE);
@@ -115,34 +102,38 @@ pub fn tell_found(
     }
 }
 
-/// The failure of a run by a schedule. To an entry that is refused hints are appended, where they are wanted.
+/// What comes of a run by a schedule that isn't made. To an entry that is refused hints are appended, where they are wanted.
 pub fn told_turn<'a>(
     alloc: Global,
     told: &mut String,
     text: &SourceText<'_>,
     turns: &[Turn],
     fault: ReplayFault,
-) -> Failure<'a> {
+) -> NoAnswer<'a>
+    ensures { OfReplay fault result }
+{
     if let ReplayFault::BadEntry(number) = fault {
         if text.hints {
             append_told(told, schedule_entry_hints(alloc, text, turns, number));
         }
     }
-    Failure::from(fault)
+    NoAnswer::from(fault)
 }
 
-/// The failure of a log. To an entry that is refused hints are appended, where they are wanted.
+/// What comes of a log that isn't followed. To an entry that is refused hints are appended, where they are wanted.
 pub fn told_entry<'a>(
     alloc: Global,
     told: &mut String,
     text: &SourceText<'_>,
     lines: &[u8],
     fault: SourceLogFault,
-) -> Failure<'a> {
+) -> NoAnswer<'a>
+    ensures { OfSourceLog fault result }
+{
     if let SourceLogFault::Entry(number) = fault {
         if text.hints {
             append_told(told, log_entry_hints(alloc, text, lines, number));
         }
     }
-    Failure::from(fault)
+    NoAnswer::from(fault)
 }

@@ -1,14 +1,11 @@
-use Rattle.std.proofs.Common.{rules}
-use Rattle.mesamon.proofs.Explanations.{explained_so}
+use Rattle.std.proofs.Common.{◌∙◌, List, ℕ, subst, sym}
+use Rattle.mesamon.specs.Commands.{AreTold, explained_lines}
 use Rattle.mesamon.proofs.explaining.show_run.Goals as goal
 
 pub returns : goal.returns
 returns g c = record {
-  text = _;
-  explained_run = _;
-  explained = explained_so c.args.by _ c.args.run.now c.requires;
-  ended = c.status_of.ensures;
-  told = c.in_ok-answer.answer.items;
-  are_told = search rules;
-  wrote = search rules;
+  ended = c.quiet.ensures.status ∙ c.status_of.ensures;
+  are_told = subst (λ (xs : List ℕ). AreTold c.args.places (explained_lines c.args.run.now) xs) (sym c.quiet.ensures.output)
+      c.in_ok-lines.ensures;
+  account = c.quiet.ensures.account;
 }

@@ -1,0 +1,15 @@
+use Rattle.compiler.specs.Accepts.{RefusesTextAs}
+use Rattle.mesamon.proofs.Refusing.{left_by, refused_by}
+use Rattle.mesamon.proofs.compiling.answer_compile.Goals as goal
+
+pub returns-in_err-image-clause-refused : goal.returns-in_err-image-clause-refused
+returns-in_err-image-clause-refused g c =
+    left_by _ _ _ c.from_residual.ensures
+    (λ n gives. refused_by (RefusesTextAs c.args.version c.args.text.now.bytes.now) c.in_err-image.field-0.0 n c.in_err-image.ensures.refusal gives)
+
+pub returns-clause-done : goal.returns-clause-done
+returns-clause-done g c = record {
+  image = _;
+  compiled = c.in_ok-image.ensures.accepted;
+  tells = c.in_ok-put_image.ensures;
+}

@@ -1,0 +1,19 @@
+use Rattle.mesamon.specs.Asked.{outside_by}
+use Rattle.mesamon.proofs.Refusing.{left_by, run_left}
+use Rattle.mesamon.proofs.running.answer_run.Goals as goal
+
+pub returns-in_err-report-clause-refused : goal.returns-in_err-report-clause-refused
+returns-in_err-report-clause-refused g c =
+    left_by _ _ _ c.from_residual.ensures
+    (λ n gives. run_left c.args.text.now.bytes.now (outside_by c.args.options.order) c.args.options.steps c.in_err-report.field-0.0 n c.in_err-report.ensures.fault gives)
+
+pub returns-clause-done : goal.returns-clause-done
+returns-clause-done g c = record {
+  report = c.in_ok-report.report;
+  run = c.in_ok-report.ensures.report;
+  tells = record {
+    ended = c.in_ok-show.ensures.ended;
+    output = c.in_ok-show.ensures.output;
+    account = c.in_ok-show.ensures.account;
+  };
+}

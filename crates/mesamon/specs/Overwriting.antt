@@ -1,0 +1,49 @@
+-- Whether a job would write a file that it reads, or one file twice, by the names that it has for them.
+use Rattle.std.proofs.Common.{Bor}
+use Rattle.std.specs.Prelude.{ℕ, Bool, false, List, Option, Some, None, ◌||◌, bytes_eq}
+use Rattle.commandline.specs.declared.job.Job.{Job}
+use Rattle.commandline.specs.declared.job.Job.TheVariants.{Check, Compile, List as ListImage, Run, Exec, Replay, Explain, Emit, Explore}
+use Rattle.commandline.specs.declared.options.ChartOptions.{ChartOptions}
+use Rattle.commandline.specs.declared.options.ExplainedBy.{ExplainedBy}
+use Rattle.commandline.specs.declared.options.ExplainedBy.TheVariants.{Order, Seed, Schedule, Log}
+use Rattle.commandline.specs.declared.options.ReplayedBy.{ReplayedBy}
+use Rattle.commandline.specs.declared.options.ReplayedBy.TheVariants.{Schedule as BySchedule, Log as ByLog}
+
+-- whether two names are one
+abbrev pub is_same : Option (Bor (List ℕ)) → Option (Bor (List ℕ)) → Bool
+is_same None b = false
+is_same (Some a) None = false
+is_same (Some a) (Some b) = bytes_eq a.now b.now
+
+-- whether a file that is written is read too, or is written twice
+abbrev pub is_twice : (read also_read written also_written : Option (Bor (List ℕ))) → Bool
+is_twice read also_read written also_written =
+    is_same written also_written || is_same written read || is_same written also_read || is_same also_written read
+    || is_same also_written also_read
+
+-- the file of a picture
+abbrev pub out_of : Option ChartOptions → Option (Bor (List ℕ))
+out_of None = None
+out_of (Some chart) = Some chart.out
+
+-- the file that says which run is explained
+abbrev pub read_by : ExplainedBy → Option (Bor (List ℕ))
+read_by (Order steps) = None
+read_by (Seed steps seed strays kills) = None
+read_by (Schedule name) = Some name
+read_by (Log name) = Some name
+
+abbrev pub replay_overwrites : Bor (List ℕ) → ReplayedBy → Bool
+replay_overwrites file (BySchedule schedule log) = is_twice (Some file) (Some schedule) log None
+replay_overwrites file (ByLog log) = false
+
+abbrev pub overwrites : Job → Bool
+overwrites (Check file hints) = false
+overwrites (ListImage image source hints) = false
+overwrites (Compile file out workers version hints) = is_twice (Some file) None (Some out) None
+overwrites (Emit file out hints) = is_twice (Some file) None (Some out) None
+overwrites (Run file options hints) = is_twice (Some file) None options.log None
+overwrites (Exec image options) = is_twice (Some image) None options.log None
+overwrites (Replay file by trace hints) = replay_overwrites file by
+overwrites (Explain file by chart timeline places hints) = is_twice (Some file) (read_by by) (out_of chart) timeline
+overwrites (Explore file states strays kills chart timeline hints) = is_twice (Some file) None (out_of chart) timeline

@@ -1,0 +1,87 @@
+ghost use Rattle.std.specs.Prelude.{◌≡◌};
+ghost use Rattle.mesamon.specs.Overwriting.{is_same, is_twice, out_of, overwrites, read_by, replay_overwrites};
+
+use commandline::{ChartOptions, ExplainedBy, Job, ReplayedBy};
+
+// Whether two names of files are one.
+fn is_same(a: Option<&str>, b: Option<&str>) -> bool
+    ensures { result ≡ is_same a.entry b.entry }
+{
+    match (a, b) {
+        (Some(a), Some(b)) => a == b,
+        _ => false,
+    }
+}
+
+// Whether a file that is written is read too, or is written twice.
+fn is_twice(
+    read: Option<&str>,
+    also_read: Option<&str>,
+    written: Option<&str>,
+    also_written: Option<&str>,
+) -> bool
+    ensures { result ≡ is_twice read.entry also_read.entry written.entry also_written.entry }
+{
+    is_same(written, also_written)
+        || is_same(written, read)
+        || is_same(written, also_read)
+        || is_same(also_written, read)
+        || is_same(also_written, also_read)
+}
+
+// The file of a picture.
+fn out_of<'a>(chart: Option<ChartOptions<'a>>) -> Option<&'a str>
+    ensures { result ≡ out_of chart.entry }
+{
+    match chart {
+        Some(options) => Some(options.out),
+        None => None,
+    }
+}
+
+// The file that says which run is explained.
+fn read_by<'a>(by: ExplainedBy<'a>) -> Option<&'a str>
+    ensures { result ≡ read_by by.entry }
+{
+    match by {
+        ExplainedBy::Schedule(name) | ExplainedBy::Log(name) => Some(name),
+        ExplainedBy::Order { .. } | ExplainedBy::Seed { .. } => None,
+    }
+}
+
+/// Whether a job would write a file that it reads, or one file twice, by the names that it has for them.
+pub fn overwrites(job: &Job<'_>) -> bool
+    ensures { result ≡ overwrites job.now }
+{
+    match *job {
+        Job::Check { .. } | Job::List { .. } => false,
+        Job::Compile { file, out, .. } => is_twice(Some(file), None, Some(out), None),
+        Job::Emit { file, out, .. } => is_twice(Some(file), None, Some(out), None),
+        Job::Run { file, options, .. } => is_twice(Some(file), None, options.log, None),
+        Job::Exec { image, options } => is_twice(Some(image), None, options.log, None),
+        Job::Replay { file, by, .. } => replay_overwrites(file, by),
+        Job::Explain {
+            file,
+            by,
+            chart,
+            timeline,
+            ..
+        } => is_twice(Some(file), read_by(by), out_of(chart), timeline),
+        Job::Explore {
+            file,
+            chart,
+            timeline,
+            ..
+        } => is_twice(Some(file), None, out_of(chart), timeline),
+    }
+}
+
+// The same of a replay.
+fn replay_overwrites(file: &str, by: ReplayedBy<'_>) -> bool
+    ensures { result ≡ replay_overwrites file.entry by.entry }
+{
+    match by {
+        ReplayedBy::Schedule { schedule, log } => is_twice(Some(file), Some(schedule), log, None),
+        ReplayedBy::Log(_) => false,
+    }
+}
