@@ -6,3 +6,4 @@ pub mod Uppermost
 pub mod Trying
 pub mod OwnSteps
 pub mod NoWords
+pub mod ShortCalls

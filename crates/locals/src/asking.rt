@@ -47,31 +47,7 @@ impl Activation {
                     count,
                 })
             }
-            Instr::Push(_)
-            | Instr::GetLocal(_)
-            | Instr::SetLocal(_)
-            | Instr::Pop
-            | Instr::Operate(_)
-            | Instr::Negate
-            | Instr::Not
-            | Instr::Jump(_)
-            | Instr::JumpIfZero(_)
-            | Instr::Call(_)
-            | Instr::Ret
-            | Instr::RetValue
-            | Instr::Index(..)
-            | Instr::OwnNumber
-            | Instr::ProcessAddress(_)
-            | Instr::Raise(_)
-            | Instr::Load
-            | Instr::Store
-            | Instr::Swap
-            | Instr::CompareSwap
-            | Instr::FetchOr
-            | Instr::FetchAdd
-            | Instr::Fork(..)
-            | Instr::Print
-            | Instr::FutexRequeue => None,
+            _ => None,
         }
     }
 

@@ -15,7 +15,7 @@ pub const FEW: usize = 8;
 pub const LOCALS: usize = isa::MOST_LOCALS as usize;
 
 /// The locals of a frame.
-#[derive(Clone, Copy, PartialEq, Eq, Debug)]
+#[derive(Clone, Copy)]
 pub struct Locals {
     /// The procedure's own.
     pub values: [u32; LOCALS],
@@ -151,7 +151,7 @@ impl Default for Locals {
 }
 
 /// Where a call returns to, and the caller's locals.
-#[derive(Clone, Copy, PartialEq, Eq, Debug, Default)]
+#[derive(Clone, Copy, Default)]
 pub struct Frame {
     /// The place of the instruction after the call.
     pub back: u32,

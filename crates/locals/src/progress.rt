@@ -3,7 +3,7 @@ use words::Fault;
 
 /// What came of the next step of a thread, taken where it is a local one. Its one number has room in a register beside
 /// its kind; with a fault in it, it would go through memory at each step.
-#[derive(Clone, Copy, PartialEq, Eq, Debug)]
+#[derive(Clone, Copy)]
 pub enum Progress {
     /// The step was taken, and the next instruction is at this place. It isn't in the activation yet.
     Went(u32),
@@ -17,7 +17,7 @@ pub enum Progress {
 }
 
 /// What becomes of a thread that runs its code, once its request is answered.
-#[derive(Clone, Copy, PartialEq, Eq, Debug)]
+#[derive(Clone, Copy)]
 pub enum Answered {
     /// It goes on, or stays as it is where it makes no request.
     GoesOn,
