@@ -19,6 +19,18 @@
 //!                     by what these words say: `T` is the next entry of thread T, `eT` its entries as long as it can
 //!                     move, `kT` its kill, `pT` takes its piece out and keeps it, `hT` hands that in for it, and `wA`
 //!                     prints the word at address A. The log is printed from the entry before the first kill on
+//! pieces WORD ..      step by step on the machine, with futex calls in pieces over as many buckets as the limit says
+//! ```
+//!
+//! The words behind `pieces` are these. What others see of each step is printed:
+//!
+//! ```text
+//! TxN     up to N steps of thread T, local or shared, as long as none is refused
+//! lTxN    up to N local steps of thread T, in its place, and prints how many they were
+//! sT      a wake of thread T from outside
+//! kT      a kill of thread T
+//! rT      prints what a step of thread T would be refused for, or that it can go on
+//! movers  prints the threads that can take a step, or that none can
 //! ```
 //!
 //! Empty lines and lines that begin with `#` say nothing.
@@ -44,6 +56,8 @@ mod kill_by_hand;
 mod meeting;
 mod opening;
 mod outcome;
+mod piece_steps;
+mod pieces;
 mod schedule;
 mod schedules;
 mod show;
@@ -54,6 +68,7 @@ use crate::failure::Failure;
 use crate::kill_by_hand::run_with_kills;
 use crate::meeting::Meeting;
 use crate::opening::show_opening;
+use crate::pieces::run_pieces;
 use crate::schedules::{Outside, run_schedules};
 use crate::show::{show, show_end};
 use crate::stray_by_hand::run_with_stray;
@@ -126,6 +141,7 @@ fn run_image<R: Threads + Wait + Sync + Print>(
         Some("strays") => run_schedules(rt, alloc, image, limit, Outside::Strays, words),
         Some("stray_by_hand") => run_with_stray(rt, alloc, image, limit),
         Some("kill_by_hand") => run_with_kills(rt, alloc, image, limit, words),
+        Some("pieces") => run_pieces(rt, alloc, image, limit, words),
         Some(_) => Err(Failure::Row),
     }
 }

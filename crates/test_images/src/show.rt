@@ -72,8 +72,8 @@ pub fn show_log<R: Print>(rt: &R, log: &PackedLog, before: usize) -> io::Result<
     Ok(())
 }
 
-// The threads of a set, each on a line.
-fn show_set<R: Print>(rt: &R, what: &str, set: ThreadSet) -> io::Result<()> {
+/// Prints the threads of a set, each on a line.
+pub fn show_set<R: Print>(rt: &R, what: &str, set: ThreadSet) -> io::Result<()> {
     for before in 0..MOST_THREADS {
         let thread = before + 1;
         if set.contains(thread) {

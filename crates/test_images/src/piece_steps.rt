@@ -1,4 +1,5 @@
-use machine::{Event, EventName, MOST_THREADS, StepFault, ThreadSet};
+use crate::show::show_set;
+use machine::{Event, EventName, MOST_THREADS, StepFault};
 use piece_machine::PieceMachine;
 use std::io;
 
@@ -26,17 +27,6 @@ pub fn show_movers<R: Print>(rt: &R, machine: &PieceMachine) -> io::Result<()> {
         let thread = before + 1;
         if machine.can_move(thread) {
             println!(rt; "  {thread} can move")?;
-        }
-    }
-    Ok(())
-}
-
-// The threads of a set, each on a line.
-fn show_set<R: Print>(rt: &R, what: &str, set: ThreadSet) -> io::Result<()> {
-    for before in 0..MOST_THREADS {
-        let thread = before + 1;
-        if set.contains(thread) {
-            println!(rt; "    {what} {thread}")?;
         }
     }
     Ok(())

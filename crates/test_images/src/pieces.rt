@@ -1,57 +1,28 @@
-//! Runs images of the machine with futex calls in pieces, by rows on standard input, and prints the shared steps. A row
-//! is a name, the number of buckets, the bytes of an image in hexadecimal digits, and a schedule, between white space:
-//!
-//! ```text
-//! TxN     up to N steps of thread T, local or shared, as long as none is refused
-//! lTxN    up to N local steps of thread T, in its place, and prints how many they were
-//! sT      a wake of thread T from outside
-//! kT      a kill of thread T
-//! rT      prints what a step of thread T would be refused for, or that it can go on
-//! movers  prints the threads that can take a step, or that none can
-//! ```
-//!
-//! Empty lines and lines that begin with `#` say nothing.
-#![tactic(auto)]
-
-mod failure;
-mod show;
-
 use crate::failure::Failure;
-use crate::show::{show_movers, show_refusal, show_step};
+use crate::piece_steps::{show_movers, show_refusal, show_step};
 use buckets::Buckets;
-use isa::{Image, decode};
+use isa::Image;
 use machine::{Event, EventName, StepFault};
 use piece_machine::PieceMachine;
 use std::alloc::Global;
-use std::io;
+use std::str::SplitWhitespace;
 
 // The most steps of a word of a schedule.
 const MOST_STEPS: u32 = 1000;
 
-fn main(rt: HostRuntime) -> io::Result<()> {
-    for line in rt.lines(rt.alloc()) {
-        let line = line?;
-        if line.trim().is_empty() || line.starts_with('#') {
-            continue;
-        }
-        if let Err(failure) = run_row(&rt, rt.alloc(), line.as_str()) {
-            println!(rt; "  {failure}")?;
-        }
-    }
-    Ok(())
-}
-
-// Runs the image of one row.
-fn run_row<R: Print>(rt: &R, alloc: Global, row: &str) -> Result<(), Failure> {
-    let mut words = row.split_whitespace();
-    let name = words.next().ok_or(Failure::Row)?;
-    let buckets = number(words.next().ok_or(Failure::Row)?)?;
-    let image = image_of(alloc, words.next().ok_or(Failure::Row)?)?;
-    println!(rt; "{name}")?;
+/// Runs an image with futex calls in pieces over so many buckets, by the schedule of these words, and prints the shared
+/// steps.
+pub fn run_pieces<R: Print>(
+    rt: &R,
+    alloc: Global,
+    image: &Image,
+    buckets: u32,
+    words: SplitWhitespace,
+) -> Result<(), Failure> {
     if !Buckets::allowed(buckets) {
         return Err(Failure::Row);
     }
-    let mut machine = PieceMachine::new(alloc, &image, buckets)?;
+    let mut machine = PieceMachine::new(alloc, image, buckets)?;
     for word in words {
         take_word(rt, &mut machine, word)?;
     }
@@ -136,12 +107,6 @@ fn show_next<R: Print>(rt: &R, machine: &PieceMachine, thread: u32) -> Result<()
 
 fn number(word: &str) -> Result<u32, Failure> {
     word.parse().map_err(|_| Failure::Row)
-}
-
-// The image that digits spell.
-fn image_of(alloc: Global, digits: &str) -> Result<Image, Failure> {
-    let bytes = hex::decode(alloc, digits).map_err(|_| Failure::Row)?;
-    Ok(decode(alloc, bytes.as_slice())?)
 }
 
 // Takes up to so many steps of a thread, and prints those that others see.
