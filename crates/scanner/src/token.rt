@@ -43,7 +43,7 @@ pub enum Keyword {
 }
 
 /// A sign of one or two bytes.
-#[derive(Clone, Copy, PartialEq, Eq)]
+#[derive(Clone, Copy, PartialEq, Eq, Debug)]
 pub enum Sign {
     /// `:=`
     Assign,
@@ -86,7 +86,7 @@ pub enum Sign {
 }
 
 /// What a token is.
-#[derive(Clone, Copy, PartialEq, Eq)]
+#[derive(Clone, Copy, PartialEq, Eq, Debug)]
 pub enum Kind {
     Keyword(Keyword),
     Sign(Sign),
