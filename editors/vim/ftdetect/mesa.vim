@@ -1,0 +1,2 @@
+" Texts of mesamon.
+autocmd BufRead,BufNewFile *.mesa setfiletype mesa

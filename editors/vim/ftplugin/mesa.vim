@@ -1,0 +1,10 @@
+" How texts of mesamon are edited.
+if exists('b:did_ftplugin')
+    finish
+endif
+let b:did_ftplugin = 1
+
+setlocal comments=:--
+setlocal commentstring=--\ %s
+
+let b:undo_ftplugin = 'setlocal comments< commentstring<'
