@@ -20,6 +20,7 @@ pub record Idle (p : Program) (t : ℕ) (k : Kind) (s1 : SourceState) (actions :
     (e : SourceState) : Type 0 where
   pub after : SourceState
   pub moves : IsAction p e (act t k) after
+  pub calm : IsCalm moves.label
   pub later : Alike p s1 actions after
 
 -- the process acts: a calm action of it comes first, and the run is as long
@@ -50,6 +51,7 @@ module _ (p : Program) (wf : WellFormed p) where
         record {
           after = idle.after;
           moves = idle.moves;
+          calm = idle.calm;
           later = (
             moved.0,
             (
@@ -112,11 +114,9 @@ module _ (p : Program) (wf : WellFormed p) where
       → Idle p t k s1 actions e ⊎ Busy p t s actions e
   unfolding goes_after carried
   front [] done s t k s1 e run x calm led =
-      inl (record {
-        after = s1;
-        moves = subst (λ r. IsAction p r (act t k) s1) led x;
-        later = (s1, refl, like_self s1);
-      })
+      let here : (y : IsAction p e (act t k) s1) × IsCalm y.label =
+      subst (λ r. (y : IsAction p r (act t k) s1) × IsCalm y.label) led (x, calm) in
+      inl (record { after = s1; moves = here.0; calm = here.1; later = (s1, refl, like_self s1) })
   front (b ∷ actions) done s t k s1 e run x calm led = elim (cases_eq b.process t) [
     | inl same ↦ inr (record {
       kind = b.kind;

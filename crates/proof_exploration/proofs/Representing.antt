@@ -9,11 +9,11 @@ use Rattle.meaning.specs.Runs.{IsAction, IsStep, Leads}
 use Rattle.proof_commutation.proofs.Behind.{act}
 use Rattle.proof_exploration.specs.Exploring.{IsLike, MovesCalmly, LeadsAlone, IsFromOutside, AreOwn, IsCalm}
 use Rattle.proof_exploration.specs.Exploring.{IsCalmKind}
-use Rattle.proof_exploration.specs.Searching.{IsKept, IsCovered, IsExpanded, IsComplete}
+use Rattle.proof_exploration.specs.Searching.{IsKept, IsCovered, IsExpanded}
 use Rattle.proof_exploration.proofs.Alike.{like_back, like_trans, printing, like_action, like_after}
 
 module _ (p : Program) (kept : List SourceState) where
-  like_kept : (s r : SourceState) → IsLike s r → IsKept kept s → IsKept kept r
+  pub like_kept : (s r : SourceState) → IsLike s r → IsKept kept s → IsKept kept r
   like_kept s r like is = (is.0, is.1, like_trans is.0 s r is.2 like)
 
   like_calm : (s r : SourceState) (t : ℕ) → IsLike s r → MovesCalmly p s t → MovesCalmly p r t
@@ -39,11 +39,12 @@ module _ (p : Program) (kept : List SourceState) where
         (like_action p r s (like_back s r like) (act t kind) after x)),
   )
 
-  pub kept_next : IsComplete p kept → (s : SourceState) → IsKept kept s → IsExpanded p kept s
-  kept_next complete s (r, is, like) a s' x =
+  pub kept_next : ((s : SourceState) → Contains kept s → IsExpanded p kept s) → (s : SourceState) → IsKept kept s
+      → IsExpanded p kept s
+  kept_next expanded s (r, is, like) a s' x =
       let back : IsLike s r = like_back r s like in
       let next : (n : ℕ) × IsCovered p kept n (printing p s r back a s' x) =
-      complete.expanded r is a (printing p s r back a s' x) (like_action p s r back a s' x) in (
+      expanded r is a (printing p s r back a s' x) (like_action p s r back a s' x) in (
         next.0,
         like_covered next.0 (printing p s r back a s' x) s'
             (like_back s' (printing p s r back a s' x) (like_after p s r back a s' x)) next.1,

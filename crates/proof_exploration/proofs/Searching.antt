@@ -19,7 +19,7 @@ pub alone_leads : (p : Program) (s s' : SourceState) (actions : List Action) →
 alone_leads p s s' [] led = led
 alone_leads p s s' (a ∷ actions) led = (led.0, inl led.1, alone_leads p led.0 s' actions led.2)
 
-alone_more : (p : Program) (s s' t : SourceState) (actions : List Action) (a : Action) → LeadsAlone p s actions s'
+pub alone_more : (p : Program) (s s' t : SourceState) (actions : List Action) (a : Action) → LeadsAlone p s actions s'
     → IsAction p s' a t → LeadsAlone p s (actions ++ a ∷ []) t
 alone_more p s s' t [] a led step = (t, subst (λ x. IsAction p x a t) (sym led) step, refl)
 alone_more p s s' t (b ∷ bs) a led step = (led.0, led.1, alone_more p led.0 s' t bs a led.2 step)
@@ -75,7 +75,7 @@ module _ (p : Program) (wf : WellFormed p) (f : Fault) (kept : List SourceState)
   kept_more : (n : ℕ) → Fewer n → FromKept (suc n)
   kept_more n fewer [] done s e long run is led bad = absurd (omega (arith, long))
   kept_more n fewer (b ∷ actions) done s e long run is led bad =
-      let next : (k : ℕ) × IsCovered p kept k led.0 = kept_next p kept complete s is b led.0 led.1 in
+      let next : (k : ℕ) × IsCovered p kept k led.0 = kept_next p kept complete.expanded s is b led.0 led.1 in
       fewer next.0 actions (done ++ b ∷ []) led.0 e (one_less (length actions) n long)
       (alone_more p (opening p) s led.0 done b run led.1) next.1 led.2 bad
 
