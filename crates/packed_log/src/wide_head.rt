@@ -1,5 +1,5 @@
 /// The head of an entry, with the entry's thread and local steps beside it.
-#[derive(Clone, Copy, PartialEq, Eq, Debug)]
+#[derive(Clone, Copy)]
 pub struct WideHead {
     /// The thread, in place of the one that the head says.
     pub thread: u32,
