@@ -327,6 +327,7 @@ module _ (p : Program) (w : WellFormed p) (s : State) (size : s.size ≡ memory_
   asked_fine (P.AskCompareSwap a x v) q e ok = one_fine _ q e (cell_there a ok)
   asked_fine (P.AskOrWaiters a) q e ok = one_fine _ q e (cell_there a ok)
   asked_fine (P.AskAddOne a) q e ok = one_fine _ q e (cell_there a ok)
+  asked_fine (P.AskAdd a v) q e ok = one_fine _ q e (cell_there a ok)
   asked_fine (P.AskWait x v) q e ok = one_fine _ q e (cell_there (cell_of x) ok)
   asked_fine (P.AskWakeOne x) q e ok = one_fine _ q e (cell_there (cell_of x) ok)
   asked_fine (P.AskRequeue c x) q e ok = one_fine _ q e

@@ -28,7 +28,7 @@ use Rattle.protocol.specs.Cells.{SequenceOf, cell, write, cell_of}
 use Rattle.protocol.specs.Memory.{stored_value}
 use Rattle.protocol.specs.Exits.{Shares, sleep_address}
 use Rattle.protocol.specs.Requests.{Request, AskNothing, AskLoad, AskStore, AskSwap, AskCompareSwap, AskOrWaiters}
-use Rattle.protocol.specs.Requests.{AskAddOne, AskWait, AskWakeOne, AskRequeue, AskFault, AskExitStep, request}
+use Rattle.protocol.specs.Requests.{AskAddOne, AskAdd, AskWait, AskWakeOne, AskRequeue, AskFault, AskExitStep, request}
 use Rattle.protocol.specs.Answers.{Serves, WakesOne}
 use Rattle.protocol.proofs.Calls.{calls_follow}
 use Rattle.protocol.proofs.Exits.{distinct, names-mem, none_woken, spot_at}
@@ -82,6 +82,7 @@ IsUsual (AskSwap a v) = IsLock a
 IsUsual (AskCompareSwap a x v) = IsLock a
 IsUsual (AskOrWaiters a) = IsLock a
 IsUsual (AskAddOne a) = IsSequence a
+IsUsual (AskAdd a v) = IsLock a
 IsUsual r = Unit {0}
 
 -- a word that is written is no result, and a sequence number grows by one at most
@@ -295,6 +296,15 @@ module _ (p : Program) (s : State) (w : World) (t : ℕ) (pt : Point)
         (h.1.1.0 ∙ word)
     adds low a ok fits h = absurd fits
 
+    added : (a : Cell) (v : ℕ) → valid p a ≡ true → IsLock a
+        → A.Serves t (M.AskAdd (place p a) v) s woken answer mid → IsAnswered p s mid w t pt (AskAdd a v) answer
+    added (LockOf m) v ok fits h =
+        let word : s.word (place p (LockOf m)) ≡ w.lock m = shares.words.word (LockOf m) ok in
+        stored mid (AskAdd (LockOf m) v) answer (w.lock m) (LockOf m) ((w.lock m + v) % 4294967296) ok tt
+        (h.1.1.1 ∙ ap (λ x. with_word s (place p (LockOf m)) ((x + v) % 4294967296)) word) (refl, refl)
+        (h.1.1.0 ∙ word)
+    added a v ok fits h = absurd fits
+
     waits : (x : Spot) (v : ℕ) → valid p (cell_of x) ≡ true
         → A.Serves t (M.AskWait (place p (cell_of x)) v) s woken answer mid
         → IsAnswered p s mid w t pt (AskWait x v) answer
@@ -464,6 +474,8 @@ answered p s w t pt r asks woken answer mid shares some few low sleepers = by_re
         marks p s w t pt shares woken answer mid a ok usual (same (M.AskOr (place p a) 2147483648) e h)
     by_request (AskAddOne a) fresh usual ok e h =
         adds p s w t pt shares woken answer mid low a ok usual (same (M.AskAdd (place p a) 1) e h)
+    by_request (AskAdd a v) fresh usual ok e h =
+        added p s w t pt shares woken answer mid a v ok usual (same (M.AskAdd (place p a) v) e h)
     by_request (AskWait x v) fresh usual ok e h =
         waits p s w t pt shares woken answer mid x v ok (same (M.AskWait (place p (cell_of x)) v) e h)
     by_request (AskWakeOne x) fresh usual ok e h =

@@ -9,7 +9,7 @@ use Rattle.protocol.specs.World.{World}
 use Rattle.protocol.specs.Cells.{SequenceOf, LockOf, cell_of}
 use Rattle.protocol.specs.Exits.{Shares}
 use Rattle.protocol.specs.Requests.{Request, AskNothing, AskLoad, AskStore, AskSwap, AskCompareSwap, AskOrWaiters}
-use Rattle.protocol.specs.Requests.{AskAddOne, AskWait, AskWakeOne, AskRequeue, AskFault, AskExitStep, request}
+use Rattle.protocol.specs.Requests.{AskAddOne, AskAdd, AskWait, AskWakeOne, AskRequeue, AskFault, AskExitStep, request}
 use Rattle.protocol.specs.Answers.{Serves}
 use Rattle.proof_thread.specs.Variables.{IsVariable, variable_address}
 use Rattle.proof_templates.specs.Layout.{place, valid}
@@ -24,6 +24,7 @@ IsAskable p (AskSwap a v) = valid p a ≡ true
 IsAskable p (AskCompareSwap a x v) = valid p a ≡ true
 IsAskable p (AskOrWaiters a) = valid p a ≡ true
 IsAskable p (AskAddOne a) = valid p a ≡ true
+IsAskable p (AskAdd a v) = valid p a ≡ true
 IsAskable p (AskWait s x) = valid p (cell_of s) ≡ true
 IsAskable p (AskWakeOne s) = valid p (cell_of s) ≡ true
 IsAskable p (AskRequeue c x) = (valid p (SequenceOf c) ≡ true) × (valid p (LockOf c.monitor) ≡ true)

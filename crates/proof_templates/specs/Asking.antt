@@ -13,7 +13,7 @@ use Rattle.protocol.specs.World.{World}
 use Rattle.protocol.specs.Cells.{LockOf, SequenceOf, cell_of}
 use Rattle.protocol.specs.Memory.{entry_address, stored_value}
 use Rattle.protocol.specs.Requests.{Request, AskNothing, AskLoad, AskStore, AskSwap, AskCompareSwap, AskOrWaiters}
-use Rattle.protocol.specs.Requests.{AskAddOne, AskWait, AskWakeOne, AskRequeue, AskFault, AskExitStep, request}
+use Rattle.protocol.specs.Requests.{AskAddOne, AskAdd, AskWait, AskWakeOne, AskRequeue, AskFault, AskExitStep, request}
 use Rattle.protocol.specs.Answers.{next}
 use Rattle.protocol.specs.Served.{MayAnswer}
 use Rattle.proof_thread.specs.Walks.{WalksWithin, empty_view}
@@ -28,6 +28,7 @@ machine_request p (AskSwap a v) = Some (M.AskSwap (place p a) (stored_value (pla
 machine_request p (AskCompareSwap a x v) = Some (M.AskCompareSwap (place p a) x v)
 machine_request p (AskOrWaiters a) = Some (M.AskOr (place p a) waiters)
 machine_request p (AskAddOne a) = Some (M.AskAdd (place p a) 1)
+machine_request p (AskAdd a v) = Some (M.AskAdd (place p a) v)
 machine_request p (AskWait s x) = Some (M.AskWait (place p (cell_of s)) x)
 machine_request p (AskWakeOne s) = Some (M.AskWake (place p (cell_of s)) 1)
 machine_request p (AskRequeue c x) = Some

@@ -1,19 +1,21 @@
 -- What the rules of releases keep: the points of another rule's release are never come to; and where the waiters bit is
 -- kept for good, the word has it while anybody sleeps there.
-use Rattle.std.proofs.Common.{◌≡◌, ◌≢◌, ℕ, Option, Some, inl, inr, subst, sym}
+use Rattle.std.proofs.Common.{◌≡◌, ◌≢◌, ℕ, Option, Some, inl, inr, subst, sym, refl, ◌∙◌, arith}
 use Rattle.words.specs.Updates.{put}
 use Rattle.program.specs.declared.kinds.Member.{Member}
 use Rattle.meaning.specs.Table.{Hold, Free}
-use Rattle.protocol.specs.Word.{owner, waiters}
-use Rattle.protocol.specs.Rules.{ExitRule, WakesAlways, WakesUnowned, Passes, ReleaseRule, ClearsWord, KeepsWaiters, TidiesWaiters, Clears, Keeps, Tidies}
+use Rattle.protocol.specs.Word.{owner, waiters, owner_died_bit}
+use Rattle.protocol.specs.Rules.{ExitRule, WakesAlways, WakesUnowned, WakesUncovered, SafeExit, Passes, ReleaseRule, ClearsWord, KeepsWaiters, TidiesWaiters, Clears, Keeps, Tidies}
 use Rattle.protocol.specs.Points.{Spot, OnLock, Thread, Point, LeaveSwaps, LeaveLoads, LeaveKeeps, LeaveClears}
 use Rattle.protocol.specs.World.{requeued_sleep}
 use Rattle.words.proofs.Updates.{at_put, at_put2}
 use Rattle.protocol.proofs.Sleeps.{requeue_lock}
+use Rattle.protocol.specs.Rules.{DropsOwner, Swaps, KeepsBit, left_by}
+use Rattle.protocol.proofs.Words.{waiters_full, waiters-waiters, owner-waiters, died-waiters, owner-small, died-small}
 
 -- ---- the points of a release
 abbrev pub StyleAt : ReleaseRule → Point → Type 0
-StyleAt rule (LeaveSwaps m r) = Clears rule
+StyleAt rule (LeaveSwaps m r) = Swaps rule
 StyleAt rule (LeaveLoads m r) = Keeps rule
 StyleAt rule (LeaveKeeps m v r) = Keeps rule
 StyleAt rule (LeaveClears m r) = Tidies rule
@@ -30,7 +32,7 @@ styled rule at t p' inv mine = record {
 
 -- ---- the waiters bit
 pub record Bits (rule : ReleaseRule) (lock : ℕ → ℕ) (asleep : ℕ → Option Spot) : Type 0 where
-  pub bit : rule ≡ KeepsWaiters → (e t : ℕ) → asleep t ≡ Some (OnLock e) → waiters (lock e) ≡ 2147483648
+  pub bit : KeepsBit rule → (e t : ℕ) → asleep t ≡ Some (OnLock e) → waiters (lock e) ≡ 2147483648
 
 -- nobody falls asleep on a lock
 pub bits_less : (rule : ReleaseRule) (lock : ℕ → ℕ) (asleep asleep' : ℕ → Option Spot) → Bits rule lock asleep
@@ -39,7 +41,7 @@ bits_less rule lock asleep asleep' inv less = record { bit = λ k e u h. inv.bit
 
 -- a word changes, and keeps its bit
 pub bits_put : (rule : ReleaseRule) (lock : ℕ → ℕ) (asleep : ℕ → Option Spot) (e v : ℕ) → Bits rule lock asleep
-    → (rule ≡ KeepsWaiters → waiters (lock e) ≡ 2147483648 → waiters v ≡ 2147483648) → Bits rule (put lock e v) asleep
+    → (KeepsBit rule → waiters (lock e) ≡ 2147483648 → waiters v ≡ 2147483648) → Bits rule (put lock e v) asleep
 bits_put rule lock asleep e v inv why = record {
   bit = λ k x u h. at_put lock e v x (λ y. waiters y ≡ 2147483648)
       (λ q. why k (subst (λ y. waiters (lock y) ≡ 2147483648) q (inv.bit k x u h))) (λ n. inv.bit k x u h);
@@ -64,16 +66,43 @@ bits_moved rule lock asleep c inv mark = record {
 pub passes_owned : (x : ExitRule) (v : ℕ) → Passes x v → owner v ≢ 0
 passes_owned WakesAlways v h = absurd h
 passes_owned WakesUnowned v h = h
+passes_owned WakesUncovered v h = h.0
 
-pub passes_always : (x : ExitRule) (v : ℕ) → x ≡ WakesAlways → Passes x v → ⊥
-passes_always WakesAlways v e h = h
-passes_always WakesUnowned v e h = absurd cc
+pub passes_marked : (x : ExitRule) (v : ℕ) → SafeExit x → Passes x v → waiters v ≡ 2147483648
+passes_marked WakesAlways v e h = absurd h
+passes_marked WakesUnowned v e h = absurd e
+passes_marked WakesUncovered v e h = waiters_full v h.1
 
-pub keeps_not_clears : (r : ReleaseRule) → r ≡ KeepsWaiters → Clears r → ⊥
-keeps_not_clears r e h = subst Clears e h
+-- what is left of a word that is given up in one step
+pub left_bit : (r : ReleaseRule) (v : ℕ) → KeepsBit r → waiters v ≡ 2147483648 → waiters (left_by r v) ≡ 2147483648
+left_bit ClearsWord v k h = absurd k
+left_bit KeepsWaiters v k h = waiters-waiters v ∙ h
+left_bit TidiesWaiters v k h = absurd k
+left_bit DropsOwner v k h = waiters-waiters v ∙ h
 
-pub keeps_not_tidies : (r : ReleaseRule) → r ≡ KeepsWaiters → Tidies r → ⊥
-keeps_not_tidies r e h = subst Tidies e h
+pub left_plain : (r : ReleaseRule) (v : ℕ) → Clears r → left_by r v ≡ 0
+left_plain ClearsWord v k = refl
+left_plain KeepsWaiters v k = absurd k
+left_plain TidiesWaiters v k = absurd k
+left_plain DropsOwner v k = absurd k
+
+pub left_owner : (r : ReleaseRule) (v : ℕ) → owner (left_by r v) ≡ 0
+left_owner ClearsWord v = owner-small 0 (omega arith)
+left_owner KeepsWaiters v = owner-waiters v
+left_owner TidiesWaiters v = owner-waiters v
+left_owner DropsOwner v = owner-waiters v
+
+pub left_died : (r : ReleaseRule) (v : ℕ) → owner_died_bit (left_by r v) ≡ 0
+left_died ClearsWord v = died-small 0 (omega arith)
+left_died KeepsWaiters v = died-waiters v
+left_died TidiesWaiters v = died-waiters v
+left_died DropsOwner v = died-waiters v
+
+pub keeps_not_tidies : (r : ReleaseRule) → KeepsBit r → Tidies r → ⊥
+keeps_not_tidies ClearsWord k h = h
+keeps_not_tidies KeepsWaiters k h = h
+keeps_not_tidies TidiesWaiters k h = k
+keeps_not_tidies DropsOwner k h = h
 
 -- ---- the word of a free monitor, where a release clears it
 abbrev pub IsPlain : Hold → ℕ → Type 0
@@ -101,3 +130,4 @@ pub keeps_or_clears : (r : ReleaseRule) → Keeps r → Clears r → ⊥
 keeps_or_clears ClearsWord h k = h
 keeps_or_clears KeepsWaiters h k = k
 keeps_or_clears TidiesWaiters h k = k
+keeps_or_clears DropsOwner h k = k

@@ -26,7 +26,7 @@ use Rattle.protocol.specs.Moves.{LearnAborted, TakeResult}
 use Rattle.protocol.specs.Steps.{go_list}
 use Rattle.protocol.proofs.Words.{owner-small}
 use Rattle.protocol.proofs.Roles.{own, ListedEntry, Listed, holds, Knows}
-use Rattle.protocol.proofs.Lock.{tie_owner, tie_held}
+use Rattle.protocol.proofs.Lock.{tie_owner, tie_held, tie_living}
 use Rattle.protocol.proofs.Chains.{Chain, ChainAt, chain_some}
 use Rattle.protocol.proofs.Waits.{FreshAt}
 use Rattle.protocol.proofs.Joins.{IdAt, joins, point_joins}
@@ -37,17 +37,20 @@ use Rattle.protocol.specs.Moves.{PendPassed}
 use Rattle.protocol.specs.Points.{Release, Spot, OnLock, OnSequence, LeaveLoads, LeaveKeeps, LeaveClears}
 use Rattle.protocol.specs.Cells.{HeadOf, write}
 use Rattle.protocol.specs.Rules.{Rules, AreSafe, standard_rules, ReleaseRule, ClearsWord, KeepsWaiters, TidiesWaiters}
-use Rattle.protocol.specs.Rules.{Clears, Keeps, Tidies, ExitRule, WakesAlways, WakesUnowned, Wakes, Passes}
+use Rattle.protocol.specs.Rules.{Clears, Keeps, Tidies, ExitRule, WakesAlways, WakesUnowned, WakesUncovered, Wakes, Passes}
 use Rattle.protocol.specs.World.{opening_under, awake_after, IsWake}
 use Rattle.protocol.specs.Requests.{request}
 use Rattle.protocol.specs.Answers.{WakesOne, Abandon, Serves}
 use Rattle.protocol.specs.Served.{IsMove, is_pending}
-use Rattle.protocol.specs.Ruled.{request_under, Foreign, WakesUnder, ExitDoesUnder, ServesUnder, released_at, woken_at}
+use Rattle.protocol.specs.Ruled.{given_up, request_under, Foreign, WakesUnder, ExitDoesUnder, ServesUnder, released_at, woken_at}
 use Rattle.protocol.specs.Ruled.{IsMoveUnder}
 use Rattle.protocol.specs.Carries.{Acts, resumed_by}
 use Rattle.protocol.specs.Runs.{Leads, last_table}
 use Rattle.protocol.proofs.Rest.{good_under, rules_kept}
 use Rattle.protocol.proofs.Good.{Good}
+use Rattle.protocol.specs.Rules.{DropsOwner, Swaps, left_by}
+use Rattle.protocol.proofs.Words.{owner_dropped}
+use Rattle.protocol.specs.Cells.{LockOf}
 
 abbrev any : End
 any = Aborted Killed
@@ -172,6 +175,34 @@ foreign_covers rules w WakesUnowned t m end r w' is pos high a s d = elim d [
     carries = λ X. refl;
   }
 ]
+foreign_covers rules w WakesUncovered t m end r w' is pos high a s d = elim d [
+  | inl z ↦ record {
+    end = any;
+    move = PendForeign m end z.1.woken;
+    can = record {
+      number = (pos, high);
+      awake = a;
+      stands = s;
+      finds = (subst (λ y. Wakes y (w.lock m)) (sym is) z.0, z.1.wake);
+    };
+    done = fin _ w' t _ _ _ z.1.awake refl;
+    possible = tt;
+    carries = λ X. refl;
+  }
+  | inr z ↦ record {
+    end = any;
+    move = PendPassed m end;
+    can = record {
+      number = (pos, high);
+      awake = a;
+      stands = s;
+      finds = subst (λ y. Passes y (w.lock m)) (sym is) z.0;
+    };
+    done = fin _ w' t _ _ _ z.1 refl;
+    possible = tt;
+    carries = λ X. refl;
+  }
+]
 
 -- the entry is off the list: the release goes on by its rule
 cut_covers : (rules : Rules) (w : World) (t m h : ℕ) (k : Release) (r : ℕ) (w' : World) (rule : ReleaseRule)
@@ -184,7 +215,7 @@ cut_covers rules w t m h k r w' ClearsWord is same pos high a s d = record {
     number = (pos, high);
     awake = a;
     stands = s;
-    finds = subst (λ (x : Rules). Clears x.release) (sym same) (subst Clears (sym is) tt);
+    finds = subst (λ (x : Rules). Swaps x.release) (sym same) (subst Swaps (sym is) tt);
   };
   done = fin _ w' t _ _ _ d (ap (λ x. released_at x m k) is);
   possible = tt;
@@ -216,6 +247,69 @@ cut_covers rules w t m h k r w' TidiesWaiters is same pos high a s d = record {
   possible = tt;
   carries = λ X. refl;
 }
+cut_covers rules w t m h k r w' DropsOwner is same pos high a s d = record {
+  end = any;
+  move = CutHead m h k;
+  can = record {
+    number = (pos, high);
+    awake = a;
+    stands = s;
+    finds = subst (λ (x : Rules). Swaps x.release) (sym same) (subst Swaps (sym is) tt);
+  };
+  done = fin _ w' t _ _ _ d (ap (λ x. released_at x m k) is);
+  possible = tt;
+  carries = λ X. refl;
+}
+
+-- the word that a release of one step leaves
+left_so : (rules : Rules) (w : World) (rule : ReleaseRule) (v : ℕ) → rules.release ≡ rule → w.rules ≡ rules
+    → left_by rule v ≡ left_by w.rules.release v
+left_so rules w rule v is same = ap (λ x. left_by x v) (sym is ∙ ap (λ (x : Rules). x.release) (sym same))
+
+swapped : (rules : Rules) (w : World) (t m : ℕ) (k : Release) (r : ℕ) (w' : World) → 0 < t → t ≤ w.made
+    → w.asleep t ≡ None → (w.at t).point ≡ LeaveSwaps m k → r ≡ w.lock m
+    → w' ≡ write w (LockOf m) (left_by w.rules.release (w.lock m)) → IsMoveUnder rules w t (LeaveSwaps m k) r w'
+swapped rules w t m k r w' pos high a s told word = elim (cases_eq (waiters (w.lock m)) 0) [
+  | inl z ↦ record {
+    end = any;
+    move = SwapAlone m k;
+    can = record { number = (pos, high); awake = a; stands = s; finds = z };
+    done = fin _ w' t _ _ _ word (yes (waiters r) 0 _ _ (ap waiters told ∙ z));
+    possible = tt;
+    carries = λ X. refl;
+  }
+  | inr z ↦ record {
+    end = any;
+    move = SwapWake m k;
+    can = record { number = (pos, high); awake = a; stands = s; finds = z };
+    done = fin _ w' t _ _ _ word (no (waiters r) 0 _ _ (λ q. z (sym (ap waiters told) ∙ q)));
+    possible = tt;
+    carries = λ X. refl;
+  }
+]
+
+-- who gives a lock up has it
+giver_holds : (w : World) (T : Table) (t m : ℕ) (k : Release) → Good w T → (w.at t).point ≡ LeaveSwaps m k
+    → holds (w.at t) m ≡ true
+unfolding holds
+giver_holds w T t m k inv s = or_right (mem m (w.at t).list) _ (ap (λ y. own (entry_at y) m) s ∙ eq-eqb m m refl)
+
+swap_covers : (rules : Rules) (w : World) (T : Table) (t m : ℕ) (k : Release) (r : ℕ) (w' : World) (rule : ReleaseRule)
+    → rules.release ≡ rule → w.rules ≡ rules → Good w T → 0 < t → t ≤ w.made → w.asleep t ≡ None
+    → (w.at t).point ≡ LeaveSwaps m k → ServesUnder rules w t (LeaveSwaps m k) (given_up rule t m) r w'
+    → IsMoveUnder rules w t (LeaveSwaps m k) r w'
+swap_covers rules w T t m k r w' ClearsWord is same inv pos high a s d =
+    swapped rules w t m k r w' pos high a s d.0
+    (d.1 ∙ ap (write w (LockOf m)) (left_so rules w ClearsWord (w.lock m) is same))
+swap_covers rules w T t m k r w' KeepsWaiters is same inv pos high a s d = absurd d
+swap_covers rules w T t m k r w' TidiesWaiters is same inv pos high a s d = absurd d
+swap_covers rules w T t m k r w' DropsOwner is same inv pos high a s d =
+    let held = giver_holds w T t m k inv s in
+    let tied = tie_held (T.hold m) (w.lock m) t (inv.locks.tie m) (inv.locks.held m t held) in
+    let lives = tie_living (T.hold m) (w.lock m) t (inv.locks.tie m) (inv.locks.held m t held) in
+    swapped rules w t m k r w' pos high a s d.0
+    (d.1 ∙ ap (write w (LockOf m)) (owner_dropped (w.lock m) t tied.0 lives pos
+    ∙ left_so rules w DropsOwner (w.lock m) is same))
 
 none_of : (l : List ℕ) → length l ≡ 0 → l ≡ []
 none_of [] h = refl
@@ -237,6 +331,7 @@ wakes_one : (rule : ReleaseRule) (w : World) (x : Spot) (r : ℕ) (w' : World) �
 wakes_one ClearsWord w x r w' d = d
 wakes_one KeepsWaiters w x r w' d = d
 wakes_one TidiesWaiters w x r w' d = d.0
+wakes_one DropsOwner w x r w' d = d
 
 notify_covers : (rules : Rules) (w : World) (t : ℕ) (c : Member) (r : ℕ) (w' : World) → 0 < t → t ≤ w.made
     → w.asleep t ≡ None → (w.at t).point ≡ NotifyWakes c → WakesOne w (OnSequence c) w'
@@ -257,6 +352,8 @@ wake_covers : (rules : Rules) (w : World) (t m : ℕ) (k : Release) (r : ℕ) (w
 wake_covers rules w t m k r w' ClearsWord is same pos high a s d = plain_wake rules w t m k r w' pos high a s d
     (ap (λ x. woken_at x m k r) is)
 wake_covers rules w t m k r w' KeepsWaiters is same pos high a s d = plain_wake rules w t m k r w' pos high a s d
+    (ap (λ x. woken_at x m k r) is)
+wake_covers rules w t m k r w' DropsOwner is same pos high a s d = plain_wake rules w t m k r w' pos high a s d
     (ap (λ x. woken_at x m k r) is)
 wake_covers rules w t m k r w' TidiesWaiters is same pos high a s d = elim (cases_eq r 0) [
   | inl z ↦ record {
@@ -376,7 +473,7 @@ walk_covers rules w T t (suc m) x end r w' same inv pos high aw s d =
     ]
 
 pub covers : (rules : Rules) (w : World) (T : Table) (t : ℕ) (p : Point) (r : ℕ) (w' : World) → w.rules ≡ rules → Good w T
-    → 0 < t → t ≤ w.made → w.asleep t ≡ None → (w.at t).point ≡ p → ServesUnder rules w t p (request_under t p) r w' → IsMoveUnder rules w t p r w'
+    → 0 < t → t ≤ w.made → w.asleep t ≡ None → (w.at t).point ≡ p → ServesUnder rules w t p (request_under rules.release t p) r w' → IsMoveUnder rules w t p r w'
 unfolding joins is_made holds Knows
 covers rules w T t (EnterPends m) r w' same inv pos high a s d = record {
   end = any;
@@ -739,24 +836,8 @@ covers rules w T t (LeaveClears m k) r w' same inv pos high a s d = elim d.1 [
     carries = λ X. refl;
   }
 ]
-covers rules w T t (LeaveSwaps m k) r w' same inv pos high a s d = elim (cases_eq (waiters (w.lock m)) 0) [
-  | inl z ↦ record {
-    end = any;
-    move = SwapAlone m k;
-    can = record { number = (pos, high); awake = a; stands = s; finds = z };
-    done = fin _ w' t _ _ _ d.1 (yes (waiters r) 0 _ _ (ap waiters d.0 ∙ z));
-    possible = tt;
-    carries = λ X. refl;
-  }
-  | inr z ↦ record {
-    end = any;
-    move = SwapWake m k;
-    can = record { number = (pos, high); awake = a; stands = s; finds = z };
-    done = fin _ w' t _ _ _ d.1 (no (waiters r) 0 _ _ (λ q. z (sym (ap waiters d.0) ∙ q)));
-    possible = tt;
-    carries = λ X. refl;
-  }
-]
+covers rules w T t (LeaveSwaps m k) r w' same inv pos high a s d =
+    swap_covers rules w T t m k r w' rules.release refl same inv pos high a s d
 covers rules w T t (LeaveWakes m k) r w' same inv pos high a s d =
     wake_covers rules w t m k r w' rules.release refl same pos high a s d
 covers rules w T t (HasLeft m ToExit) r w' same inv pos high a s d = record {
@@ -821,17 +902,18 @@ covers rules w T t p r w' same inv pos high a s d = absurd d
 
 pub every_step_under : (version : ImageVersion) (rules : Rules) → AreSafe rules → (ss : List (ℕ × Move)) (w : World)
     → Leads (opening_under version rules) ss w → (t : ℕ) (p : Point) (r : ℕ) (w' : World) → 0 < t → t ≤ w.made
-    → w.asleep t ≡ None → (w.at t).point ≡ p → ServesUnder rules w t p (request_under t p) r w' → IsMoveUnder rules w t p r w'
+    → w.asleep t ≡ None → (w.at t).point ≡ p → ServesUnder rules w t p (request_under rules.release t p) r w' → IsMoveUnder rules w t p r w'
 every_step_under version rules safe ss w run t p r w' pos high a s d =
     covers rules w (last_table (opening_under version rules) (first_table (most_of version)) ss) t p r w'
     (rules_kept ss (opening_under version rules) w run) (good_under version rules safe ss w run) pos high a s d
 
 -- at the points of this machine's rules the two say the same
 served_plainly : (w : World) (t : ℕ) (p : Point) (r : ℕ) (w' : World) → Serves w t p (request t p) r w'
-    → ServesUnder standard_rules w t p (request_under t p) r w'
+    → ServesUnder standard_rules w t p (request_under ClearsWord t p) r w'
 served_plainly w t (LeaveLoads m k) r w' d = absurd d
 served_plainly w t (LeaveKeeps m v k) r w' d = absurd d
 served_plainly w t (LeaveClears m k) r w' d = absurd d
+served_plainly w t (LeaveSwaps m k) r w' d = d
 served_plainly w t (HasLeft m ToExit) r w' d = d
 served_plainly w t (HasLeft m (ToWait c s)) r w' d = d
 served_plainly w t (Walks zero x end) r w' d = d
@@ -857,4 +939,4 @@ pub every_step_is_a_move : (version : ImageVersion) (ss : List (ℕ × Move)) (w
     → (t : ℕ) (p : Point) (r : ℕ) (w' : World) → 0 < t → t ≤ w.made → w.asleep t ≡ None → (w.at t).point ≡ p
     → Serves w t p (request t p) r w' → IsMove w t p r w'
 every_step_is_a_move version ss w run t p r w' pos high a s d = moves_plainly w t p r w' d
-    (every_step_under version standard_rules (inl refl) ss w run t p r w' pos high a s (served_plainly w t p r w' d))
+    (every_step_under version standard_rules (inl tt) ss w run t p r w' pos high a s (served_plainly w t p r w' d))

@@ -39,6 +39,7 @@ use Rattle.protocol.proofs.Joins.{point_goes}
 use Rattle.protocol.proofs.KeptConds.{waiter_made}
 use Rattle.protocol.proofs.Kept.{kept, permitted, good_start}
 use Rattle.protocol.proofs.Good.{Good}
+use Rattle.protocol.specs.Rules.{DropsOwner}
 
 -- ---- whole runs
 pub with_permitted : (e : Option Event) (es : List Event) (T mid T' : Table) → PermitsMove e T mid
@@ -86,6 +87,7 @@ free_is : (rule : ReleaseRule) (v : ℕ) → (owner v ≡ 0) × (owner_died_bit 
 free_is ClearsWord v h plain = plain tt
 free_is KeepsWaiters v h plain = h
 free_is TidiesWaiters v h plain = h
+free_is DropsOwner v h plain = h
 
 hold_is : (rule : ReleaseRule) (h : Hold) (v : ℕ) → Tie h v → (Clears rule → h ≡ Free → v ≡ 0) → HoldIs rule h v
 unfolding Tie
@@ -233,7 +235,7 @@ good_under version rules safe ss w run = (run_kept ss (opening_under version rul
 
 pub good_run : (version : ImageVersion) (ss : List (ℕ × Move)) (w : World) → Leads (opening_world version) ss w
     → Good w (last_table (opening_world version) (first_table (most_of version)) ss)
-good_run version ss w run = good_under version standard_rules (inl refl) ss w run
+good_run version ss w run = good_under version standard_rules (inl tt) ss w run
 
 -- moves don't change the rules
 pub rules_kept : (ss : List (ℕ × Move)) (w w' : World) → Leads w ss w' → w'.rules ≡ w.rules
@@ -281,4 +283,4 @@ safe_no_wake_lost version rules safe ss w run =
 
 pub no_wake_lost : (version : ImageVersion) (ss : List (ℕ × Move)) (w : World) → Leads (opening_world version) ss w
     → IsExplainedByMoves version ss w
-no_wake_lost version ss w run = safe_no_wake_lost version standard_rules (inl refl) ss w run
+no_wake_lost version ss w run = safe_no_wake_lost version standard_rules (inl tt) ss w run

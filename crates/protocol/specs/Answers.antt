@@ -1,5 +1,5 @@
 -- What the shared words answer to a request, and where the thread stands after each answer.
-use Rattle.std.specs.Prelude.{◌≡◌, ◌≢◌, ℕ, zero, suc, ◌+◌, ◌==◌, if◌then◌else◌, Some, List, ◌∷◌, ◌⊎◌}
+use Rattle.std.specs.Prelude.{◌≡◌, ◌≢◌, ℕ, zero, suc, ◌+◌, ◌%◌, ◌==◌, if◌then◌else◌, Some, List, ◌∷◌, ◌⊎◌}
 use Rattle.words.specs.Outcomes.{cause_number}
 use Rattle.words.specs.Updates.{put}
 use Rattle.meaning.specs.Labels.{End, Aborted}
@@ -14,7 +14,7 @@ use Rattle.protocol.specs.Points.{LastWakes, HasEnded}
 use Rattle.protocol.specs.World.{World, awake_after, requeued_sleep, tail, IsWake}
 use Rattle.protocol.specs.Cells.{LockOf, IdOf, OutcomeOf, cell, write, cell_of}
 use Rattle.protocol.specs.Requests.{Request, AskNothing, AskLoad, AskStore, AskSwap, AskCompareSwap, AskOrWaiters}
-use Rattle.protocol.specs.Requests.{AskAddOne, AskWait, AskWakeOne, AskRequeue, AskFault, AskExitStep}
+use Rattle.protocol.specs.Requests.{AskAddOne, AskAdd, AskWait, AskWakeOne, AskRequeue, AskFault, AskExitStep}
 
 -- a wake of one sleeper, and what becomes of the world
 pub record WakesOne (w : World) (s : Spot) (w' : World) : Type 0 where
@@ -48,6 +48,7 @@ Serves w t p (AskCompareSwap a x v) r w' =
     (r ≡ cell w a) × (((cell w a ≡ x) × (w' ≡ write w a v)) ⊎ ((cell w a ≢ x) × (w' ≡ w)))
 Serves w t p (AskOrWaiters a) r w' = (r ≡ cell w a) × (w' ≡ write w a (with_waiters (cell w a)))
 Serves w t p (AskAddOne a) r w' = (r ≡ cell w a) × (w' ≡ write w a (cell w a + 1))
+Serves w t p (AskAdd a v) r w' = (r ≡ cell w a) × (w' ≡ write w a ((cell w a + v) % 4294967296))
 Serves w t p (AskWait s x) r w' =
     ((cell w (cell_of s) ≡ x) × (w' ≡ record w {
       asleep =

@@ -14,7 +14,7 @@ use Rattle.protocol.specs.Moves.{Fork, ForkFull, Claim, ReadClaimed, IdGone, IdT
 use Rattle.protocol.specs.Moves.{LearnAborted, CutHead}
 use Rattle.protocol.specs.Moves.{CutToLoad, KeepWake, KeepAlone, KeepFail, WakeNone, ClearBit}
 use Rattle.protocol.specs.Moves.{ClearFail, PendPassed}
-use Rattle.protocol.specs.Rules.{Wakes, Passes, Clears, Keeps, Tidies}
+use Rattle.protocol.specs.Rules.{Wakes, Passes, Swaps, Keeps, Tidies}
 
 -- a thread's innermost monitor
 abbrev pub HoldsFirst : Thread → ℕ → Type 0
@@ -51,7 +51,7 @@ Finds w t (Sleep m v k) = w.lock m ≡ v
 Finds w t (Again m v k) = w.lock m ≢ v
 Finds w t (FreeGot m v k) = w.lock m ≡ v
 Finds w t (FreeFail m v k) = w.lock m ≢ v
-Finds w t (CutHead m h r) = Clears w.rules.release
+Finds w t (CutHead m h r) = Swaps w.rules.release
 Finds w t (CutToLoad m h r) = Keeps w.rules.release
 Finds w t (KeepWake m v r) = (w.lock m ≡ v) × (waiters v ≢ 0)
 Finds w t (KeepAlone m v r) = (w.lock m ≡ v) × (waiters v ≡ 0)

@@ -1,5 +1,5 @@
 -- What a thread asks for at each point.
-use Rattle.std.specs.Prelude.{ℕ, suc}
+use Rattle.std.specs.Prelude.{ℕ, suc, ◌-◌}
 use Rattle.program.specs.declared.kinds.Member.{Member}
 use Rattle.meaning.specs.Labels.{Cause}
 use Rattle.protocol.specs.Word.{with_waiters}
@@ -22,6 +22,8 @@ pub data Request : Type 0 where
   -- sets the waiters bit of a lock word
   AskOrWaiters : Cell → Request
   AskAddOne : Cell → Request
+  -- adds a number, modulo 2^32
+  AskAdd : Cell → (value : ℕ) → Request
   AskWait : Spot → (expected : ℕ) → Request
   AskWakeOne : Spot → Request
   -- from the word of a condition to the lock of its monitor: none is woken, all are moved

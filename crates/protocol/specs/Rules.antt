@@ -1,19 +1,23 @@
 -- The rules of a machine and of its locks: whom an exit wakes at a pending entry, and how a lock is given up.
 use Rattle.std.specs.Prelude.{◌≡◌, ◌≢◌, ℕ, ◌⊎◌}
-use Rattle.protocol.specs.Word.{owner}
+use Rattle.protocol.specs.Word.{owner, waiters}
 
--- whom an exit wakes at a pending entry that the dying thread doesn't own: one sleeper whatever the word holds, or
--- only where the word names no owner (Linux)
+-- whom an exit wakes at a pending entry that the dying thread doesn't own: one sleeper whatever the word holds; or only
+-- where the word names no owner (Linux from 6.2 on); or where no owner is going to wake one, since the word names none
+-- or has no waiters bit (Linux of 2026)
 pub data ExitRule : Type 0 where
   WakesAlways : ExitRule
   WakesUnowned : ExitRule
+  WakesUncovered : ExitRule
 
--- how a lock is given up: its word is swapped for 0; or changed to what is left of the waiters bit; or that, and the
--- bit is cleared by a compare-and-swap once a wake has found nobody
+-- how a lock is given up: its word is swapped for 0; or changed to what is left of the waiters bit by a compare-and-swap;
+-- or that, and the bit is cleared once a wake has found nobody; or its owner's number is taken off it by a
+-- fetch-and-add, which leaves the waiters bit
 pub data ReleaseRule : Type 0 where
   ClearsWord : ReleaseRule
   KeepsWaiters : ReleaseRule
   TidiesWaiters : ReleaseRule
+  DropsOwner : ReleaseRule
 
 pub record Rules : Type 0 where
   pub exit : ExitRule
@@ -31,31 +35,63 @@ standard_rules = rules_of WakesAlways ClearsWord
 abbrev pub Wakes : ExitRule → (word : ℕ) → Type 0
 Wakes WakesAlways v = Unit {0}
 Wakes WakesUnowned v = owner v ≡ 0
+Wakes WakesUncovered v = (owner v ≡ 0) ⊎ (waiters v ≡ 0)
 
 -- or none
 abbrev pub Passes : ExitRule → (word : ℕ) → Type 0
 Passes WakesAlways v = ⊥
 Passes WakesUnowned v = owner v ≢ 0
+Passes WakesUncovered v = (owner v ≢ 0) × (waiters v ≢ 0)
 
 -- a release that swaps the word for 0
 abbrev pub Clears : ReleaseRule → Type 0
 Clears ClearsWord = Unit {0}
 Clears KeepsWaiters = ⊥
 Clears TidiesWaiters = ⊥
+Clears DropsOwner = ⊥
 
 -- a release by a compare-and-swap, which leaves the waiters bit
 abbrev pub Keeps : ReleaseRule → Type 0
 Keeps ClearsWord = ⊥
 Keeps KeepsWaiters = Unit {0}
 Keeps TidiesWaiters = Unit {0}
+Keeps DropsOwner = ⊥
 
 -- a release that clears the bit afterwards
 abbrev pub Tidies : ReleaseRule → Type 0
 Tidies ClearsWord = ⊥
 Tidies KeepsWaiters = ⊥
 Tidies TidiesWaiters = Unit {0}
+Tidies DropsOwner = ⊥
 
--- the pairs that lose no wake: any release where an exit always wakes; where it wakes at unowned words alone, only
--- the one that keeps the bit for good
+-- a release by one step, which swaps the word for 0 or takes the owner's number off it
+abbrev pub Swaps : ReleaseRule → Type 0
+Swaps ClearsWord = Unit {0}
+Swaps KeepsWaiters = ⊥
+Swaps TidiesWaiters = ⊥
+Swaps DropsOwner = Unit {0}
+
+-- what is left of the word that is given up
+abbrev pub left_by : ReleaseRule → (word : ℕ) → ℕ
+left_by ClearsWord v = 0
+left_by KeepsWaiters v = waiters v
+left_by TidiesWaiters v = waiters v
+left_by DropsOwner v = waiters v
+
+-- a release that leaves the waiters bit for good
+abbrev pub KeepsBit : ReleaseRule → Type 0
+KeepsBit ClearsWord = ⊥
+KeepsBit KeepsWaiters = Unit {0}
+KeepsBit TidiesWaiters = ⊥
+KeepsBit DropsOwner = Unit {0}
+
+-- an exit that passes a pending word only where its waiters bit covers who sleeps there
+abbrev pub SafeExit : ExitRule → Type 0
+SafeExit WakesAlways = Unit {0}
+SafeExit WakesUnowned = ⊥
+SafeExit WakesUncovered = Unit {0}
+
+-- the pairs that lose no wake: any release where who passes a pending word leaves its bit to somebody; else only those
+-- that keep the bit for good
 abbrev pub AreSafe : Rules → Type 0
-AreSafe r = (r.exit ≡ WakesAlways) ⊎ (r.release ≡ KeepsWaiters)
+AreSafe r = SafeExit r.exit ⊎ KeepsBit r.release

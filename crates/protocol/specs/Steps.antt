@@ -28,6 +28,7 @@ use Rattle.protocol.specs.Moves.{ClearFail, PendPassed}
 use Rattle.protocol.specs.Points.{LeaveLoads, LeaveKeeps, LeaveClears}
 use Rattle.protocol.specs.Origins.{from, Awake}
 use Rattle.protocol.specs.Finds.{Finds, HasNumber}
+use Rattle.protocol.specs.Rules.{left_by}
 
 -- thread t can make this move
 pub record Can (w : World) (t : ℕ) (m : Move) : Type 0 where
@@ -82,8 +83,10 @@ after w t (ClearPend m v) = go (record w { pending = put w.pending t 0 }) t Runs
 after w t (PendAgain m r) = go (record w { pending = put w.pending t (suc m) }) t (LeaveReads m r)
 after w t (ReadLink m r) = go w t (LeaveHeads m (w.link m) r)
 after w t (CutHead m h r) = go_list (record w { head = put w.head t h }) t (LeaveSwaps m r) (tail (w.at t).list)
-after w t (SwapWake m r) = go (record w { lock = put w.lock m 0 }) t (LeaveWakes m r)
-after w t (SwapAlone m r) = go (record w { lock = put w.lock m 0 }) t (HasLeft m r)
+after w t (SwapWake m r) =
+    go (record w { lock = put w.lock m (left_by w.rules.release (w.lock m)) }) t (LeaveWakes m r)
+after w t (SwapAlone m r) =
+    go (record w { lock = put w.lock m (left_by w.rules.release (w.lock m)) }) t (HasLeft m r)
 after w t (Wake m r woken) = go (record w { asleep = awake_after w.asleep woken }) t (HasLeft m r)
 after w t (CutToLoad m h r) = go_list (record w { head = put w.head t h }) t (LeaveLoads m r) (tail (w.at t).list)
 after w t (LoadLock m r) = go w t (LeaveKeeps m (w.lock m) r)

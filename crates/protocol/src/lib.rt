@@ -91,7 +91,7 @@ pub fn every_step_is_a_move_under()
         → (ss : List (ℕ × Move)) (w : World) → Leads (opening_under version rules) ss w
         → (t : ℕ) (p : Point) (r : ℕ) (w' : World) →
         0 < t → t ≤ w.made → w.asleep t ≡ None → (w.at t).point ≡ p
-        → ServesUnder rules w t p (request_under t p) r w'
+        → ServesUnder rules w t p (request_under rules.release t p) r w'
         → IsMoveUnder rules w t p r w' }
 {}
 
