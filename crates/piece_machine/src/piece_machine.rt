@@ -83,10 +83,9 @@ impl PieceMachine {
         ensures parts { IfOk result (λ m. parts m ≡ opening_at image.now buckets) }
         ensures opening { IfOk result (λ m. pieces m ≡ opening_pieces image.now buckets) }
     {
-        Ok(PieceMachine {
-            machine: Machine::new(alloc, image, buckets)?,
-            phases: Phases::new(alloc)?,
-        })
+        let phases = Phases::new(alloc)?;
+        let machine = Machine::new(alloc, image, buckets)?;
+        Ok(PieceMachine { machine, phases })
     }
 
     /// Makes room for `n` printed numbers at least.

@@ -4,7 +4,7 @@ ghost use Rattle.piece_machine.specs.PieceViews.{event_told};
 use machine::{Event, EventName};
 
 /// How a step is told of.
-#[derive(Clone, Copy, PartialEq, Eq, Debug)]
+#[derive(Clone, Copy)]
 pub enum Told {
     /// By its kind and its value, since it woke and moved nobody.
     Plain(EventName, u32),

@@ -21,8 +21,8 @@ all_first (suc n) (suc t) = all_first n t
 
 pub returns-clause-parts : goal.returns-clause-parts
 returns-clause-parts c =
-    let e = c.in_ok-new.ensures in
-    let items = c.in_ok-new-2.ensures in
+    let e = c.in_ok-machine.ensures in
+    let items = c.in_ok-phases.ensures in
     λ i. record {
       concrete = e.opening i;
       phase = (ap phase_in items ∙ fun_ext (all_first (most_threads + 1))) i;
@@ -32,9 +32,9 @@ returns-clause-parts c =
 
 pub returns-clause-opening : goal.returns-clause-opening
 returns-clause-opening c =
-    let v = c.in_ok-new.field-0 in
-    let e = c.in_ok-new.ensures in
-    let items = c.in_ok-new-2.ensures in
+    let v = c.in_ok-machine.machine in
+    let e = c.in_ok-machine.ensures in
+    let items = c.in_ok-phases.ensures in
     λ i. record {
       base = (ap state_of e.opening ∙ (opens_so c.args.image.now).0) i;
       phase = (ap phase_in items ∙ fun_ext (all_first (most_threads + 1))) i;
@@ -44,11 +44,11 @@ returns-clause-opening c =
 
 pub invariant_of-result : goal.invariant_of-result
 invariant_of-result c =
-    let v = c.in_ok-new.field-0 in
-    let e = c.in_ok-new.ensures in
-    let items = c.in_ok-new-2.ensures in
+    let v = c.in_ok-machine.machine in
+    let e = c.in_ok-machine.ensures in
+    let items = c.in_ok-phases.ensures in
     let some : 0 < c.args.buckets = omega (arith, some_bucket c.args.buckets c.requires) in
-    let opening : pieces_of v (phase_in c.in_ok-new-2.field-0) ≡ opening_pieces c.args.image.now c.args.buckets =
+    let opening : pieces_of v (phase_in c.in_ok-phases.phases) ≡ opening_pieces c.args.image.now c.args.buckets =
     returns-clause-opening c in
     record {
       well = rw e.program e.holds;
