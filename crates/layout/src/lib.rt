@@ -4,4 +4,4 @@
 mod monitor_place;
 mod placing;
 
-pub use placing::{Layout, place_as};
+pub use placing::{Layout, place, place_as};

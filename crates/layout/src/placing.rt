@@ -144,3 +144,15 @@ pub fn place_as(alloc: Global, checked: &Checked, version: ImageVersion) -> Resu
         pieces: program.procedures.len(),
     })
 }
+
+/// Where the words of a program's monitors lie in its image, which is of version 2.
+///
+/// # Errors
+///
+/// Want of memory, and nothing else.
+pub fn place(alloc: Global, checked: &Checked) -> Result<Layout, Refusal>
+    ensures layout { IfOk result (λ l. l ≡ layouts.layout_of (said_by checked.now)) }
+    ensures refusal { IfErr result (λ e. e ≡ out_of_memory) }
+{
+    place_as(alloc, checked, ImageVersion::Two)
+}
