@@ -1,7 +1,7 @@
 // What helps where a text has no tokens.
 
 use crate::slip_texts::{BRACES, COMMENT, UNEQUAL};
-use std::alloc::AllocError;
+use text_writer::TextWriter;
 
 // Whether a comment of another language begins in these bytes.
 fn has_foreign_comment(before: &[u8]) -> bool {
@@ -89,16 +89,28 @@ pub(crate) fn bad_token_slip(before: &[u8], rest: &[u8]) -> &'static str {
     }
 }
 
-/// Appends what is said of a byte past ASCII.
-pub(crate) fn append_not_ascii(out: &mut String, rest: &[u8]) -> Result<(), AllocError> {
-    if let Some(first) = rest.first() {
-        writeln!(
-            out,
-            "byte {first:02X} is no ASCII, which alone may stand in a text, in comments too"
-        )?;
+// The digit of a number below 16.
+fn digit_of(number: u8) -> char {
+    match number {
+        0..=9 => char::from(b'0'.saturating_add(number)),
+        _ => char::from(b'A'.saturating_sub(10).saturating_add(number)),
     }
-    match said_of(CHARACTERS, rest) {
-        Some(slip) => writeln!(out, "{slip}"),
-        None => Ok(()),
+}
+
+// Appends a byte as two digits.
+fn append_hexadecimal(out: &mut TextWriter, byte: u8) {
+    out.sign(digit_of(byte / 16));
+    out.sign(digit_of(byte % 16))
+}
+
+/// Appends what is said of a byte past ASCII.
+pub(crate) fn append_not_ascii(out: &mut TextWriter, rest: &[u8]) {
+    if let Some(first) = rest.first() {
+        out.text("byte ");
+        append_hexadecimal(out, *first);
+        out.line(" is no ASCII, which alone may stand in a text, in comments too");
+    }
+    if let Some(slip) = said_of(CHARACTERS, rest) {
+        out.line(slip)
     }
 }

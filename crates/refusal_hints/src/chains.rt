@@ -5,9 +5,9 @@ use crate::names::declared_at;
 use crate::scopes::{Scope, Walk};
 use crate::sought::{Sought, Wanted, monitor_of};
 use crate::spot::Spot;
-use hint_lines::append_shown;
 use scanner::{Keyword, Kind, Sign, Token};
-use std::alloc::{AllocError, Global};
+use std::alloc::Global;
+use text_writer::TextWriter;
 
 // How many calls are looked at, so that a long text takes little time, and how many of a chain are told.
 const MOST_CALLS: usize = 1000;
@@ -85,34 +85,36 @@ fn call_at<'t, 'a>(
 
 // Adds the call that begins with four tokens, where one does, in the scope that a walk comes to there.
 fn add_call<'t, 'a>(
+    out: &mut TextWriter,
     calls: &mut Vec<Call<'t, 'a>>,
     declarations: &[Declaration<'_>],
     walk: &mut Walk,
     four: &'t [Token<'a>],
-) -> Result<(), AllocError> {
+) {
     let [before, name, behind, last] = four else {
-        return Ok(());
+        return;
     };
     walk.pass(before.kind);
     if before.kind != Kind::Keyword(Keyword::Call) || calls.len() >= MOST_CALLS {
-        return Ok(());
+        return;
     }
-    calls.push(call_at(declarations, walk.scope, name, behind.kind, last))?;
-    Ok(())
+    out.push(
+        calls,
+        call_at(declarations, walk.scope, name, behind.kind, last),
+    )
 }
 
-// The calls of a text.
-fn calls_of<'t, 'a>(
-    alloc: Global,
+// Adds the calls of a text.
+fn add_calls<'t, 'a>(
+    out: &mut TextWriter,
+    calls: &mut Vec<Call<'t, 'a>>,
     declarations: &[Declaration<'_>],
     tokens: &'t [Token<'a>],
-) -> Result<Vec<Call<'t, 'a>>, AllocError> {
-    let mut calls = Vec::new(alloc);
+) {
     let mut walk = Walk::new();
     for four in tokens.windows(4) {
-        add_call(&mut calls, declarations, &mut walk, four)?;
+        add_call(out, calls, declarations, &mut walk, four);
     }
-    Ok(calls)
 }
 
 // Whether a body has a link.
@@ -127,89 +129,80 @@ fn is_linked(links: &[Link<'_, '_>], body: u32) -> bool {
 
 // Adds a link for each body that calls this one and has none yet.
 fn link_callers<'t, 'a>(
+    out: &mut TextWriter,
     links: &mut Vec<Link<'t, 'a>>,
     calls: &[Call<'t, 'a>],
     called: u32,
     next: Option<usize>,
-) -> Result<(), AllocError> {
+) {
     for call in calls {
         if call.called == called && !is_linked(links.as_slice(), call.caller) {
-            links.push(Link { call: *call, next })?;
+            out.push(links, Link { call: *call, next });
         }
     }
-    Ok(())
 }
 
 // Adds links from the callers of a body back and back, up to one that stands in that body, and says which that is.
 fn link_back<'t, 'a>(
+    out: &mut TextWriter,
     links: &mut Vec<Link<'t, 'a>>,
     calls: &[Call<'t, 'a>],
     body: u32,
-) -> Result<Option<usize>, AllocError> {
-    link_callers(links, calls, body, None)?;
+) -> Option<usize> {
+    link_callers(out, links, calls, body, None);
     for index in 0..calls.len() {
-        let Some(link) = links.get(index) else {
-            return Ok(None);
-        };
-        let caller = link.call.caller;
+        let caller = links.get(index)?.call.caller;
         if caller == body {
-            return Ok(Some(index));
+            return Some(index);
         }
-        link_callers(links, calls, caller, Some(index))?;
+        link_callers(out, links, calls, caller, Some(index));
     }
-    Ok(None)
+    None
 }
 
 // Appends where the procedure of this name is called.
-fn append_call(out: &mut String, name: &Token<'_>) -> Result<(), AllocError> {
-    append_shown(out, name.text)?;
-    let place = name.place;
-    writeln!(out, " is called at {}:{}", place.line, place.column)
+fn append_call(out: &mut TextWriter, name: &Token<'_>) {
+    out.shown(name.text);
+    let place = [u64::from(name.place.line), u64::from(name.place.column)];
+    out.form(" is called at $:$\n", &place)
 }
 
 // Appends the chain that begins with a link.
-fn append_links(out: &mut String, links: &[Link<'_, '_>], first: usize) -> Result<(), AllocError> {
+fn append_links(out: &mut TextWriter, links: &[Link<'_, '_>], first: usize) {
     let mut at = first;
     for _ in 0..MOST_TOLD {
         let Some(link) = links.get(at) else {
-            return Ok(());
+            return;
         };
-        append_call(out, link.call.name)?;
+        append_call(out, link.call.name);
         let Some(next) = link.next else {
-            return Ok(());
+            return;
         };
         at = next;
     }
-    Ok(())
 }
 
 // Appends the calls that lead from a body back to it.
-fn append_calls_back(
-    alloc: Global,
-    out: &mut String,
-    calls: &[Call<'_, '_>],
-    body: u32,
-) -> Result<(), AllocError> {
+fn append_calls_back(alloc: Global, out: &mut TextWriter, calls: &[Call<'_, '_>], body: u32) {
     let mut links = Vec::new(alloc);
-    match link_back(&mut links, calls, body)? {
-        Some(first) => append_links(out, links.as_slice(), first),
-        None => Ok(()),
+    if let Some(first) = link_back(out, &mut links, calls, body) {
+        append_links(out, links.as_slice(), first)
     }
 }
 
 /// Appends the calls, in their order, that lead from the procedure whose declared name stands at a place back to it.
 pub(crate) fn append_chain(
     alloc: Global,
-    out: &mut String,
+    out: &mut TextWriter,
     declarations: &[Declaration<'_>],
     tokens: &[Token],
     spot: &Spot<'_, '_>,
-) -> Result<(), AllocError> {
+) {
     let token = spot.token(0);
-    let body = match declared_at(declarations, token.place) {
-        Some(declared) => body_of(declared.sort),
-        None => return Ok(()),
+    let Some(declared) = declared_at(declarations, token.place) else {
+        return;
     };
-    let calls = calls_of(alloc, declarations, tokens)?;
-    append_calls_back(alloc, out, calls.as_slice(), body)
+    let mut calls = Vec::new(alloc);
+    add_calls(out, &mut calls, declarations, tokens);
+    append_calls_back(alloc, out, calls.as_slice(), body_of(declared.sort))
 }

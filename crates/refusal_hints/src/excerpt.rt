@@ -1,7 +1,6 @@
 // The source line of a refusal, and a caret under its place.
 
-use hint_lines::append_shown;
-use std::alloc::AllocError;
+use text_writer::TextWriter;
 
 // How many bytes of a long line are shown, and how many of them stand before the place.
 const WIDTH: usize = 72;
@@ -54,31 +53,29 @@ pub(crate) fn token_length(bytes: &[u8]) -> usize {
 }
 
 // Appends a source byte.
-fn append_byte(out: &mut String, byte: u8) -> Result<(), AllocError> {
+fn append_byte(out: &mut TextWriter, byte: u8) {
     if byte == b'\t' {
-        return out.push_str(TAB);
+        return out.text(TAB);
     }
-    append_shown(out, &[byte])
+    out.shown(&[byte])
 }
 
 // Appends source bytes.
-fn append_source(out: &mut String, bytes: &[u8]) -> Result<(), AllocError> {
+fn append_source(out: &mut TextWriter, bytes: &[u8]) {
     for byte in bytes {
-        append_byte(out, *byte)?;
+        append_byte(out, *byte);
     }
-    Ok(())
 }
 
 // Appends what stands under source bytes: blanks, or a caret's tail.
-fn append_under(out: &mut String, bytes: &[u8], under: char) -> Result<(), AllocError> {
+fn append_under(out: &mut TextWriter, bytes: &[u8], under: char) {
     for byte in bytes {
         if *byte == b'\t' {
-            out.push_str(TAB)?;
+            out.text(TAB);
         } else {
-            out.push(under)?;
+            out.sign(under);
         }
     }
-    Ok(())
 }
 
 // What is shown of the bytes before a place: of a long line, the last of them.
@@ -97,8 +94,8 @@ fn start_of<'t>(shown_before: &[u8], rest: &'t [u8]) -> &'t [u8] {
 }
 
 // Appends the caret, with the tail that its token's length gives it.
-fn append_caret(out: &mut String, shown: &[u8]) -> Result<(), AllocError> {
-    out.push('^')?;
+fn append_caret(out: &mut TextWriter, shown: &[u8]) {
+    out.text("^");
     let length = token_length(shown).min(shown.len());
     append_under(out, shown.get(1..length).unwrap_or(&[]), '~')
 }
@@ -106,40 +103,31 @@ fn append_caret(out: &mut String, shown: &[u8]) -> Result<(), AllocError> {
 // Appends a line of source bytes, those before a place and those from there on, where more may stand before and behind
 // them.
 fn append_line(
-    out: &mut String,
+    out: &mut TextWriter,
     left: &[u8],
     right: &[u8],
     more_before: bool,
     more_behind: bool,
-) -> Result<(), AllocError> {
-    out.push_str(if more_before { "  .." } else { "  " })?;
-    append_source(out, left)?;
-    append_source(out, right)?;
-    out.push_str(if more_behind { "..\n" } else { "\n" })
+) {
+    out.text(if more_before { "  .." } else { "  " });
+    append_source(out, left);
+    append_source(out, right);
+    out.text(if more_behind { "..\n" } else { "\n" })
 }
 
 // Appends a line with the caret under the first of the bytes on the right.
-fn append_pointer(
-    out: &mut String,
-    left: &[u8],
-    right: &[u8],
-    more_before: bool,
-) -> Result<(), AllocError> {
-    out.push_str(if more_before { "    " } else { "  " })?;
-    append_under(out, left, ' ')?;
-    append_caret(out, right)?;
-    out.push('\n')
+fn append_pointer(out: &mut TextWriter, left: &[u8], right: &[u8], more_before: bool) {
+    out.text(if more_before { "    " } else { "  " });
+    append_under(out, left, ' ');
+    append_caret(out, right);
+    out.text("\n")
 }
 
 /// Appends a line, given as its bytes before a place and those from there on, and a line with a caret under the place.
-pub(crate) fn append_excerpt(
-    out: &mut String,
-    before: &[u8],
-    rest: &[u8],
-) -> Result<(), AllocError> {
+pub(crate) fn append_excerpt(out: &mut TextWriter, before: &[u8], rest: &[u8]) {
     let left = end_of(before, rest);
     let right = start_of(left, rest);
     let more_before = left.len() < before.len();
-    append_line(out, left, right, more_before, right.len() < rest.len())?;
+    append_line(out, left, right, more_before, right.len() < rest.len());
     append_pointer(out, left, right, more_before)
 }

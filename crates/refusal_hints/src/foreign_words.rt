@@ -4,6 +4,7 @@ use crate::lexeme::{Lexeme, append_keyword};
 use crate::spot::{Spot, tokens_of};
 use scanner::{Keyword, Kind, Sign, Token};
 use std::alloc::{AllocError, Global};
+use text_writer::TextWriter;
 
 // The keyword that tokens begin with.
 fn first_keyword(tokens: &[Token<'_>]) -> Option<Keyword> {
@@ -31,32 +32,22 @@ fn keyword_in_capitals(alloc: Global, token: Token<'_>) -> Result<Option<Keyword
     keyword_of(alloc, capitals.as_slice())
 }
 
-// The keyword that a name in small letters is meant to be: what stands at the place, or else just before it.
-fn small_keyword(alloc: Global, spot: &Spot<'_, '_>) -> Result<Option<Keyword>, AllocError> {
+/// The keyword that a name in small letters is meant to be: what stands at the place, or else just before it.
+pub(crate) fn small_keyword(
+    alloc: Global,
+    spot: &Spot<'_, '_>,
+) -> Result<Option<Keyword>, AllocError> {
     match keyword_in_capitals(alloc, spot.token(0))? {
         Some(word) => Ok(Some(word)),
         None => keyword_in_capitals(alloc, spot.token_back(1)),
     }
 }
 
-// Appends that a keyword is written in capitals.
-fn append_in_capitals(alloc: Global, out: &mut String, word: Keyword) -> Result<(), AllocError> {
-    out.push_str("a keyword is written in capitals: ")?;
-    append_keyword(alloc, out, word)?;
-    out.push('\n')
-}
-
-/// Appends that a keyword is written in capitals, where one at the place or before it isn't, and says whether it did.
-pub(crate) fn append_small_keyword(
-    alloc: Global,
-    out: &mut String,
-    spot: &Spot<'_, '_>,
-) -> Result<bool, AllocError> {
-    let Some(word) = small_keyword(alloc, spot)? else {
-        return Ok(false);
-    };
-    append_in_capitals(alloc, out, word)?;
-    Ok(true)
+/// Appends that a keyword is written in capitals.
+pub(crate) fn append_in_capitals(alloc: Global, out: &mut TextWriter, word: Keyword) {
+    out.text("a keyword is written in capitals: ");
+    append_keyword(alloc, out, word);
+    out.text("\n")
 }
 
 // Words of other languages, and what is said of them.

@@ -11,15 +11,16 @@ use crate::spot::{Spot, tokens_around, tokens_of};
 use hint_lines::hint_lines;
 use scanner::{Place, Refusal, RefusalKind, Token};
 use std::alloc::{AllocError, Global};
+use text_writer::TextWriter;
 
 // Appends what helps where these tokens of a text tell it.
 fn append_at_token(
     alloc: Global,
-    out: &mut String,
+    out: &mut TextWriter,
     text: &[u8],
     tokens: &[Token],
     refusal: Refusal,
-) -> Result<(), AllocError> {
+) {
     let (before, from) = tokens_around(tokens, refusal.place);
     if refusal.kind == RefusalKind::Expected {
         return append_expected(alloc, out, before, from);
@@ -36,29 +37,21 @@ fn append_at_token(
 }
 
 // Appends what helps where the tokens of a text tell it.
-fn append_by_tokens(
-    alloc: Global,
-    out: &mut String,
-    text: &[u8],
-    refusal: Refusal,
-) -> Result<(), AllocError> {
-    let tokens = tokens_of(alloc, text)?;
-    append_at_token(alloc, out, text, tokens.as_slice(), refusal)
+fn append_by_tokens(alloc: Global, out: &mut TextWriter, text: &[u8], refusal: Refusal) {
+    match tokens_of(alloc, text) {
+        Ok(tokens) => append_at_token(alloc, out, text, tokens.as_slice(), refusal),
+        Err(_) => out.fail(),
+    }
 }
 
 // Appends the line of a refusal's place, and what helps with it.
-fn append_at_place(
-    alloc: Global,
-    out: &mut String,
-    text: &[u8],
-    refusal: Refusal,
-) -> Result<(), AllocError> {
+fn append_at_place(alloc: Global, out: &mut TextWriter, text: &[u8], refusal: Refusal) {
     let Place { line, column } = refusal.place;
     let (before, rest) = split_line(text, line, column);
-    append_excerpt(out, before, rest)?;
+    append_excerpt(out, before, rest);
     match refusal.kind {
         RefusalKind::NotAscii => append_not_ascii(out, rest),
-        RefusalKind::BadToken => writeln!(out, "{}", bad_token_slip(before, rest)),
+        RefusalKind::BadToken => out.line(bad_token_slip(before, rest)),
         _ => append_by_tokens(alloc, out, text, refusal),
     }
 }
@@ -71,17 +64,16 @@ fn without_last_feed(lines: &[u8]) -> &[u8] {
     }
 }
 
-// All that is said, as lines.
-fn said_of(alloc: Global, file: &str, text: &[u8], refusal: Refusal) -> Result<String, AllocError> {
-    let mut out = String::new(alloc);
+// Appends all that is said, as lines.
+fn append_said(alloc: Global, out: &mut TextWriter, file: &str, text: &[u8], refusal: Refusal) {
     let Place { line, column } = refusal.place;
-    writeln!(out, "{file}:{line}:{column}")?;
+    out.text(file);
+    out.form(":$:$\n", &[u64::from(line), u64::from(column)]);
     match refusal.kind {
-        RefusalKind::Memory => out.push_str("memory ran out\n")?,
-        RefusalKind::StrayPiece => out.push_str("a worker's piece of code went astray\n")?,
-        _ => append_at_place(alloc, &mut out, text, refusal)?,
+        RefusalKind::Memory => out.text("memory ran out\n"),
+        RefusalKind::StrayPiece => out.text("a worker's piece of code went astray\n"),
+        _ => append_at_place(alloc, out, text, refusal),
     }
-    Ok(out)
 }
 
 /// The hints to a refusal of a source text, where the file of this name has the text: lines that come behind the
@@ -101,6 +93,8 @@ pub fn hints_of(
 ) -> Result<String, AllocError>
     ensures { IfOk result (λ s. AreHintLines (string_bytes s)) }
 {
-    let said = said_of(alloc, file, text, *refusal)?;
+    let mut out = TextWriter::new(alloc);
+    append_said(alloc, &mut out, file, text, *refusal);
+    let said = out.finish()?;
     hint_lines(alloc, without_last_feed(said.as_bytes()))
 }

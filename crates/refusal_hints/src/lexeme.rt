@@ -1,6 +1,6 @@
-use hint_lines::append_shown;
 use scanner::{Keyword, Kind, Sign};
-use std::alloc::{AllocError, Global};
+use std::alloc::Global;
+use text_writer::TextWriter;
 
 /// A token as the grammar has it: without its bytes and its place.
 #[derive(Clone, Copy, PartialEq, Eq)]
@@ -60,34 +60,27 @@ fn sign_text(sign: Sign) -> &'static str {
 }
 
 // Appends a word in capitals.
-fn append_capitals(out: &mut String, word: &str) -> Result<(), AllocError> {
+fn append_capitals(out: &mut TextWriter, word: &str) {
     for byte in word.as_bytes() {
-        append_shown(out, &[byte.to_ascii_uppercase()])?;
+        out.shown(&[byte.to_ascii_uppercase()]);
     }
-    Ok(())
 }
 
 /// Appends how a keyword is written: as its variant is, in capitals.
-pub(crate) fn append_keyword(
-    alloc: Global,
-    out: &mut String,
-    word: Keyword,
-) -> Result<(), AllocError> {
-    let name = format!(in alloc; "{word:?}")?;
-    append_capitals(out, name.as_str())
+pub(crate) fn append_keyword(alloc: Global, out: &mut TextWriter, word: Keyword) {
+    match format!(in alloc; "{word:?}") {
+        Ok(name) => append_capitals(out, name.as_str()),
+        Err(_) => out.fail(),
+    }
 }
 
 /// Appends how a lexeme is written. What has no one spelling is in small letters, which no keyword is.
-pub(crate) fn append_lexeme(
-    alloc: Global,
-    out: &mut String,
-    lexeme: Lexeme,
-) -> Result<(), AllocError> {
+pub(crate) fn append_lexeme(alloc: Global, out: &mut TextWriter, lexeme: Lexeme) {
     match lexeme {
         Lexeme::Word(word) => append_keyword(alloc, out, word),
-        Lexeme::Mark(sign) => out.push_str(sign_text(sign)),
-        Lexeme::Name => out.push_str("name"),
-        Lexeme::Number => out.push_str("number"),
-        Lexeme::Finish => out.push_str("end-of-text"),
+        Lexeme::Mark(sign) => out.text(sign_text(sign)),
+        Lexeme::Name => out.text("name"),
+        Lexeme::Number => out.text("number"),
+        Lexeme::Finish => out.text("end-of-text"),
     }
 }

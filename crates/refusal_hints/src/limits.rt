@@ -6,7 +6,8 @@ use crate::names::declared_at;
 use crate::scopes::{Walk, walk_over};
 use crate::spot::Spot;
 use scanner::{Keyword, Kind, MOST_BYTES, Place, Token};
-use std::alloc::{AllocError, Global};
+use std::alloc::Global;
+use text_writer::TextWriter;
 
 // How many words the variables of all monitors may have (docs/language.md, "Limits").
 const MOST_MEMBER_WORDS: usize = 1024;
@@ -80,17 +81,14 @@ fn count_to(declarations: &[Declaration<'_>], here: &Declaration<'_>) -> usize {
 }
 
 // Appends which of the names that it is counted with a declared one is.
-fn append_count(
-    out: &mut String,
-    declarations: &[Declaration<'_>],
-    here: &Declaration<'_>,
-) -> Result<(), AllocError> {
+fn append_count(out: &mut TextWriter, declarations: &[Declaration<'_>], here: &Declaration<'_>) {
     let (most, what) = most_of(here);
     let count = count_to(declarations, here);
     if count <= most {
-        return Ok(());
+        return;
     }
-    writeln!(out, "this is number {count} of the {what}")
+    out.form("this is number $ of the ", &[count as u64]);
+    out.line(what)
 }
 
 // How many words a variable has whose type begins with these two tokens.
@@ -123,48 +121,45 @@ fn member_words_to(tokens: &[Token<'_>], place: Place) -> usize {
 
 // Appends how many words the variables of monitors have up to a declared one, where it is one of them and they have too
 // many.
-fn append_words(
-    out: &mut String,
-    tokens: &[Token<'_>],
-    here: &Declaration<'_>,
-) -> Result<(), AllocError> {
+fn append_words(out: &mut TextWriter, tokens: &[Token<'_>], here: &Declaration<'_>) {
     match here.sort {
         Sort::Variable(_) if here.scope.body == 0 => {}
-        _ => return Ok(()),
+        _ => return,
     }
     let words = member_words_to(tokens, here.name.place);
-    if words <= MOST_MEMBER_WORDS {
-        return Ok(());
+    if words > MOST_MEMBER_WORDS {
+        out.form("up to this one they have $\n", &[words as u64])
     }
-    writeln!(out, "up to this one they have {words}")
 }
 
 // Appends which of the names that it is counted with stands at a place, where it is a declared one.
 fn append_name(
-    out: &mut String,
+    out: &mut TextWriter,
     declarations: &[Declaration<'_>],
     tokens: &[Token<'_>],
     place: Place,
-) -> Result<(), AllocError> {
+) {
     let Some(here) = declared_at(declarations, place) else {
-        return Ok(());
+        return;
     };
-    append_count(out, declarations, here)?;
+    append_count(out, declarations, here);
     append_words(out, tokens, here)
 }
 
 /// Appends which limit is passed at a place of a text, and of declared names which of them stands there.
 pub(crate) fn append_limit(
     alloc: Global,
-    out: &mut String,
+    out: &mut TextWriter,
     text: &[u8],
     tokens: &[Token],
     spot: &Spot<'_, '_>,
     place: Place,
-) -> Result<(), AllocError> {
-    writeln!(out, "{}", limit_at(text, place, spot))?;
-    let declarations = declarations_of(alloc, tokens)?;
-    append_name(out, declarations.as_slice(), tokens, place)
+) {
+    out.line(limit_at(text, place, spot));
+    match declarations_of(alloc, tokens) {
+        Ok(found) => append_name(out, found.as_slice(), tokens, place),
+        Err(_) => out.fail(),
+    }
 }
 
 // The limit that is passed at a place of a text.

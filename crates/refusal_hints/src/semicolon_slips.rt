@@ -4,7 +4,7 @@ use crate::lexeme::Lexeme;
 use crate::slip_texts::LAST_END;
 use crate::spot::Spot;
 use scanner::{Keyword, Sign};
-use std::alloc::AllocError;
+use text_writer::TextWriter;
 
 // What is said of it where one of these may stand.
 const ACCEPTED: &[(Lexeme, &str)] = &[
@@ -82,8 +82,9 @@ pub(crate) fn lacks_semicolon(spot: &Spot<'_, '_>) -> bool {
 }
 
 /// Appends where a `;` is missing: just behind the token before.
-pub(crate) fn append_lacking(out: &mut String, spot: &Spot<'_, '_>) -> Result<(), AllocError> {
+pub(crate) fn append_lacking(out: &mut TextWriter, spot: &Spot<'_, '_>) {
     let last = spot.token_back(1);
-    let column = (last.place.column as usize).saturating_add(last.text.len());
-    writeln!(out, "a ; is missing at {}:{column}", last.place.line)
+    let column = u64::from(last.place.column).saturating_add(last.text.len() as u64);
+    let place = [u64::from(last.place.line), column];
+    out.form("a ; is missing at $:$\n", &place)
 }

@@ -10,7 +10,8 @@ use crate::sought::sought_at;
 use crate::spot::Spot;
 use crate::wanted_types::{header_here, wanted_at};
 use scanner::{Keyword, Sign, Token};
-use std::alloc::{AllocError, Global};
+use std::alloc::Global;
+use text_writer::TextWriter;
 
 const TRUTHS: &str = "AND, OR and NOT take BOOLEAN";
 
@@ -105,10 +106,10 @@ fn wanted_before(here: Lexeme, behind: Lexeme) -> Option<&'static str> {
 }
 
 // Appends a sentence, if there is one.
-fn append_sentence(out: &mut String, sentence: Option<&'static str>) -> Result<(), AllocError> {
+fn append_sentence(out: &mut TextWriter, sentence: Option<&'static str>) {
     match sentence {
-        Some(sentence) => writeln!(out, "{sentence}"),
-        None => Ok(()),
+        Some(sentence) => out.line(sentence),
+        None => {}
     }
 }
 
@@ -147,56 +148,46 @@ fn misfit_at(
 }
 
 // Appends a type with what stands before and behind it.
-fn append_between(
-    alloc: Global,
-    out: &mut String,
-    before: &str,
-    word: Keyword,
-    behind: &str,
-) -> Result<(), AllocError> {
-    out.push_str(before)?;
-    append_keyword(alloc, out, word)?;
-    out.push_str(behind)
+fn append_between(alloc: Global, out: &mut TextWriter, before: &str, word: Keyword, behind: &str) {
+    out.text(before);
+    append_keyword(alloc, out, word);
+    out.text(behind)
 }
 
 // Appends the type of what begins at a place, and the one that is wanted there.
-fn append_misfit(
-    alloc: Global,
-    out: &mut String,
-    misfit: Option<(Keyword, Keyword)>,
-) -> Result<(), AllocError> {
+fn append_misfit(alloc: Global, out: &mut TextWriter, misfit: Option<(Keyword, Keyword)>) {
     match misfit {
         Some((held, wanted)) if held != wanted => {
-            append_between(alloc, out, "what begins here is ", held, ", and ")?;
+            append_between(alloc, out, "what begins here is ", held, ", and ");
             append_between(alloc, out, "", wanted, " is wanted\n")
         }
-        _ => Ok(()),
+        _ => {}
     }
 }
 
 // Appends how many parameters a procedure has, and what it gives.
-fn append_header(
-    alloc: Global,
-    out: &mut String,
-    header: Header<'_, '_>,
-) -> Result<(), AllocError> {
+fn append_header(alloc: Global, out: &mut TextWriter, header: Header<'_, '_>) {
     let count = header.count();
-    let plural = if count == 1 { "" } else { "s" };
-    write!(out, "it has {count} parameter{plural}, and gives ")?;
+    out.form("it has $ parameter", &[count as u64]);
+    out.text(if count == 1 {
+        ", and gives "
+    } else {
+        "s, and gives "
+    });
     match header.result {
         Some(result) => append_between(alloc, out, "", result, "\n"),
-        None => out.push_str("nothing\n"),
+        None => out.text("nothing\n"),
     }
 }
 
 // Appends what the procedure takes and gives whose name stands at a place, or else both types, where they are known.
 fn append_types(
     alloc: Global,
-    out: &mut String,
+    out: &mut TextWriter,
     declarations: &[Declaration<'_>],
     tokens: &[Token<'_>],
     spot: &Spot<'_, '_>,
-) -> Result<(), AllocError> {
+) {
     match header_here(declarations, tokens, spot) {
         Some(header) => append_header(alloc, out, header),
         None => append_misfit(alloc, out, misfit_at(declarations, tokens, spot)),
@@ -206,13 +197,13 @@ fn append_types(
 /// Appends what helps with a type.
 pub(crate) fn append_type(
     alloc: Global,
-    out: &mut String,
+    out: &mut TextWriter,
     declarations: &[Declaration<'_>],
     tokens: &[Token<'_>],
     spot: &Spot<'_, '_>,
-) -> Result<(), AllocError> {
-    append_found(alloc, out, declarations, spot)?;
-    append_types(alloc, out, declarations, tokens, spot)?;
-    append_sentence(out, wanted_behind(spot.back(1)))?;
+) {
+    append_found(alloc, out, declarations, spot);
+    append_types(alloc, out, declarations, tokens, spot);
+    append_sentence(out, wanted_behind(spot.back(1)));
     append_sentence(out, wanted_before(spot.here(), spot.ahead(1)))
 }
