@@ -155,6 +155,13 @@ fn write_data(alloc: Global, out: &mut TextWriter, run: &PagedRun<'_, '_>) {
     out.text("}\n");
 }
 
+// Writes texts as they are.
+fn write_parts(out: &mut TextWriter, parts: &[&str]) {
+    for part in parts {
+        out.text(part);
+    }
+}
+
 /// The page of a run: HTML with its styles and its script within, that asks for nothing from elsewhere. Of actions that
 /// aren't a run it shows those before the first that isn't possible. `docs/pictures.md` says what its JSON has.
 ///
@@ -163,12 +170,8 @@ fn write_data(alloc: Global, out: &mut TextWriter, run: &PagedRun<'_, '_>) {
 /// Where memory runs out, and for nothing else.
 pub fn page(alloc: Global, run: &PagedRun<'_, '_>) -> Result<String, AllocError> {
     let mut out = TextWriter::new(alloc);
-    for part in [HEAD, STYLES, BODY] {
-        out.text(part);
-    }
+    write_parts(&mut out, &[HEAD, STYLES, BODY]);
     write_data(alloc, &mut out, run);
-    for part in [MODEL, LISTS, LANES, PANELS, CONTROLS, TAIL] {
-        out.text(part);
-    }
+    write_parts(&mut out, &[MODEL, LISTS, LANES, PANELS, CONTROLS, TAIL]);
     out.finish()
 }

@@ -64,6 +64,7 @@ function badge(number, name) {
   return made;
 }
 function appendNumbers(node, numbers, name) {
-  for (const number of numbers) node.append(badge(number, name), ' ');
+  for (const number of numbers.slice(0, 40)) node.append(badge(number, name), ' ');
+  if (numbers.length > 40) node.append('and ' + (numbers.length - 40) + ' more');
 }
 ";

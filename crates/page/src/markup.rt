@@ -39,7 +39,7 @@ pub(crate) const BODY: &str = "</head>
 <section aria-label='Actions'><h2>Actions</h2><div id='actions' class='rows' tabindex='0' role='listbox' aria-label='Actions'></div></section>
 <section id='state' aria-label='State' tabindex='0'>
 <div id='hang'></div>
-<h2>Processes</h2><div id='processes'></div>
+<h2>Processes</h2><table id='processes'></table>
 <h2>Monitors</h2><div id='monitors'></div>
 </section>
 </main>

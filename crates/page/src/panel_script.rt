@@ -140,12 +140,24 @@ function fillProcess(process) {
   row.append(sign, cell);
   return row;
 }
+// Rows that say the same as before are kept.
+const processRows = new Map();
+let listed = '';
+function processRow(number) {
+  const process = processes[number];
+  const says = [doing(process, moment), process.line.at(moment), process.stack.index(moment), number === current().process].join(';');
+  const known = processRows.get(number);
+  if (known && known.says === says) return known.row;
+  const row = fillProcess(process);
+  if (known) known.row.replaceWith(row);
+  processRows.set(number, {says, row});
+  return row;
+}
 function fillProcesses() {
-  const table = make('table');
-  for (const number of shownLanes) {
-    if (processes[number].made <= moment) table.append(fillProcess(processes[number]));
-  }
-  byId('processes').replaceChildren(table);
+  const numbers = shownLanes.filter(number => processes[number].made <= moment);
+  const rows = numbers.map(processRow);
+  if (numbers.join() !== listed) byId('processes').replaceChildren(...rows);
+  listed = numbers.join();
 }
 // At the end of a hang: who waits for whom.
 function hangOf(process) {

@@ -110,29 +110,40 @@ fn is_stuck(checked: &Checked<'_>, state: &SourceState<'_>) -> bool {
     rests
 }
 
-// Writes the actions, and whether no process can move at their end.
-fn write_run(alloc: Global, out: &mut TextWriter, run: &PagedRun<'_, '_>, asides: &[String]) {
-    let Ok(mut state) = SourceState::opening(alloc, run.checked, ImageVersion::Two) else {
-        return out.fail();
-    };
+// Writes the actions from a state on, and whether no process can move at their end.
+fn write_run<'p>(
+    alloc: Global,
+    out: &mut TextWriter,
+    run: &PagedRun<'p, '_>,
+    asides: &[String],
+    state: &mut SourceState<'p>,
+) {
     let mut scratch = Scratch {
         line: Vec::new(alloc),
         values: Vec::new(alloc),
     };
-    write_from(alloc, out, run, asides, &mut state, &mut scratch);
+    write_from(alloc, out, run, asides, state, &mut scratch);
     out.text("\n],\n\"stuck\":");
-    out.text(if is_stuck(run.checked, &state) {
+    out.text(if is_stuck(run.checked, state) {
         "true"
     } else {
         "false"
     });
 }
 
+// Writes the run from its opening state on.
+fn write_whole(alloc: Global, out: &mut TextWriter, run: &PagedRun<'_, '_>, asides: &[String]) {
+    match SourceState::opening(alloc, run.checked, ImageVersion::Two) {
+        Ok(mut state) => write_run(alloc, out, run, asides, &mut state),
+        Err(_) => out.fail(),
+    }
+}
+
 /// Writes the actions of a run, with what each of them changes, and whether the run is stuck.
 pub(crate) fn write_actions(alloc: Global, out: &mut TextWriter, run: &PagedRun<'_, '_>) {
     out.text(",\n\"actions\":[null");
     match asides_of(alloc, run.file, run.text, run.checked, run.actions) {
-        Ok(asides) => write_run(alloc, out, run, asides.as_slice()),
+        Ok(asides) => write_whole(alloc, out, run, asides.as_slice()),
         Err(_) => out.fail(),
     }
 }
