@@ -1,3 +1,4 @@
 mod Counts
 mod Failing
 mod Fronts
+mod Puts

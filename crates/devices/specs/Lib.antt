@@ -2,3 +2,4 @@ pub mod Counting
 pub mod Reading
 pub mod Writing
 pub mod Reports
+pub mod Files

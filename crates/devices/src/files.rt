@@ -1,3 +1,6 @@
+ghost use Rattle.std.specs.Prelude.{OnOk};
+ghost use Rattle.devices.specs.Files.{IsPut};
+
 use crate::counted::Counted;
 use crate::sweeping::{ENDING, sweep};
 use crate::writing::write_bytes;
@@ -23,6 +26,7 @@ const ALL: u32 = 0o777;
 const NO_GROUP: u32 = 0o707;
 
 /// Writes a file of this name with these bytes, in place of what it held: it has all of them, or what it had before.
+/// The contract says that some file of the runtime has got them; which one stands under the name no call of it tells.
 ///
 /// The bytes go to a file beside it that is made anew, and which then takes its name. Nothing that stands at the file
 /// beside is followed or written to; a link of the name itself is replaced. Nobody may do more with the file than
@@ -34,7 +38,9 @@ const NO_GROUP: u32 = 0o707;
 /// What the standard library's files can't do: nothing waits for the disk, so after a loss of power the file can be
 /// shorter. And where a run in a container of its own writes a file of this name in the same folder, one of the two can
 /// fail, or, where both have one process number, take the other's file.
-pub fn put_file<R: Files + AllocGlobal>(rt: &R, name: &str, bytes: &[u8]) -> io::Result<()> {
+pub fn put_file<R: Files + AllocGlobal>(rt: &R, name: &str, bytes: &[u8]) -> io::Result<()>
+    ensures { OnOk result (IsPut R.File.contents bytes.now) }
+{
     let stands = fs::metadata(rt, name).ok();
     if is_device(name, stands.as_ref()) {
         return write_bytes(&mut Counted::new(fs::create(rt, name)?), bytes);
@@ -74,7 +80,9 @@ fn fill_and_rename<R: Files>(
     file: R::File,
     name: &str,
     bytes: &[u8],
-) -> io::Result<()> {
+) -> io::Result<()>
+    ensures { OnOk result (IsPut R.File.contents bytes.now) }
+{
     write_bytes(&mut Counted::new(file), bytes)?;
     fs::rename(rt, part, name)
 }
