@@ -18,8 +18,9 @@ pub record IsRead (text : List ℕ) (c : CheckedProgram) : Type 0 where
   pub accepts : AcceptsText text (said_by c)
   pub well_formed : WellFormed (said_by c)
 
--- the text is a program; the image is its code, no longer than an image may have, and refines it, on a machine whose
--- futex calls are one step each, and on one that takes them in pieces, over any number of buckets
+-- the text is a program; the image is its code, no longer than an image may have, and refines it. The promise is the line
+-- `pieces`, of a machine that takes futex calls in pieces, over any number of buckets, as each run of a command does. The
+-- line `refines` is the same of a machine whose futex calls are one step each; neither follows from the other
 pub record IsCompiled (text : List ℕ) (image : Image) : Type 0 where
   pub program : Program
   pub accepts : AcceptsText text program
