@@ -32,14 +32,20 @@ fn zeros(alloc: Global, members: &[&[u8]]) -> Result<Vec<u64>, AllocError> {
     Ok(zeros)
 }
 
+// A monitor of these members as a run begins.
+fn new_gate(alloc: Global, members: &[&[u8]]) -> Result<Gate, AllocError> {
+    let waiting = zeros(alloc, members)?;
+    Ok(Gate {
+        given_up: None,
+        waiting,
+    })
+}
+
 /// The monitors as a run begins.
 pub(crate) fn gates(alloc: Global, names: &Names) -> Result<Vec<Gate>, AllocError> {
     let mut gates = Vec::new(alloc);
     for naming in names.monitors.iter() {
-        gates.push(Gate {
-            given_up: None,
-            waiting: zeros(alloc, naming.members.as_slice())?,
-        })?;
+        gates.push(new_gate(alloc, naming.members.as_slice())?)?;
     }
     Ok(gates)
 }
@@ -51,14 +57,9 @@ fn waiting(gates: &mut [Gate], condition: Member) -> Option<&mut u64> {
 }
 
 // A process waits on a condition more, or less.
-fn recount(
-    tape: &mut Tape,
-    gates: &mut [Gate],
-    condition: Member,
-    begins: bool,
-) -> Result<(), AllocError> {
+fn recount(tape: &mut Tape, gates: &mut [Gate], condition: Member, begins: bool) {
     let Some(count) = waiting(gates, condition) else {
-        return Ok(());
+        return;
     };
     if begins {
         *count = count.saturating_add(1);
@@ -91,73 +92,47 @@ impl Track {
     }
 
     // Ends the innermost slice.
-    fn close(
-        &mut self,
-        tape: &mut Tape,
-        gates: &mut [Gate],
-        process: u64,
-    ) -> Result<(), AllocError> {
+    fn close(&mut self, tape: &mut Tape, gates: &mut [Gate], process: u64) {
         let Some(slice) = self.open.pop() else {
-            return Ok(());
+            return;
         };
-        tape.close(process, slice)?;
+        tape.close(process, slice);
         match slice {
             Slice::Waits(condition) => recount(tape, gates, condition, false),
-            _ => Ok(()),
+            _ => {}
         }
     }
 
     // Begins a slice within the others.
-    fn open(
-        &mut self,
-        tape: &mut Tape,
-        gates: &mut [Gate],
-        process: u64,
-        slice: Slice,
-    ) -> Result<(), AllocError> {
-        self.open.push(slice)?;
-        tape.open(process, slice)?;
+    fn open(&mut self, tape: &mut Tape, gates: &mut [Gate], process: u64, slice: Slice) {
+        tape.out.push(&mut self.open, slice);
+        tape.open(process, slice);
         match slice {
             Slice::Waits(condition) => recount(tape, gates, condition, true),
-            _ => Ok(()),
+            _ => {}
         }
     }
 
     // Ends its slices from a place on, the innermost first.
-    fn close_from(
-        &mut self,
-        tape: &mut Tape,
-        gates: &mut [Gate],
-        process: u64,
-        kept: usize,
-    ) -> Result<(), AllocError> {
+    fn close_from(&mut self, tape: &mut Tape, gates: &mut [Gate], process: u64, kept: usize) {
         for _place in kept..self.open.len() {
-            self.close(tape, gates, process)?;
+            self.close(tape, gates, process);
         }
-        Ok(())
     }
 
     /// From now on the process is in these slices: some end, and others begin.
-    pub fn change(
-        &mut self,
-        tape: &mut Tape,
-        gates: &mut [Gate],
-        process: u64,
-        slices: &[Slice],
-    ) -> Result<(), AllocError> {
+    pub fn change(&mut self, tape: &mut Tape, gates: &mut [Gate], process: u64, slices: &[Slice]) {
         let kept = self.kept(slices);
-        self.close_from(tape, gates, process, kept)?;
+        self.close_from(tape, gates, process, kept);
         for slice in slices.get(kept..).unwrap_or(&[]) {
-            self.open(tape, gates, process, *slice)?;
+            self.open(tape, gates, process, *slice);
         }
-        Ok(())
     }
 
     /// Ends its slices with the run, though the process goes on.
-    pub fn cut(&self, tape: &mut Tape, process: u64) -> Result<(), AllocError> {
+    pub fn cut(&self, tape: &mut Tape, process: u64) {
         for slice in self.open.iter().rev() {
-            tape.close(process, *slice)?;
+            tape.close(process, *slice);
         }
-        Ok(())
     }
 }
