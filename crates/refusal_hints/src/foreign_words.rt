@@ -68,6 +68,18 @@ const WORDS: &[(&[&str], &str)] = &[
     ),
     (&["case", "switch"], "there is no CASE: choose with IF"),
     (
+        &["fi", "od", "endwhile", "wend", "esac"],
+        "an IF ends with ENDIF; and a WHILE with ENDLOOP;",
+    ),
+    (
+        &["assert"],
+        "there is no ASSERT: IF NOT (x = 1) THEN ABORT; ENDIF;",
+    ),
+    (
+        &["timeout"],
+        "a WAIT has no time limit: it ends where the condition is notified",
+    ),
+    (
         &["const", "type", "record", "import", "export"],
         "variables, procedures and monitors are all that is declared",
     ),
@@ -110,13 +122,17 @@ fn is_word(lexeme: Lexeme) -> bool {
     matches!(lexeme, Lexeme::Word(_) | Lexeme::Name | Lexeme::Number)
 }
 
-/// What stands for a word of another language: one at the place, or one before it with no sign between.
+/// What stands for a word of another language: one at the place, or one before it with no sign between, or a statement of
+/// that word alone.
 pub(crate) fn foreign_slip(spot: &Spot<'_, '_>) -> Option<&'static str> {
     match spot.here() {
         Lexeme::Name if spot.ahead(1) != Lexeme::Mark(Sign::Assign) => {
             foreign_word(spot.token(0).text).or(foreign_word(spot.token_back(1).text))
         }
         here if is_word(here) => foreign_word(spot.token_back(1).text),
+        Lexeme::Mark(Sign::Semicolon | Sign::OpenParen) if spot.takes_sign(Sign::Assign) => {
+            foreign_word(spot.token_back(1).text)
+        }
         _ => None,
     }
 }

@@ -1,11 +1,11 @@
 // What helps with a name that isn't declared, or that is declared twice.
 
 use crate::declarations::{Declaration, Sort};
-use crate::lexeme::append_keyword;
+use crate::lexeme::{Lexeme, append_keyword};
 use crate::scopes::Scope;
 use crate::sought::{Sought, Wanted, sought_at};
 use crate::spot::Spot;
-use scanner::Place;
+use scanner::{Keyword, Place};
 use std::alloc::Global;
 use text_writer::TextWriter;
 
@@ -45,6 +45,10 @@ fn append_labelled(
     out.text(label);
     append_declaration(alloc, out, declaration)
 }
+
+// What is said of a variable behind INTO that isn't found.
+const LOCALS_ALONE: &str =
+    "INTO takes a variable of the procedure itself: CALL f() INTO x; and then n := x;";
 
 // What isn't found.
 fn absence(wanted: Wanted) -> &'static str {
@@ -101,6 +105,9 @@ pub(crate) fn append_unknown(
     let name = spot.token(0).text;
     let sought = sought_at(declarations, spot);
     append_absence(out, sought.wanted, name);
+    if spot.back(1) == Lexeme::Word(Keyword::Into) {
+        out.line(LOCALS_ALONE);
+    }
     append_meant(alloc, out, declarations, sought, name)
 }
 
