@@ -1,0 +1,45 @@
+-- WRONG: readers and writers where a writer reads how many wait before it gives the word up. The wrong line is at wunlock.
+VERSION 1
+WORD state waiters writing
+CONST WRITES 1000
+LOCAL s n
+START main
+main:   FORK read -> _
+        FORK write -> _
+        JUMP write
+read:   CALL rlock
+        LOAD writing ; EQ 0; ASSERT
+        CALL runlock
+        RET
+write:  CALL wlock
+        AADD writing 1 ; EQ 0; ASSERT
+        AADD writing -1 -> _
+        CALL wunlock
+        RET
+
+rlock:  LOAD state -> s
+        EQ s WRITES; JNZ rsleep
+        ADD s 1 -> n
+        CAS state s n ; EQ s; JZ rlock
+        RET
+rsleep: AADD waiters 1 -> _
+        FWAIT state WRITES -> _
+        AADD waiters -1 -> _
+        JUMP rlock
+runlock: AADD state -1 ; EQ 1; JZ rdone
+        LOAD waiters ; JZ rdone
+        FWAKE state 1000 -> _
+rdone:  RET
+
+wlock:  CAS state 0 WRITES -> s
+        JZ s wgot
+        AADD waiters 1 -> _
+        FWAIT state s -> _
+        AADD waiters -1 -> _
+        JUMP wlock
+wgot:   RET
+wunlock: LOAD waiters -> n                   -- wrong: before the word is given up
+        STORE state 0
+        JZ n wdone
+        FWAKE state 1000 -> _
+wdone:  RET

@@ -1,0 +1,27 @@
+-- A semaphore: its count, and how many wait or are about to. Two threads take, two give.
+VERSION 1
+WORD count waiters
+LOCAL c n
+START main
+main:   FORK taker -> _
+        FORK taker -> _
+        FORK poster -> _
+        CALL post
+        RET
+poster: CALL post
+        RET
+taker:  CALL down
+        RET
+down:   LOAD count -> c
+        JZ c sleep
+        SUB c 1 -> n
+        CAS count c n ; EQ c; JZ down
+        RET
+sleep:  AADD waiters 1 -> _
+        FWAIT count 0 -> _
+        AADD waiters -1 -> _
+        JUMP down
+post:   AADD count 1 -> _
+        LOAD waiters ; JZ nobody
+        FWAKE count 1 -> _
+nobody: RET

@@ -1,0 +1,22 @@
+-- A ticket lock: whose turn it is isn't known to who gives it up, so all are woken.
+VERSION 1
+WORD next serving inside
+LOCAL t s
+START main
+main:   FORK work -> _
+        FORK work -> _
+        JUMP work
+work:   CALL lock
+        AADD inside 1 ; EQ 0; ASSERT
+        AADD inside -1 -> _
+        CALL unlock
+        RET
+lock:   AADD next 1 -> t
+look:   LOAD serving -> s
+        EQ s t; JNZ got
+        FWAIT serving s -> _
+        JUMP look
+got:    RET
+unlock: AADD serving 1 -> _
+        FWAKE serving 1000 -> _
+        RET
