@@ -1,14 +1,13 @@
-use crate::names::{append_member, append_monitor, append_text};
-use crate::text::Text;
-use itoa::Buffer;
+use crate::names::{append_member, append_monitor};
 use program::{Member, Names, Program, Role};
-use std::alloc::{AllocError, Global};
+use std::alloc::Global;
+use text_writer::TextWriter;
 
 /// The statements of a procedure in C, while they are written.
 #[derive(Drop)]
 pub(crate) struct Body<'c, 'n> {
     /// What was written.
-    pub out: Text,
+    pub out: TextWriter,
     /// The program.
     pub program: &'c Program,
     /// The names that the text gave.
@@ -30,7 +29,7 @@ impl<'c, 'n> Body<'c, 'n> {
         role: Role,
     ) -> Body<'c, 'n> {
         Body {
-            out: Text::new(alloc),
+            out: TextWriter::new(alloc),
             program,
             names,
             role,
@@ -41,19 +40,12 @@ impl<'c, 'n> Body<'c, 'n> {
 
     /// Writes a text.
     pub fn text(&mut self, text: &str) {
-        append_text(&mut self.out, text)
+        self.out.text(text)
     }
 
-    /// Writes a number.
-    pub fn number(&mut self, number: u32) {
-        self.out
-            .extend_from_slice(Buffer::new().format(number).as_bytes())
-    }
-
-    /// Writes a text, and a number behind it.
-    pub fn numbered(&mut self, text: &str, number: u32) {
-        self.text(text);
-        self.number(number)
+    /// Writes a form, with a number in place of its `$`.
+    pub fn numbered(&mut self, form: &str, number: u32) {
+        self.out.form(form, &[u64::from(number)])
     }
 
     /// Writes what a member is called.
@@ -63,23 +55,23 @@ impl<'c, 'n> Body<'c, 'n> {
 
     /// Writes a text, and the lock of a monitor behind it.
     pub fn lock(&mut self, text: &str, monitor: u32) {
-        self.text(text);
+        self.out.text(text);
         append_monitor(&mut self.out, self.names, monitor);
-        self.text(".monitor")
+        self.out.text(".monitor")
     }
 
     /// Begins a line, with this text.
     pub fn line(&mut self, text: &str) {
         for _block in 0..self.blocks {
-            append_text(&mut self.out, "    ");
+            self.out.text("    ");
         }
-        self.text(text)
+        self.out.text(text)
     }
 
     /// Opens a block at the end of a line that ends with this text.
     pub fn open(&mut self, text: &str) {
         self.blocks = self.blocks.saturating_add(1);
-        self.text(text)
+        self.out.text(text)
     }
 
     /// Closes a block, with this text on the line.

@@ -2,7 +2,6 @@ use crate::body::Body;
 use crate::names::size_of_array;
 use crate::shape::{is_long, keeps_argument, keeps_left, may_fail};
 use program::{Expression, Member, Operator, UnaryOperator};
-use std::alloc::AllocError;
 
 // The header's function for an operator.
 fn function_of(operator: Operator) -> &'static str {
@@ -44,14 +43,12 @@ pub(crate) fn begin_element(array: Member, body: &mut Body) {
     let size = size_of_array(body.program, array);
     body.text("mesa_element(self, ");
     body.member(array);
-    body.numbered(", ", size);
-    body.text(", ")
+    body.numbered(", $, ", size)
 }
 
 // Writes where a value is kept, at this depth.
 fn kept_at(depth: u32, body: &mut Body) {
-    body.numbered("kept[", depth);
-    body.text("]")
+    body.numbered("kept[$]", depth)
 }
 
 // Writes an operand, or where its value was kept.
@@ -67,9 +64,9 @@ fn operand(e: &Expression, kept: bool, depth: u32, body: &mut Body) {
 #[cycle(express)]
 pub(crate) fn express(e: &Expression, depth: u32, body: &mut Body) {
     match e {
-        Expression::Number(number) => body.number(*number),
+        Expression::Number(number) => body.numbered("$", *number),
         Expression::Truth(truth) => body.text(if *truth { "1" } else { "0" }),
-        Expression::Local(slot) => body.numbered("local_", *slot),
+        Expression::Local(slot) => body.numbered("local_$", *slot),
         Expression::Member(member) => body.member(*member),
         Expression::Element(element) => {
             body.text("*");

@@ -10,7 +10,6 @@ mod procedure;
 mod shape;
 mod simple;
 mod statement;
-mod text;
 mod unit;
 
 pub use unit::emit;

@@ -1,48 +1,61 @@
 use crate::body::Body;
-use crate::names::{append_monitor, append_text};
+use crate::names::append_monitor;
 use crate::simple::{enter, return_nothing};
 use crate::statement::block;
-use crate::text::Text;
-use itoa::Buffer;
 use program::{Names, Procedure, Program, Role};
-use std::alloc::{AllocError, Global};
+use std::alloc::Global;
+use text_writer::TextWriter;
 
-fn append_number(out: &mut Text, number: u32) {
-    out.extend_from_slice(Buffer::new().format(number).as_bytes())
+// What the comment of a procedure of a role begins with.
+fn comment_of(role: Role) -> &'static str {
+    match role {
+        Role::Entry(_) => "/* An ENTRY procedure of ",
+        Role::Internal(_) => "/* An INTERNAL procedure of ",
+        Role::Recover(_) => "/* The RECOVER part of ",
+        Role::External => "/* A procedure outside all monitors",
+        Role::Main => "/* The main part",
+    }
+}
+
+// The monitor of a procedure of a role.
+fn monitor_of(role: Role) -> Option<u32> {
+    match role {
+        Role::Entry(monitor) => Some(monitor),
+        Role::Internal(monitor) => Some(monitor),
+        Role::Recover(monitor) => Some(monitor),
+        _ => None,
+    }
 }
 
 // Appends a comment of what a procedure is.
-fn append_comment(out: &mut Text, names: &Names, role: Role) {
-    let (text, monitor) = match role {
-        Role::Entry(monitor) => ("/* An ENTRY procedure of ", monitor),
-        Role::Internal(monitor) => ("/* An INTERNAL procedure of ", monitor),
-        Role::Recover(monitor) => ("/* The RECOVER part of ", monitor),
-        Role::External => return append_text(out, "/* A procedure outside all monitors. */\n"),
-        Role::Main => return append_text(out, "/* The main part. */\n"),
-    };
-    append_text(out, text);
-    append_monitor(out, names, monitor);
-    append_text(out, ". */\n")
+fn append_comment(out: &mut TextWriter, names: &Names, role: Role) {
+    out.text(comment_of(role));
+    if let Some(monitor) = monitor_of(role) {
+        append_monitor(out, names, monitor)
+    }
+    out.text(". */\n")
+}
+
+// Appends a form for each number from one to another.
+fn append_each(out: &mut TextWriter, form: &str, from: u32, to: u32) {
+    for slot in from..to {
+        out.form(form, &[u64::from(slot)]);
+    }
 }
 
 // Appends the head of a procedure's function, without what ends it.
-fn append_head(out: &mut Text, procedure: &Procedure, number: u32) {
-    append_text(out, "MESA_UNUSED static int32_t procedure_");
-    append_number(out, number);
-    append_text(out, "(struct mesa_process *self");
-    let mut slot: u32 = 0;
-    for _parameter in &procedure.parameters {
-        append_text(out, ", int32_t local_");
-        append_number(out, slot);
-        slot = slot.saturating_add(1);
-    }
-    append_text(out, ")")
+fn append_head(out: &mut TextWriter, procedure: &Procedure, number: u32) {
+    out.form(HEAD, &[u64::from(number)]);
+    append_each(out, ", int32_t local_$", 0, parameters_of(procedure));
+    out.text(")")
 }
 
+const HEAD: &str = "MESA_UNUSED static int32_t procedure_$(struct mesa_process *self";
+
 /// Appends the declaration of a procedure's function.
-pub(crate) fn append_prototype(out: &mut Text, procedure: &Procedure, number: u32) {
+pub(crate) fn append_prototype(out: &mut TextWriter, procedure: &Procedure, number: u32) {
     append_head(out, procedure, number);
-    append_text(out, ";\n")
+    out.text(";\n")
 }
 
 // How many parameters a procedure has: at most 16.
@@ -53,46 +66,35 @@ fn parameters_of(procedure: &Procedure) -> u32 {
     }
 }
 
-// Appends the declarations of the locals behind the parameters.
-fn append_locals(out: &mut Text, procedure: &Procedure) {
-    let mut slot = parameters_of(procedure);
-    for _local in &procedure.locals {
-        append_text(out, "    int32_t local_");
-        append_number(out, slot);
-        append_text(out, " = 0;\n");
-        slot = slot.saturating_add(1);
+// How many locals a procedure has, those that are parameters too: at most 64.
+fn slots_of(procedure: &Procedure) -> u32 {
+    match u32::try_from(procedure.locals.len()) {
+        Ok(count) => parameters_of(procedure).saturating_add(count),
+        Err(_) => 0,
     }
 }
 
 // Appends the declaration of the values that are kept, where there are any.
-fn append_kept(out: &mut Text, kept: u32) {
-    if kept == 0 {
-        return;
+fn append_kept(out: &mut TextWriter, kept: u32) {
+    if kept > 0 {
+        out.form("    int32_t kept[$];\n", &[u64::from(kept)])
     }
-    append_text(out, "    int32_t kept[");
-    append_number(out, kept);
-    append_text(out, "];\n")
 }
 
-// Says of a procedure's locals that they may go unused.
-fn append_uses(out: &mut Text, procedure: &Procedure) {
-    append_text(out, "    (void)self;\n");
-    let parameters = parameters_of(procedure);
-    let locals = match u32::try_from(procedure.locals.len()) {
-        Ok(count) => count,
-        Err(_) => 0,
-    };
-    for slot in 0..parameters.saturating_add(locals) {
-        append_text(out, "    (void)local_");
-        append_number(out, slot);
-        append_text(out, ";\n");
-    }
+// Appends the declarations of a procedure's locals, and says that they may go unused.
+fn append_locals(out: &mut TextWriter, procedure: &Procedure, kept: u32) {
+    let slots = slots_of(procedure);
+    let from = parameters_of(procedure);
+    append_each(out, "    int32_t local_$ = 0;\n", from, slots);
+    append_kept(out, kept);
+    out.text("    (void)self;\n");
+    append_each(out, "    (void)local_$;\n", 0, slots)
 }
 
 /// Appends a procedure's function.
 pub(crate) fn append_procedure(
     alloc: Global,
-    out: &mut Text,
+    out: &mut TextWriter,
     program: &Program,
     names: &Names,
     procedure: &Procedure,
@@ -102,34 +104,38 @@ pub(crate) fn append_procedure(
     enter(&mut body);
     block(procedure.body.as_slice(), &mut body);
     return_nothing(&mut body);
-    append_text(out, "\n");
+    append_whole(out, names, procedure, number, &body)
+}
+
+// Appends a procedure's function, where this is its body.
+fn append_whole(
+    out: &mut TextWriter,
+    names: &Names,
+    procedure: &Procedure,
+    number: u32,
+    body: &Body,
+) {
+    out.text("\n");
     append_comment(out, names, procedure.role);
     append_head(out, procedure, number);
-    append_text(out, "\n{\n");
-    append_locals(out, procedure);
-    append_kept(out, body.kept);
-    append_uses(out, procedure);
+    out.text("\n{\n");
+    append_locals(out, procedure, body.kept);
     out.append(&body.out);
-    append_text(out, "}\n")
+    out.text("}\n")
 }
 
 /// Appends the function at which a process begins that is forked to do a procedure, and the main process.
-pub(crate) fn append_start(out: &mut Text, procedure: &Procedure, number: u32) {
-    append_text(out, "\nMESA_UNUSED static int32_t start_");
-    append_number(out, number);
-    append_text(
-        out,
-        "(struct mesa_process *self, const int32_t *arguments)\n{\n    (void)arguments;\n    return procedure_",
-    );
-    append_number(out, number);
-    append_text(out, "(self");
-    for slot in 0..parameters_of(procedure) {
-        append_text(out, ", arguments[");
-        append_number(out, slot);
-        append_text(out, "]");
-    }
-    append_text(out, ");\n}\n")
+pub(crate) fn append_start(out: &mut TextWriter, procedure: &Procedure, number: u32) {
+    out.form(START, &[u64::from(number), u64::from(number)]);
+    append_each(out, ", arguments[$]", 0, parameters_of(procedure));
+    out.text(");\n}\n")
 }
+
+const START: &str =
+    "\nMESA_UNUSED static int32_t start_$(struct mesa_process *self, const int32_t *arguments)
+{
+    (void)arguments;
+    return procedure_$(self";
 
 /// Whether processes begin at this procedure.
 pub(crate) fn is_start(role: Role) -> bool {
@@ -140,8 +146,7 @@ pub(crate) fn is_start(role: Role) -> bool {
 }
 
 /// Appends the function `main`, where process 1 does the procedure of this number.
-pub(crate) fn append_main(out: &mut Text, number: u32) {
-    append_text(out, "\nint main(void)\n{\n    mesa_run(start_");
-    append_number(out, number);
-    append_text(out, ");\n}\n")
+pub(crate) fn append_main(out: &mut TextWriter, number: u32) {
+    let form = "\nint main(void)\n{\n    mesa_run(start_$);\n}\n";
+    out.form(form, &[u64::from(number)])
 }

@@ -3,17 +3,13 @@ use crate::expression::{begin_element, express, express_arguments, settle, settl
 use crate::names::recover_of;
 use crate::shape::{Shape, shape_of};
 use program::{Element, Expression, Member, Role, Target};
-use std::alloc::AllocError;
 
 // Begins a line that gives a local a value, where there is one.
 fn begin_into(into: Option<u32>, body: &mut Body) {
     body.line("");
     match into {
         None => {}
-        Some(slot) => {
-            body.numbered("local_", slot);
-            body.text(" = ")
-        }
+        Some(slot) => body.numbered("local_$ = ", slot),
     }
 }
 
@@ -85,8 +81,7 @@ pub(crate) fn assignment(target: &Target, e: &Expression, body: &mut Body) {
 pub(crate) fn call(procedure: u32, arguments: &[Expression], into: Option<u32>, body: &mut Body) {
     settle_arguments(arguments, body);
     begin_into(into, body);
-    body.numbered("procedure_", procedure);
-    body.text("(self");
+    body.numbered("procedure_$(self", procedure);
     express_arguments(arguments, ", ", body);
     body.text(");\n")
 }
@@ -103,13 +98,12 @@ fn count(arguments: &[Expression]) -> u32 {
 pub(crate) fn fork(procedure: u32, arguments: &[Expression], into: u32, body: &mut Body) {
     settle_arguments(arguments, body);
     begin_into(Some(into), body);
-    body.numbered("mesa_fork(self, start_", procedure);
+    body.numbered("mesa_fork(self, start_$", procedure);
     if arguments.is_empty() {
         return body.text(", NULL, 0);\n");
     }
     express_arguments(arguments, ", (const int32_t[]){", body);
-    body.numbered("}, ", count(arguments));
-    body.text(");\n")
+    body.numbered("}, $);\n", count(arguments))
 }
 
 /// Begins the block that is done where a joined process has aborted.
@@ -119,7 +113,7 @@ pub(crate) fn begin_join(handle: &Expression, into: Option<u32>, body: &mut Body
     express(handle, 0, body);
     match into {
         None => body.text(", NULL"),
-        Some(slot) => body.numbered(", &local_", slot),
+        Some(slot) => body.numbered(", &local_$", slot),
     }
     body.open(")) {\n")
 }
@@ -129,10 +123,7 @@ pub(crate) fn recovery(monitor: u32, body: &mut Body) {
     body.line("    ");
     match recover_of(body.program, monitor) {
         None => body.text("mesa_fault(self, MESA_ABANDONED_MONITOR);\n"),
-        Some(piece) => {
-            body.numbered("procedure_", piece);
-            body.text("(self);\n")
-        }
+        Some(piece) => body.numbered("procedure_$(self);\n", piece),
     }
 }
 

@@ -5,7 +5,6 @@ use crate::simple::{
     assignment, begin_join, broadcast, call, fork, notify, print, return_statement, wait,
 };
 use program::{Expression, Statement};
-use std::alloc::AllocError;
 
 // Writes a test, and opens the block that is done where it holds.
 fn begin_if(condition: &Expression, body: &mut Body) {

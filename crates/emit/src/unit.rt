@@ -1,30 +1,24 @@
-use crate::names::{append_field, append_monitor, append_text};
+use crate::names::{append_field, append_monitor};
 use crate::procedure::{append_main, append_procedure, append_prototype, append_start, is_start};
-use crate::text::Text;
-use itoa::Buffer;
 use program::{Checked, Member, MemberType, Names, Program, Role};
 use std::alloc::{AllocError, Global};
+use text_writer::TextWriter;
 
 // Appends the declaration of a member.
-fn append_member(out: &mut Text, names: &Names, member: Member, kind: MemberType) {
-    append_text(
-        out,
-        match kind {
-            MemberType::Condition => "    struct mesa_condition ",
-            _ => "    int32_t ",
-        },
-    );
+fn append_member(out: &mut TextWriter, names: &Names, member: Member, kind: MemberType) {
+    out.text(match kind {
+        MemberType::Condition => "    struct mesa_condition ",
+        _ => "    int32_t ",
+    });
     append_field(out, names, member);
     if let MemberType::Array(size) = kind {
-        append_text(out, "[");
-        out.extend_from_slice(Buffer::new().format(size).as_bytes());
-        append_text(out, "]");
+        out.form("[$]", &[u64::from(size)])
     }
-    append_text(out, ";\n")
+    out.text(";\n")
 }
 
 // Appends the declarations of a monitor's members.
-fn append_members(out: &mut Text, names: &Names, monitor: u32, members: &[MemberType]) {
+fn append_members(out: &mut TextWriter, names: &Names, monitor: u32, members: &[MemberType]) {
     let mut number: u32 = 0;
     for kind in members {
         append_member(out, names, Member { monitor, number }, *kind);
@@ -33,24 +27,21 @@ fn append_members(out: &mut Text, names: &Names, monitor: u32, members: &[Member
 }
 
 // Appends the monitors.
-fn append_monitors(out: &mut Text, program: &Program, names: &Names) {
+fn append_monitors(out: &mut TextWriter, program: &Program, names: &Names) {
     let mut number: u32 = 0;
     for monitor in &program.monitors {
-        append_text(
-            out,
-            "\nMESA_UNUSED static struct {\n    struct mesa_monitor monitor;\n",
-        );
+        out.text("\nMESA_UNUSED static struct {\n    struct mesa_monitor monitor;\n");
         append_members(out, names, number, monitor.members.as_slice());
-        append_text(out, "} ");
+        out.text("} ");
         append_monitor(out, names, number);
-        append_text(out, ";\n");
+        out.text(";\n");
         number = number.saturating_add(1);
     }
 }
 
 // Appends the declarations of all procedures' functions.
-fn append_prototypes(out: &mut Text, program: &Program) {
-    append_text(out, "\n");
+fn append_prototypes(out: &mut TextWriter, program: &Program) {
+    out.text("\n");
     let mut number: u32 = 0;
     for procedure in &program.procedures {
         append_prototype(out, procedure, number);
@@ -59,7 +50,7 @@ fn append_prototypes(out: &mut Text, program: &Program) {
 }
 
 // Appends the functions at which processes begin.
-fn append_starts(out: &mut Text, program: &Program) {
+fn append_starts(out: &mut TextWriter, program: &Program) {
     let mut number: u32 = 0;
     for procedure in &program.procedures {
         if is_start(procedure.role) {
@@ -70,7 +61,7 @@ fn append_starts(out: &mut Text, program: &Program) {
 }
 
 // Appends the functions of all procedures.
-fn append_procedures(alloc: Global, out: &mut Text, program: &Program, names: &Names) {
+fn append_procedures(alloc: Global, out: &mut TextWriter, program: &Program, names: &Names) {
     let mut number: u32 = 0;
     for procedure in &program.procedures {
         append_procedure(alloc, out, program, names, procedure, number);
@@ -99,15 +90,12 @@ fn main_of(program: &Program) -> u32 {
 pub fn emit(alloc: Global, checked: &Checked) -> Result<Vec<u8>, AllocError> {
     let program = checked.program();
     let names = checked.names();
-    let mut out = Text::new(alloc);
-    append_text(
-        &mut out,
-        "/* Written by `mesamon emit`. */\n#include \"mesa_monitors.h\"\n",
-    );
+    let mut out = TextWriter::new(alloc);
+    out.text("/* Written by `mesamon emit`. */\n#include \"mesa_monitors.h\"\n");
     append_monitors(&mut out, program, names);
     append_prototypes(&mut out, program);
     append_starts(&mut out, program);
     append_procedures(alloc, &mut out, program, names);
     append_main(&mut out, main_of(program));
-    out.finish()
+    Ok(out.finish()?.into_bytes())
 }
