@@ -2,6 +2,7 @@
 
 use crate::failure::Failure;
 use compiler::compile_checked;
+use program::Checked;
 use source_search::{Exploration, Outside, Untold, explore};
 use source_states::Action;
 use std::alloc::Global;
@@ -11,8 +12,7 @@ use std::io;
 /// found to get stuck, and how many the one in which it found a process to abort, where it found one.
 pub fn show_search<R: AllocGlobal + Print>(rt: &R, said: &str) -> Result<(), Failure> {
     let found = search(rt.alloc(), said)?;
-    show(rt, &found)?;
-    Ok(())
+    show(rt, &found)
 }
 
 // What a search finds of the program of a row.
@@ -22,7 +22,17 @@ fn search(alloc: Global, said: &str) -> Result<Exploration, Failure> {
     let most: usize = most.parse().map_err(|_| Failure::Row)?;
     let outside = outside_of(runs)?;
     let (checked, _lowered) = compile_checked(alloc, text.as_bytes())?;
-    Ok(explore(alloc, &checked, most, outside, &mut Untold)?)
+    explored(alloc, &checked, most, outside)
+}
+
+// What a search finds of a program.
+fn explored(
+    alloc: Global,
+    checked: &Checked,
+    most: usize,
+    outside: Outside,
+) -> Result<Exploration, Failure> {
+    Ok(explore(alloc, checked, most, outside, &mut Untold)?)
 }
 
 // What comes from outside in the runs that are searched.
@@ -41,17 +51,28 @@ fn kills_of(runs: &str) -> Result<u32, Failure> {
     digits.parse().map_err(|_| Failure::Row)
 }
 
-fn show<R: Print>(rt: &R, found: &Exploration) -> io::Result<()> {
-    if found.complete {
-        print!(rt; "complete, ")?;
+fn show<R: Print>(rt: &R, found: &Exploration) -> Result<(), Failure> {
+    let extent = if found.complete {
+        "complete"
     } else {
-        print!(rt; "not all, ")?;
+        "not all"
+    };
+    print!(rt; "{extent}, ")?;
+    show_stuck(rt, length_of(&found.stuck))?;
+    Ok(show_aborted(rt, length_of(&found.aborted))?)
+}
+
+// Prints how many actions the run has that gets stuck, if there is one.
+fn show_stuck<R: Print>(rt: &R, length: Option<usize>) -> io::Result<()> {
+    match length {
+        None => print!(rt; "no run is stuck, "),
+        Some(count) => print!(rt; "stuck after {count} actions, "),
     }
-    match length_of(&found.stuck) {
-        None => print!(rt; "no run is stuck, ")?,
-        Some(count) => print!(rt; "stuck after {count} actions, ")?,
-    }
-    match length_of(&found.aborted) {
+}
+
+// The same of the run in which a process aborts.
+fn show_aborted<R: Print>(rt: &R, length: Option<usize>) -> io::Result<()> {
+    match length {
         None => println!(rt; "none aborts"),
         Some(count) => println!(rt; "aborted after {count} actions"),
     }
