@@ -4,6 +4,7 @@ use isa::Instr;
 use places::{Places, places_of};
 use program::Checked;
 use std::alloc::{AllocError, Global};
+use text_writer::TextWriter;
 use words::ImageVersion;
 
 /// What stands beside the lines of a listing.
@@ -38,18 +39,21 @@ impl<'t> Source<'t> {
     }
 
     // Appends a line, with its number.
-    fn append(&self, out: &mut String, number: u32) -> Result<(), AllocError> {
-        write!(out, "-- {number}: ")?;
+    fn append(&self, out: &mut TextWriter, number: u32) {
+        out.form("-- $: ", &[u64::from(number)]);
         let index = (number as usize).saturating_sub(1);
         for byte in self.lines.get(index).copied().unwrap_or(&[]) {
-            out.push(match *byte {
-                b' '..=b'~' => char::from(*byte),
-                b'\t' => ' ',
-                b'\r' => continue,
-                _ => '?',
-            })?;
+            append_byte(out, *byte);
         }
-        Ok(())
+    }
+}
+
+// Appends a byte of a line.
+fn append_byte(out: &mut TextWriter, byte: u8) {
+    match byte {
+        b'\r' => {}
+        b'\t' => out.text(" "),
+        other => out.shown(&[other]),
     }
 }
 
@@ -141,7 +145,27 @@ impl Beside<'_, '_> {
         }
     }
 
-    // What stands behind the line of an instruction: the name of its word, and the next source line.
+    // Appends what stands behind the line of an instruction: the name of its word, and the next source line.
+    fn append_tail(
+        &mut self,
+        out: &mut TextWriter,
+        words: &Words<'_, '_>,
+        place: usize,
+        instruction: Instr,
+    ) {
+        let is_number = self.is_number(place);
+        match instruction {
+            Instr::Push(address) if !is_number => words.append_word(out, address),
+            Instr::Index(address, _) => words.append_word(out, address),
+            _ => {}
+        }
+        if let Some(line) = self.line_at(place.saturating_add(1)) {
+            out.text("\n");
+            self.source.append(out, line)
+        }
+    }
+
+    // What stands behind the line of an instruction.
     fn tail(
         &mut self,
         alloc: Global,
@@ -149,18 +173,9 @@ impl Beside<'_, '_> {
         place: usize,
         instruction: Instr,
     ) -> Result<String, AllocError> {
-        let mut out = String::new(alloc);
-        let is_number = self.is_number(place);
-        match instruction {
-            Instr::Push(address) if !is_number => words.append_word(&mut out, address)?,
-            Instr::Index(address, _) => words.append_word(&mut out, address)?,
-            _ => {}
-        }
-        if let Some(line) = self.line_at(place.saturating_add(1)) {
-            out.push('\n')?;
-            self.source.append(&mut out, line)?;
-        }
-        Ok(out)
+        let mut out = TextWriter::new(alloc);
+        self.append_tail(&mut out, words, place, instruction);
+        out.finish()
     }
 }
 
@@ -227,12 +242,12 @@ fn listing_with(
 
 // What stands before the first instruction.
 fn head_of(alloc: Global, beside: &mut Beside<'_, '_>) -> Result<String, AllocError> {
-    let mut head = String::new(alloc);
+    let mut head = TextWriter::new(alloc);
     if let Some(line) = beside.line_at(0) {
-        beside.source.append(&mut head, line)?;
-        head.push('\n')?;
+        beside.source.append(&mut head, line);
+        head.text("\n");
     }
-    Ok(head)
+    head.finish()
 }
 
 // What stands behind each instruction.

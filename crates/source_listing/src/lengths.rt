@@ -1,6 +1,6 @@
 // How long templates of code are (`docs/lowering.md`).
 
-use program::{Expression, Role};
+use program::Role;
 
 /// The instructions of ENTER.
 pub(crate) const ENTER: usize = 61;
@@ -37,9 +37,4 @@ pub(crate) fn entering(role: Role) -> usize {
         Role::Entry(_) => ENTER,
         _ => 0,
     }
-}
-
-/// Whether an expression is a number.
-pub(crate) fn is_number(expression: &Expression) -> bool {
-    matches!(expression, Expression::Number(_))
 }

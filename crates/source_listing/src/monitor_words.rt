@@ -2,6 +2,7 @@
 
 use program::{Member, MemberType, Names, Program};
 use std::alloc::{AllocError, Global};
+use text_writer::TextWriter;
 use words::ImageVersion;
 
 /// What a word of a monitor is.
@@ -29,14 +30,6 @@ fn size_of(member: MemberType) -> u32 {
         MemberType::Array(size) => size,
         _ => 1,
     }
-}
-
-// Appends the bytes of a name.
-fn append_name(out: &mut String, name: &[u8]) -> Result<(), AllocError> {
-    for byte in name {
-        out.push(char::from(*byte))?;
-    }
-    Ok(())
 }
 
 impl<'p, 'n> Words<'p, 'n> {
@@ -79,45 +72,41 @@ impl<'p, 'n> Words<'p, 'n> {
     }
 
     // Appends the name of a monitor, and of its member of this number.
-    fn append_member(&self, out: &mut String, member: Member) -> Result<(), AllocError> {
+    fn append_member(&self, out: &mut TextWriter, member: Member) {
         let Some(monitor) = self.names.monitors.get(member.monitor as usize) else {
-            return Ok(());
+            return;
         };
-        append_name(out, monitor.name)?;
-        out.push('.')?;
-        match monitor.members.get(member.number as usize) {
-            Some(name) => append_name(out, name),
-            None => Ok(()),
+        out.shown(monitor.name);
+        out.text(".");
+        if let Some(name) = monitor.members.get(member.number as usize) {
+            out.shown(name)
         }
     }
 
-    // Appends the name of a monitor.
-    fn append_monitor(&self, out: &mut String, monitor: u32) -> Result<(), AllocError> {
-        match self.names.monitors.get(monitor as usize) {
-            Some(monitor) => append_name(out, monitor.name),
-            None => Ok(()),
+    // Appends the name of a monitor, and a text.
+    fn append_monitor(&self, out: &mut TextWriter, monitor: u32, behind: &str) {
+        if let Some(monitor) = self.names.monitors.get(monitor as usize) {
+            out.shown(monitor.name)
         }
+        out.text(behind)
+    }
+
+    // The word at an address, where it is one of a monitor.
+    fn word_at(&self, address: u32) -> Option<Word> {
+        let index = address.checked_sub(self.base)?;
+        self.words.get(index as usize).copied()
     }
 
     /// Appends two blanks and what the word at an address is, where it is one of a monitor.
-    pub fn append_word(&self, out: &mut String, address: u32) -> Result<(), AllocError> {
-        let Some(index) = address.checked_sub(self.base) else {
-            return Ok(());
+    pub fn append_word(&self, out: &mut TextWriter, address: u32) {
+        let Some(word) = self.word_at(address) else {
+            return;
         };
-        let Some(word) = self.words.get(index as usize).copied() else {
-            return Ok(());
-        };
-        out.push_str("  ")?;
+        out.text("  ");
         match word {
             Word::Member(member) => self.append_member(out, member),
-            Word::Lock(monitor) => {
-                self.append_monitor(out, monitor)?;
-                out.push_str("'s lock")
-            }
-            Word::Link(monitor) => {
-                self.append_monitor(out, monitor)?;
-                out.push_str("'s link")
-            }
+            Word::Lock(monitor) => self.append_monitor(out, monitor, "'s lock"),
+            Word::Link(monitor) => self.append_monitor(out, monitor, "'s link"),
         }
     }
 }

@@ -1,13 +1,15 @@
 // Where the code of each statement begins, in the order of the text, which is that of the code.
 
-use crate::lengths::{BROADCAST, JOIN, JOIN_ALONE, NOTIFY, WAIT, ending, entering, is_number};
-use program::{Expression, Procedure, Program, Statement, Target};
+use crate::lengths::{BROADCAST, JOIN, JOIN_ALONE, NOTIFY, WAIT, ending, entering};
+use program::{Expression, Procedure, Program, Role, Statement, Target};
 use std::alloc::{AllocError, Global};
 
 /// Where things of the code lie.
 #[derive(Drop)]
 pub(crate) struct Plan<'p> {
     program: &'p Program,
+    // Whether memory ran out.
+    failed: bool,
     // Where the next instruction lies.
     place: usize,
     // How many instructions a RETURN has behind its value.
@@ -22,101 +24,82 @@ pub(crate) struct Plan<'p> {
     pub numbers: Vec<usize>,
 }
 
-// Passes an operand; how much comes behind it is the answer.
-#[cycle(expressions)]
-fn operand(e: &Expression, behind: usize, plan: &mut Plan<'_>) -> Result<usize, AllocError> {
-    expression(e, plan)?;
-    Ok(behind)
-}
-
 // Passes the code of an expression.
-#[cycle(expressions)]
-fn expression(e: &Expression, plan: &mut Plan<'_>) -> Result<(), AllocError> {
-    if is_number(e) {
-        plan.numbers.push(plan.place)?;
-    }
-    let more = match e {
-        Expression::Number(_) | Expression::Truth(_) | Expression::Local(_) => Ok(1),
-        Expression::Member(_) => Ok(2),
-        Expression::Element(element) => operand(&element.index, 2, plan),
-        Expression::Unary(_, inner) => operand(inner, 1, plan),
-        Expression::Both(both) => {
-            expression(&both.left, plan)?;
-            operand(&both.right, 1, plan)
+fn expression(e: &Expression, plan: &mut Plan<'_>) {
+    match e {
+        Expression::Number(_) => plan.pass_number(),
+        Expression::Member(_) => plan.pass(2),
+        Expression::Element(element) => {
+            expression(&element.index, plan);
+            plan.pass(2)
         }
-    };
-    let count = more?;
-    plan.pass(count);
-    Ok(())
+        Expression::Unary(_, inner) => {
+            expression(inner, plan);
+            plan.pass(1)
+        }
+        Expression::Both(both) => {
+            expression(&both.left, plan);
+            expression(&both.right, plan);
+            plan.pass(1)
+        }
+        _ => plan.pass(1),
+    }
 }
 
 // Passes an expression, and instructions behind it.
-fn value(e: &Expression, behind: usize, plan: &mut Plan<'_>) -> Result<(), AllocError> {
-    expression(e, plan)?;
+fn value(e: &Expression, behind: usize, plan: &mut Plan<'_>) {
+    expression(e, plan);
     plan.pass(behind);
-    Ok(())
 }
 
 // Passes an assignment.
-fn assign(target: &Target, e: &Expression, plan: &mut Plan<'_>) -> Result<(), AllocError> {
+fn assign(target: &Target, e: &Expression, plan: &mut Plan<'_>) {
     match target {
         Target::Local(_) => {}
         Target::Member(_) => plan.pass(1),
-        Target::Element(element) => value(&element.index, 1, plan)?,
+        Target::Element(element) => value(&element.index, 1, plan),
     }
     value(e, 1, plan)
 }
 
 // Passes arguments, and instructions behind them.
-fn arguments(es: &[Expression], behind: usize, plan: &mut Plan<'_>) -> Result<(), AllocError> {
+fn arguments(es: &[Expression], behind: usize, plan: &mut Plan<'_>) {
     for e in es {
-        expression(e, plan)?;
+        expression(e, plan);
     }
     plan.pass(behind);
-    Ok(())
 }
 
 // Passes a RETURN.
-fn return_from(e: &Option<Expression>, plan: &mut Plan<'_>) -> Result<(), AllocError> {
+fn return_from(e: &Option<Expression>, plan: &mut Plan<'_>) {
     let ending = plan.ending;
     match e {
         Some(e) => value(e, ending, plan),
         None => {
             plan.pass(ending);
-            Ok(())
         }
     }
 }
 
 // Passes a test, what is done behind it, and instructions behind that.
 #[cycle(statements)]
-fn tested(
-    statements: &[Statement],
-    condition: &Expression,
-    behind: usize,
-    plan: &mut Plan<'_>,
-) -> Result<(), AllocError> {
-    value(condition, 1, plan)?;
-    block(statements, plan)?;
+fn tested(statements: &[Statement], condition: &Expression, behind: usize, plan: &mut Plan<'_>) {
+    value(condition, 1, plan);
+    block(statements, plan);
     plan.pass(behind);
-    Ok(())
 }
 
 // Passes a JOIN with an ABORTED part.
 #[cycle(statements)]
-fn join_aborted(
-    statements: &[Statement],
-    handle: &Expression,
-    plan: &mut Plan<'_>,
-) -> Result<(), AllocError> {
-    value(handle, JOIN, plan)?;
+fn join_aborted(statements: &[Statement], handle: &Expression, plan: &mut Plan<'_>) {
+    value(handle, JOIN, plan);
     block(statements, plan)
 }
 
 // Passes a statement.
 #[cycle(statements)]
-fn statement(s: &Statement, plan: &mut Plan<'_>) -> Result<(), AllocError> {
-    plan.statements.push(plan.place)?;
+fn statement(s: &Statement, plan: &mut Plan<'_>) {
+    plan.begin_statement();
     match s {
         Statement::Assign(target, e) => assign(target, e, plan),
         Statement::If {
@@ -125,7 +108,7 @@ fn statement(s: &Statement, plan: &mut Plan<'_>) -> Result<(), AllocError> {
             else_part,
         } => match else_part {
             Some(others) => {
-                tested(then_part, condition, 1, plan)?;
+                tested(then_part, condition, 1, plan);
                 block(others, plan)
             }
             None => tested(then_part, condition, 0, plan),
@@ -147,20 +130,19 @@ fn statement(s: &Statement, plan: &mut Plan<'_>) -> Result<(), AllocError> {
         },
         Statement::Return(e) => return_from(e, plan),
         Statement::Print(e) => value(e, 1, plan),
-        Statement::Wait(_) => plan.pass_all(WAIT),
-        Statement::Notify(_) => plan.pass_all(NOTIFY),
-        Statement::Broadcast(_) => plan.pass_all(BROADCAST),
-        Statement::Abort => plan.pass_all(1),
+        Statement::Wait(_) => plan.pass(WAIT),
+        Statement::Notify(_) => plan.pass(NOTIFY),
+        Statement::Broadcast(_) => plan.pass(BROADCAST),
+        Statement::Abort => plan.pass(1),
     }
 }
 
 // Passes statements, one after another.
 #[cycle(statements)]
-fn block(statements: &[Statement], plan: &mut Plan<'_>) -> Result<(), AllocError> {
+fn block(statements: &[Statement], plan: &mut Plan<'_>) {
     for s in statements {
-        statement(s, plan)?;
+        statement(s, plan);
     }
-    Ok(())
 }
 
 impl<'p> Plan<'p> {
@@ -169,10 +151,34 @@ impl<'p> Plan<'p> {
         self.place = self.place.saturating_add(count);
     }
 
-    // The same, where an answer is wanted.
-    fn pass_all(&mut self, count: usize) -> Result<(), AllocError> {
-        self.pass(count);
-        Ok(())
+    // Passes the instruction of a number.
+    fn pass_number(&mut self) {
+        if self.numbers.push(self.place).is_err() {
+            self.failed = true;
+        }
+        self.pass(1)
+    }
+
+    // A statement begins.
+    fn begin_statement(&mut self) {
+        if self.statements.push(self.place).is_err() {
+            self.failed = true;
+        }
+    }
+
+    // A piece of a role begins.
+    fn begin_piece(&mut self, role: Role) {
+        self.ending = ending(role);
+        if self.pieces.push(self.place).is_err() {
+            self.failed = true;
+        }
+    }
+
+    // The end of a piece begins.
+    fn begin_end(&mut self) {
+        if self.ends.push(self.place).is_err() {
+            self.failed = true;
+        }
     }
 
     // How many instructions a CALL has behind its arguments.
@@ -187,35 +193,44 @@ impl<'p> Plan<'p> {
     }
 
     // Passes a piece.
-    fn piece(&mut self, procedure: &Procedure) -> Result<(), AllocError> {
-        let role = procedure.role;
-        self.ending = ending(role);
-        self.pieces.push(self.place)?;
+    fn piece(&mut self, procedure: &Procedure) {
+        self.begin_piece(procedure.role);
         self.pass(procedure.parameters.len());
-        self.pass(entering(role));
-        block(procedure.body.as_slice(), self)?;
-        self.ends.push(self.place)?;
-        if procedure.result.is_some() {
-            self.pass(1);
-        }
-        self.pass(self.ending);
-        Ok(())
+        self.pass(entering(procedure.role));
+        block(procedure.body.as_slice(), self);
+        self.begin_end();
+        self.pass(if procedure.result.is_some() { 1 } else { 0 });
+        self.pass(self.ending)
     }
 
     /// The plan of a program.
     pub fn of(alloc: Global, program: &'p Program) -> Result<Plan<'p>, AllocError> {
-        let mut plan = Plan {
+        let mut plan = Plan::new(alloc, program);
+        plan.pass_all();
+        match plan.failed {
+            true => Err(AllocError),
+            false => Ok(plan),
+        }
+    }
+
+    // Passes all pieces.
+    fn pass_all(&mut self) {
+        for procedure in self.program.procedures.iter() {
+            self.piece(procedure);
+        }
+    }
+
+    // A plan of nothing yet.
+    fn new(alloc: Global, program: &'p Program) -> Plan<'p> {
+        Plan {
             program,
+            failed: false,
             place: 0,
             ending: 1,
             pieces: Vec::new(alloc),
             ends: Vec::new(alloc),
             statements: Vec::new(alloc),
             numbers: Vec::new(alloc),
-        };
-        for procedure in program.procedures.iter() {
-            plan.piece(procedure)?;
         }
-        Ok(plan)
     }
 }
