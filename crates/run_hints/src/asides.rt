@@ -12,6 +12,7 @@ use program::{Checked, Member, Names, Statement, Target};
 use source_offers::{End, Place};
 use source_states::{Action, ActionKind};
 use std::alloc::{AllocError, Global};
+use text_writer::TextWriter;
 
 // An action that was done, and what is known of it.
 #[derive(Clone, Copy)]
@@ -41,17 +42,14 @@ impl Told<'_, '_, '_, '_, '_, '_> {
     }
 
     // Appends a variable of a monitor that was assigned, and its value.
-    fn append_stored(
-        &self,
-        out: &mut String,
-        member: Member,
-        index: Option<i64>,
-    ) -> Result<(), AllocError> {
-        append_member(out, self.names, member)?;
+    fn append_stored(&self, out: &mut TextWriter, member: Member, index: Option<i64>) {
+        append_member(out, self.names, member);
         if let Some(index) = index {
-            write!(out, "[{index}]")?;
+            out.text("[");
+            out.signed(index);
+            out.text("]");
         }
-        out.push_str(" := ")?;
+        out.text(" := ");
         let place = Place {
             monitor: member.monitor,
             member: member.number,
@@ -62,9 +60,9 @@ impl Told<'_, '_, '_, '_, '_, '_> {
     }
 
     // Appends a local that was assigned, and its value.
-    fn append_put(&self, out: &mut String, slot: u32) -> Result<(), AllocError> {
-        append_local(out, self.follower, self.moment.piece, slot)?;
-        out.push_str(" := ")?;
+    fn append_put(&self, out: &mut TextWriter, slot: u32) {
+        append_local(out, self.follower, self.moment.piece, slot);
+        out.text(" := ");
         let value = self
             .locals(self.action.process)
             .get(slot as usize)
@@ -74,7 +72,7 @@ impl Told<'_, '_, '_, '_, '_, '_> {
     }
 
     // Appends what was assigned.
-    fn append_assigned(&self, out: &mut String) -> Result<(), AllocError> {
+    fn append_assigned(&self, out: &mut TextWriter) {
         match self.moment.statement {
             Some(Statement::Assign(Target::Local(slot), _)) => self.append_put(out, *slot),
             Some(Statement::Assign(Target::Member(member), _)) => {
@@ -83,15 +81,19 @@ impl Told<'_, '_, '_, '_, '_, '_> {
             Some(Statement::Assign(Target::Element(element), _)) => {
                 self.append_stored(out, element.array, Some(self.moment.value))
             }
-            _ => Ok(()),
+            _ => {}
         }
     }
 
     // Appends what was tested, and what came of it.
-    fn append_test(&self, out: &mut String) -> Result<(), AllocError> {
-        let places = self.follower.places;
-        places.append_words(out, self.token().saturating_add(1))?;
-        out.push_str(if self.moment.value == 0 {
+    fn append_test(&self, out: &mut TextWriter) {
+        let mut words = String::new(self.follower.alloc);
+        let from = self.token().saturating_add(1);
+        match self.follower.places.append_words(&mut words, from) {
+            Ok(()) => out.text(words.as_str()),
+            Err(_) => out.fail(),
+        }
+        out.text(if self.moment.value == 0 {
             ", FALSE"
         } else {
             ", TRUE"
@@ -99,81 +101,113 @@ impl Told<'_, '_, '_, '_, '_, '_> {
     }
 
     // Appends how a procedure ended.
-    fn append_return(&self, out: &mut String) -> Result<(), AllocError> {
+    fn append_return(&self, out: &mut TextWriter) {
         if self.moment.standing == Standing::Ends {
-            return out.push_str("END");
+            return out.text("END");
         }
-        out.push_str("RETURN")?;
+        out.text("RETURN");
         let result = result_of(self.follower.program, self.moment.piece);
         if result.is_none() {
-            return Ok(());
+            return;
         }
-        out.push(' ')?;
+        out.text(" ");
         append_typed(out, result, self.moment.value)
     }
 
     // Appends what came of a JOIN.
-    fn append_joined(&self, out: &mut String, child: u64) -> Result<(), AllocError> {
+    fn append_joined(&self, out: &mut TextWriter, child: u64) {
         match self.follower.state.over(child) {
-            Some(End::Ended(value)) => write!(out, "gave {value}"),
-            Some(End::Aborted(_)) => out.push_str("it aborted"),
-            None => Ok(()),
+            Some(End::Ended(value)) => {
+                out.text("gave ");
+                out.signed(value)
+            }
+            Some(End::Aborted(_)) => out.text("it aborted"),
+            None => {}
         }
     }
 
     // Appends the innermost procedure of a process, with its arguments.
-    fn append_begun(&self, out: &mut String, process: u64) -> Result<(), AllocError> {
+    fn append_begun(&self, out: &mut TextWriter, process: u64) {
         match self.follower.levels(process) {
             [.., top] => append_callee(out, self.follower, top.piece, self.locals(process)),
-            [] => Ok(()),
+            [] => {}
         }
     }
 
     // Appends the procedure that a process was forked with.
-    fn append_forked(&self, out: &mut String, process: u64) -> Result<(), AllocError> {
+    fn append_forked(&self, out: &mut TextWriter, process: u64) {
         match self.follower.levels(process) {
             [first, ..] => append_piece(out, self.follower.places, first.piece),
-            [] => Ok(()),
+            [] => {}
         }
     }
 
     // Appends what was done, behind a blank, where more is told than the line has.
-    fn append_deed(&self, out: &mut String) -> Result<(), AllocError> {
-        out.push(' ')?;
+    fn append_deed(&self, out: &mut TextWriter) {
+        out.text(" ");
         match &self.action.kind {
             ActionKind::Assign => self.append_assigned(out),
             ActionKind::Test => self.append_test(out),
-            ActionKind::Call | ActionKind::Enter(_) => self.append_begun(out, self.action.process),
+            ActionKind::Call => self.append_begun(out, self.action.process),
+            ActionKind::Enter(_) => self.append_begun(out, self.action.process),
             ActionKind::Fork(child) => self.append_begun(out, *child),
             ActionKind::Claim(child) => self.append_forked(out, *child),
-            ActionKind::Return | ActionKind::Exit(_) => self.append_return(out),
+            ActionKind::Return => self.append_return(out),
+            ActionKind::Exit(_) => self.append_return(out),
             ActionKind::Join(child) => self.append_joined(out, *child),
-            ActionKind::Fails(fault) => out.push_str(fault_name(*fault)),
-            _ => Ok(()),
+            ActionKind::Fails(fault) => out.text(fault_name(*fault)),
+            _ => {}
         }
     }
 
     // Appends the place, and what was done.
-    fn append(&self, out: &mut String, file: &str) -> Result<(), AllocError> {
-        if matches!(
-            self.action.kind,
-            ActionKind::Finish | ActionKind::Abandon(_)
-        ) {
-            return Ok(());
+    fn append(&self, out: &mut TextWriter, file: &str) {
+        let told = told_of(&self.action.kind);
+        if told > 0 {
+            out.text("  ");
+            append_place(out, file, self.follower.places, self.token());
         }
-        out.push_str("  ")?;
-        append_place(out, file, self.follower.places, self.token())?;
-        match self.action.kind {
-            ActionKind::Print(_)
-            | ActionKind::Wait(_)
-            | ActionKind::Resume(_)
-            | ActionKind::Notify(_, _)
-            | ActionKind::Broadcast(_, _)
-            | ActionKind::Stray(_)
-            | ActionKind::Kill(_, _) => Ok(()),
-            _ => self.append_deed(out),
+        if told > 1 {
+            self.append_deed(out)
         }
     }
+}
+
+// How much is told of an action: nothing, its place, or what it did too.
+fn told_of(kind: &ActionKind) -> u8 {
+    match kind {
+        ActionKind::Finish => 0,
+        ActionKind::Abandon(_) => 0,
+        ActionKind::Print(_) => 1,
+        ActionKind::Wait(_) => 1,
+        ActionKind::Resume(_) => 1,
+        ActionKind::Notify(_, _) => 1,
+        ActionKind::Broadcast(_, _) => 1,
+        ActionKind::Stray(_) => 1,
+        ActionKind::Kill(_, _) => 1,
+        _ => 2,
+    }
+}
+
+// Appends what stands behind the line of an action, which is done; whether it could be.
+fn append_aside(
+    out: &mut TextWriter,
+    file: &str,
+    names: &Names<'_>,
+    follower: &mut Follower<'_, '_>,
+    action: &Action,
+) -> bool {
+    let Some(moment) = follower.pass(out, action) else {
+        return false;
+    };
+    let told = Told {
+        follower,
+        names,
+        action,
+        moment,
+    };
+    told.append(out, file);
+    true
 }
 
 // What stands behind the line of an action, which is done.
@@ -184,18 +218,10 @@ fn aside_of(
     follower: &mut Follower<'_, '_>,
     action: &Action,
 ) -> Result<Option<String>, AllocError> {
-    let Some(moment) = follower.pass(action)? else {
-        return Ok(None);
-    };
-    let told = Told {
-        follower,
-        names,
-        action,
-        moment,
-    };
-    let mut out = String::new(alloc);
-    told.append(&mut out, file)?;
-    Ok(Some(out))
+    let mut out = TextWriter::new(alloc);
+    let is_done = append_aside(&mut out, file, names, follower, action);
+    let aside = out.finish()?;
+    Ok(if is_done { Some(aside) } else { None })
 }
 
 /// What stands behind the line of each action of a run of a program, whose text this is: two blanks, `FILE:LINE`, and
@@ -217,6 +243,7 @@ pub fn asides_of(
     asides_from(alloc, file, checked.names(), &mut follower, actions)
 }
 
+// What stands behind each action of a run that begins.
 fn asides_from(
     alloc: Global,
     file: &str,
@@ -224,12 +251,21 @@ fn asides_from(
     follower: &mut Follower<'_, '_>,
     actions: &[Action],
 ) -> Result<Vec<String>, AllocError> {
+    begin(alloc, follower)?;
     let mut asides = Vec::new(alloc);
     for action in actions {
-        let Some(aside) = aside_of(alloc, file, names, follower, action)? else {
-            break;
-        };
-        asides.push(aside)?;
+        match aside_of(alloc, file, names, follower, action)? {
+            Some(aside) => asides.push(aside)?,
+            None => break,
+        }
     }
     Ok(asides)
+}
+
+// The first process begins.
+fn begin(alloc: Global, follower: &mut Follower<'_, '_>) -> Result<(), AllocError> {
+    let mut nothing = TextWriter::new(alloc);
+    follower.begin(&mut nothing);
+    nothing.finish()?;
+    Ok(())
 }

@@ -1,10 +1,10 @@
 // Circles of processes, each of which waits for the next.
 
-use crate::names::append_number;
 use source_offers::Stage;
 use source_states::SourceState;
 use source_table::Hold;
 use std::alloc::{AllocError, Global};
+use text_writer::TextWriter;
 
 // Who holds a monitor.
 fn holder(state: &SourceState<'_>, monitor: u32) -> Option<u64> {
@@ -43,31 +43,25 @@ fn circle_from(alloc: Global, state: &SourceState<'_>, first: u64) -> Result<Vec
     Ok(circle)
 }
 
-// Appends the line of a circle.
-fn append_circle(out: &mut String, circle: &[u64], first: u64) -> Result<(), AllocError> {
-    out.push_str("  a circle: process ")?;
-    append_number(out, first)?;
-    out.push_str(" waits for process ")?;
-    for process in circle.iter().skip(1) {
-        append_number(out, *process)?;
-        out.push_str(", which waits for process ")?;
+// Appends the line of a circle, where there is one.
+fn append_circle(out: &mut TextWriter, circle: &[u64], first: u64) {
+    if circle.is_empty() {
+        return;
     }
-    append_number(out, first)?;
-    out.push('\n')
+    out.form("  a circle: process $ waits for process ", &[first]);
+    for process in circle.get(1..).unwrap_or(&[]) {
+        out.form("$, which waits for process ", &[*process]);
+    }
+    out.form("$\n", &[first])
 }
 
 /// Appends a line for each circle.
-pub(crate) fn append_circles(
-    alloc: Global,
-    out: &mut String,
-    state: &SourceState<'_>,
-) -> Result<(), AllocError> {
+pub(crate) fn append_circles(alloc: Global, out: &mut TextWriter, state: &SourceState<'_>) {
     for index in 0..state.made() {
         let first = index.saturating_add(1);
-        let circle = circle_from(alloc, state, first)?;
-        if !circle.is_empty() {
-            append_circle(out, circle.as_slice(), first)?;
+        match circle_from(alloc, state, first) {
+            Ok(circle) => append_circle(out, circle.as_slice(), first),
+            Err(_) => out.fail(),
         }
     }
-    Ok(())
 }

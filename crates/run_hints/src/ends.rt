@@ -1,7 +1,7 @@
 use crate::causes::deed;
 use crate::circles::append_circles;
 use crate::follower::Follower;
-use crate::names::{append_condition, append_monitor, append_number};
+use crate::names::{append_condition, append_monitor};
 use crate::stands::append_stand;
 use places::places_of;
 use program::{Checked, Member, Names};
@@ -9,92 +9,83 @@ use source_offers::{End, Stage};
 use source_states::Action;
 use source_table::Hold;
 use std::alloc::{AllocError, Global};
+use text_writer::TextWriter;
 
 // Appends who holds a monitor.
-fn append_holder(
-    out: &mut String,
-    follower: &Follower<'_, '_>,
-    monitor: u32,
-) -> Result<(), AllocError> {
+fn append_holder(out: &mut TextWriter, follower: &Follower<'_, '_>, monitor: u32) {
     match follower.state.hold(monitor) {
-        Hold::Free => out.push_str(", which is free,"),
-        Hold::Abandoned => out.push_str(", which is abandoned,"),
-        Hold::HeldBy(process) => {
-            out.push_str(", which process ")?;
-            append_number(out, process)?;
-            out.push_str(" holds,")
-        }
+        Hold::Free => out.text(", which is free,"),
+        Hold::Abandoned => out.text(", which is abandoned,"),
+        Hold::HeldBy(process) => { out.form(", which process $ holds,", &[process]) }
     }
 }
 
 // Appends what a process does that waits on a condition, or was notified there.
 fn append_suspended(
-    out: &mut String,
+    out: &mut TextWriter,
     follower: &Follower<'_, '_>,
     names: &Names<'_>,
     process: u64,
     condition: Member,
-) -> Result<(), AllocError> {
+) {
     if follower.state.waits(process).is_some() {
-        out.push_str(" waits on ")?;
+        out.text(" waits on ");
         return append_condition(out, names, condition);
     }
-    out.push_str(" resumes ")?;
-    append_monitor(out, names, condition.monitor)?;
+    out.text(" resumes ");
+    append_monitor(out, names, condition.monitor);
     append_holder(out, follower, condition.monitor)
 }
 
 // Appends what a process does at this stage.
 fn append_deed(
-    out: &mut String,
+    out: &mut TextWriter,
     follower: &Follower<'_, '_>,
     names: &Names<'_>,
     process: u64,
     stage: &Stage<'_>,
-) -> Result<(), AllocError> {
+) {
     match stage {
         Stage::Entering(monitor) => {
-            out.push_str(" enters ")?;
-            append_monitor(out, names, *monitor)?;
+            out.text(" enters ");
+            append_monitor(out, names, *monitor);
             append_holder(out, follower, *monitor)
         }
         Stage::Suspended(condition) => append_suspended(out, follower, names, process, *condition),
-        Stage::Joining { child, .. } => {
-            out.push_str(" joins process ")?;
-            append_number(out, *child)
-        }
+        Stage::Joining { child, .. } => { out.form(" joins process $", &[*child]) }
         Stage::Over(End::Aborted(cause)) => {
-            out.push(' ')?;
-            out.push_str(deed(*cause))
+            out.text(" ");
+            out.text(deed(*cause))
         }
-        Stage::Over(End::Ended(_)) => out.push_str(" has ended"),
+        Stage::Over(End::Ended(_)) => out.text(" has ended"),
         Stage::Dying(cause, _) => {
-            out.push(' ')?;
-            out.push_str(deed(*cause))?;
-            out.push_str(", and is dying,")
+            out.text(" ");
+            out.text(deed(*cause));
+            out.text(", and is dying,")
         }
-        _ => out.push_str(" goes on"),
+        _ => out.text(" goes on"),
     }
 }
 
 /// Appends the line of what a process does, and where.
 pub(crate) fn append_process(
-    out: &mut String,
+    out: &mut TextWriter,
     file: &str,
     follower: &Follower<'_, '_>,
     names: &Names<'_>,
     process: u64,
-) -> Result<(), AllocError> {
+) {
     let Some(found) = follower.state.process(process) else {
-        return Ok(());
+        return;
     };
-    out.push_str("  process ")?;
-    append_number(out, process)?;
-    append_deed(out, follower, names, process, &found.stage)?;
-    if !matches!(found.stage, Stage::Over(End::Ended(_)) | Stage::Leaving(_)) {
-        append_stand(out, file, follower, process)?;
+    out.form("  process $", &[process]);
+    append_deed(out, follower, names, process, &found.stage);
+    match found.stage {
+        Stage::Over(End::Ended(_)) => {}
+        Stage::Leaving(_) => {}
+        _ => append_stand(out, file, follower, process),
     }
-    out.push('\n')
+    out.text("\n")
 }
 
 // Whether a process is told of: it isn't over, or it aborted.
@@ -105,15 +96,15 @@ fn is_told(follower: &Follower<'_, '_>, process: u64) -> bool {
 // Appends the lines of the processes that are told of, by rising number, and of circles.
 fn append_all(
     alloc: Global,
-    out: &mut String,
+    out: &mut TextWriter,
     file: &str,
     follower: &Follower<'_, '_>,
     names: &Names<'_>,
-) -> Result<(), AllocError> {
+) {
     for index in 0..follower.state.made() {
         let process = index.saturating_add(1);
         if is_told(follower, process) {
-            append_process(out, file, follower, names, process)?;
+            append_process(out, file, follower, names, process);
         }
     }
     append_circles(alloc, out, &follower.state)
@@ -133,19 +124,33 @@ pub fn end_hints(
     actions: &[Action],
 ) -> Result<String, AllocError> {
     let places = places_of(alloc, text)?;
-    let mut follower = Follower::opening(alloc, checked, &places)?;
-    hints_of(alloc, file, &mut follower, checked.names(), actions)
+    let mut out = TextWriter::new(alloc);
+    match Follower::opening(alloc, checked, &places) {
+        Ok(mut follower) => {
+            append_hints(
+                alloc,
+                &mut out,
+                file,
+                &mut follower,
+                checked.names(),
+                actions,
+            )
+        }
+        Err(_) => out.fail(),
+    }
+    out.finish()
 }
 
-fn hints_of(
+// Follows actions, and appends the hints to their end.
+fn append_hints(
     alloc: Global,
+    out: &mut TextWriter,
     file: &str,
     follower: &mut Follower<'_, '_>,
     names: &Names<'_>,
     actions: &[Action],
-) -> Result<String, AllocError> {
-    follower.pass_all(actions)?;
-    let mut out = String::new(alloc);
-    append_all(alloc, &mut out, file, follower, names)?;
-    Ok(out)
+) {
+    follower.begin(out);
+    follower.pass_all(out, actions);
+    append_all(alloc, out, file, follower, names)
 }

@@ -1,10 +1,10 @@
 use crate::ends::append_process;
 use crate::follower::Follower;
-use crate::names::append_number;
 use places::places_of;
 use program::{Checked, Names};
 use source_states::Action;
 use std::alloc::{AllocError, Global};
+use text_writer::TextWriter;
 
 /// What an entry of a schedule or a log wanted of a thread, and didn't get.
 #[derive(Clone, Copy)]
@@ -17,45 +17,49 @@ pub enum Refused {
     Kill(u32),
 }
 
+const CANNOT_MOVE: &str =
+    "  process $ can't move there: it sleeps, waits for a held bucket, or its step is another one\n";
+
 impl Refused {
+    // What is said of it and of its process.
+    fn form(self) -> &'static str {
+        match self {
+            Refused::Step(_) => CANNOT_MOVE,
+            Refused::Stray(_) => "  process $ doesn't sleep there, so it can't be woken\n",
+            Refused::Kill(_) => "  process $ can't be killed so there\n",
+        }
+    }
+
     // The thread.
     fn thread(self) -> u32 {
         match self {
-            Refused::Step(thread) | Refused::Stray(thread) | Refused::Kill(thread) => thread,
+            Refused::Step(thread) => thread,
+            Refused::Stray(thread) => thread,
+            Refused::Kill(thread) => thread,
         }
     }
 }
 
 // Appends that there is no such process.
-fn append_unmade(out: &mut String, process: u64, made: u64) -> Result<(), AllocError> {
+fn append_unmade(out: &mut TextWriter, process: u64, made: u64) {
     if process == 0 {
-        return out.push_str("  the entry names no process: they count from 1\n");
+        return out.text("  the entry names no process: they count from 1\n");
     }
-    out.push_str("  process ")?;
-    append_number(out, process)?;
-    out.push_str(" wasn't made there: of processes there were ")?;
-    append_number(out, made)?;
-    out.push('\n')
+    let form = "  process $ wasn't made there: of processes there were $\n";
+    out.form(form, &[process, made])
 }
 
 // Appends what is refused to a process that was made.
 fn append_refusal(
-    out: &mut String,
+    out: &mut TextWriter,
     follower: &Follower<'_, '_>,
     refused: Refused,
     process: u64,
-) -> Result<(), AllocError> {
-    let said = match refused {
-        Refused::Step(_) if follower.state.over(process).is_some() => return Ok(()),
-        Refused::Step(_) => {
-            " can't move there: it sleeps, waits for a held bucket, or its step is another one\n"
-        }
-        Refused::Stray(_) => " doesn't sleep there, so it can't be woken\n",
-        Refused::Kill(_) => " can't be killed so there\n",
-    };
-    out.push_str("  process ")?;
-    append_number(out, process)?;
-    out.push_str(said)
+) {
+    match refused {
+        Refused::Step(_) if follower.state.over(process).is_some() => {}
+        _ => out.form(refused.form(), &[process]),
+    }
 }
 
 /// The hints to an entry of a schedule or a log that is refused behind a run of a program, whose text this is: what is
@@ -73,44 +77,36 @@ pub fn entry_hints(
     refused: Refused,
 ) -> Result<String, AllocError> {
     let places = places_of(alloc, text)?;
-    let mut follower = Follower::opening(alloc, checked, &places)?;
-    hints_behind(
-        alloc,
-        file,
-        &mut follower,
-        checked.names(),
-        actions,
-        refused,
-    )
+    let mut out = TextWriter::new(alloc);
+    match Follower::opening(alloc, checked, &places) {
+        Ok(mut follower) => {
+            follow(&mut out, &mut follower, actions);
+            append_hints(&mut out, file, &follower, checked.names(), refused)
+        }
+        Err(_) => out.fail(),
+    }
+    out.finish()
 }
 
-fn hints_behind(
-    alloc: Global,
-    file: &str,
-    follower: &mut Follower<'_, '_>,
-    names: &Names<'_>,
-    actions: &[Action],
-    refused: Refused,
-) -> Result<String, AllocError> {
-    follower.pass_all(actions)?;
-    let mut out = String::new(alloc);
-    append_hints(&mut out, file, follower, names, refused)?;
-    Ok(out)
+// Follows actions.
+fn follow(out: &mut TextWriter, follower: &mut Follower<'_, '_>, actions: &[Action]) {
+    follower.begin(out);
+    follower.pass_all(out, actions)
 }
 
 // Appends the hints to an entry that is refused where a run has come to.
 fn append_hints(
-    out: &mut String,
+    out: &mut TextWriter,
     file: &str,
     follower: &Follower<'_, '_>,
     names: &Names<'_>,
     refused: Refused,
-) -> Result<(), AllocError> {
+) {
     let process = u64::from(refused.thread());
     let made = follower.state.made();
     if process == 0 || process > made {
         return append_unmade(out, process, made);
     }
-    append_refusal(out, follower, refused, process)?;
+    append_refusal(out, follower, refused, process);
     append_process(out, file, follower, names, process)
 }

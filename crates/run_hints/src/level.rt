@@ -1,5 +1,6 @@
 use places::Places;
-use std::alloc::{AllocError, Global};
+use std::alloc::Global;
+use text_writer::TextWriter;
 
 /// Where a procedure stands that runs, or that waits for one that it called.
 #[derive(Clone, Copy, PartialEq, Eq)]
@@ -32,74 +33,76 @@ pub(crate) struct Level {
     rest: Vec<Left>,
 }
 
+// The statement behind one, where there is one.
+fn next_of(places: &Places<'_>, spot: usize) -> Option<usize> {
+    places.spot(spot)?.next
+}
+
 impl Level {
     /// A procedure that begins.
-    pub fn new(alloc: Global, places: &Places<'_>, piece: u32) -> Result<Level, AllocError> {
-        let mut rest = Vec::new(alloc);
-        if let Some(found) = places.piece(piece) {
-            rest.push(Left {
-                spot: found.first,
-                alone: false,
-            })?;
-        }
-        Ok(Level {
+    pub fn new(alloc: Global, piece: u32) -> Level {
+        Level {
             piece,
             standing: Standing::Begins,
-            rest,
-        })
+            rest: Vec::new(alloc),
+        }
     }
 
-    // Takes the next statement.
-    fn take(&mut self, places: &Places<'_>) -> Result<Standing, AllocError> {
-        let count = self.rest.len();
-        for _list in 0..count {
-            let Some(left) = self.rest.pop() else {
-                return Ok(Standing::Ends);
-            };
+    /// All its statements are left.
+    pub fn begin(&mut self, out: &mut TextWriter, places: &Places<'_>) {
+        if let Some(found) = places.piece(self.piece) {
+            self.precede(out, found.first, false)
+        }
+    }
+
+    // Takes the next statement, and whether its list has it alone.
+    fn take(&mut self) -> Option<(usize, bool)> {
+        for _list in 0..self.rest.len() {
+            let left = self.rest.pop()?;
             if let Some(spot) = left.spot {
-                let next = places.spot(spot).and_then(|found| found.next);
-                if next.is_some() && !left.alone {
-                    self.rest.push(Left {
-                        spot: next,
-                        alone: false,
-                    })?;
-                }
-                return Ok(Standing::At(spot));
+                return Some((spot, left.alone));
             }
         }
-        Ok(Standing::Ends)
+        None
     }
 
     /// Comes to the next statement, or to its end.
-    pub fn go_on(&mut self, places: &Places<'_>) -> Result<(), AllocError> {
-        self.standing = self.take(places)?;
-        Ok(())
+    pub fn go_on(&mut self, out: &mut TextWriter, places: &Places<'_>) {
+        self.standing = match self.take() {
+            None => Standing::Ends,
+            Some((spot, alone)) => {
+                if !alone {
+                    self.precede(out, next_of(places, spot), false);
+                }
+                Standing::At(spot)
+            }
+        };
     }
 
     // A list of statements comes first.
-    fn precede(&mut self, spot: Option<usize>, alone: bool) -> Result<(), AllocError> {
-        self.rest.push(Left { spot, alone })?;
-        Ok(())
+    fn precede(&mut self, out: &mut TextWriter, spot: Option<usize>, alone: bool) {
+        out.push(&mut self.rest, Left { spot, alone })
     }
 
     /// The statements behind THEN or ABORTED of the one that it stands at come first, or with `other` those behind
     /// ELSE.
-    pub fn enter_part(&mut self, places: &Places<'_>, other: bool) -> Result<(), AllocError> {
+    pub fn enter_part(&mut self, out: &mut TextWriter, places: &Places<'_>, other: bool) {
         let Standing::At(number) = self.standing else {
-            return Ok(());
+            return;
         };
         let Some(spot) = places.spot(number) else {
-            return Ok(());
+            return;
         };
-        self.precede(if other { spot.other } else { spot.part }, false)
+        let first = if other { spot.other } else { spot.part };
+        self.precede(out, first, false)
     }
 
     /// The statements behind DO of the one that it stands at come first, and then that one again.
-    pub fn enter_loop(&mut self, places: &Places<'_>) -> Result<(), AllocError> {
+    pub fn enter_loop(&mut self, out: &mut TextWriter, places: &Places<'_>) {
         let Standing::At(number) = self.standing else {
-            return Ok(());
+            return;
         };
-        self.precede(Some(number), true)?;
-        self.enter_part(places, false)
+        self.precede(out, Some(number), true);
+        self.enter_part(out, places, false)
     }
 }

@@ -3,92 +3,53 @@
 
 use places::{Piece, Places};
 use program::{Member, Names};
-use std::alloc::AllocError;
-
-/// Appends bytes of a name.
-pub(crate) fn append_bytes(out: &mut String, bytes: &[u8]) -> Result<(), AllocError> {
-    for byte in bytes {
-        out.push(if matches!(*byte, b' '..=b'~') {
-            char::from(*byte)
-        } else {
-            '?'
-        })?;
-    }
-    Ok(())
-}
-
-/// Appends a number in decimal digits.
-pub(crate) fn append_number(out: &mut String, number: u64) -> Result<(), AllocError> {
-    write!(out, "{number}")
-}
+use text_writer::TextWriter;
 
 /// Appends `FILE:LINE` of a token.
-pub(crate) fn append_place(
-    out: &mut String,
-    file: &str,
-    places: &Places<'_>,
-    token: usize,
-) -> Result<(), AllocError> {
-    append_bytes(out, file.as_bytes())?;
-    let line = places.place(token).line;
-    write!(out, ":{line}")
+pub(crate) fn append_place(out: &mut TextWriter, file: &str, places: &Places<'_>, token: usize) {
+    out.shown(file.as_bytes());
+    out.form(":$", &[u64::from(places.place(token).line)])
 }
 
 // Appends the name of a piece, with its monitor's before it.
-fn append_piece_name(out: &mut String, piece: &Piece<'_>) -> Result<(), AllocError> {
+fn append_piece_name(out: &mut TextWriter, piece: &Piece<'_>) {
     if let Some(monitor) = piece.monitor {
-        append_bytes(out, monitor)?;
-        out.push('.')?;
+        out.shown(monitor);
+        out.text(".");
     }
-    append_bytes(out, piece.name)
+    out.shown(piece.name)
 }
 
 /// Appends the name of a piece of this number.
-pub(crate) fn append_piece(
-    out: &mut String,
-    places: &Places<'_>,
-    number: u32,
-) -> Result<(), AllocError> {
+pub(crate) fn append_piece(out: &mut TextWriter, places: &Places<'_>, number: u32) {
     match places.piece(number) {
         Some(piece) => append_piece_name(out, &piece),
-        None => Ok(()),
+        None => {}
     }
 }
 
 /// Appends the name of a monitor.
-pub(crate) fn append_monitor(
-    out: &mut String,
-    names: &Names<'_>,
-    monitor: u32,
-) -> Result<(), AllocError> {
+pub(crate) fn append_monitor(out: &mut TextWriter, names: &Names<'_>, monitor: u32) {
     match names.monitors.get(monitor as usize) {
-        Some(naming) => append_bytes(out, naming.name),
-        None => Ok(()),
+        Some(naming) => out.shown(naming.name),
+        None => {}
     }
 }
 
 /// Appends the name of a member of a monitor.
-pub(crate) fn append_member(
-    out: &mut String,
-    names: &Names<'_>,
-    member: Member,
-) -> Result<(), AllocError> {
+pub(crate) fn append_member(out: &mut TextWriter, names: &Names<'_>, member: Member) {
     let Some(naming) = names.monitors.get(member.monitor as usize) else {
-        return Ok(());
+        return;
     };
     match naming.members.get(member.number as usize) {
-        Some(name) => append_bytes(out, name),
-        None => Ok(()),
+        Some(name) => out.shown(name),
+        None => {}
     }
 }
 
 /// Appends the name of a condition, with its monitor's before it.
-pub(crate) fn append_condition(
-    out: &mut String,
-    names: &Names<'_>,
-    condition: Member,
-) -> Result<(), AllocError> {
-    append_monitor(out, names, condition.monitor)?;
-    out.push('.')?;
+pub(crate) fn append_condition(out: &mut TextWriter, names: &Names<'_>, condition: Member) {
+    append_monitor(out, names, condition.monitor);
+    out.text(".");
     append_member(out, names, condition)
 }

@@ -5,7 +5,7 @@ use crate::level::{Level, Standing};
 use crate::names::{append_piece, append_place};
 use places::Places;
 use source_offers::Stage;
-use std::alloc::AllocError;
+use text_writer::TextWriter;
 
 /// The token at which a piece stands so.
 pub(crate) fn token_of(places: &Places<'_>, piece: u32, standing: Standing) -> usize {
@@ -28,23 +28,18 @@ pub(crate) fn token_at(places: &Places<'_>, level: &Level) -> usize {
 }
 
 // Appends where the innermost of these procedures stands, and where it was called.
-fn append_levels(
-    out: &mut String,
-    file: &str,
-    places: &Places<'_>,
-    levels: &[Level],
-) -> Result<(), AllocError> {
+fn append_levels(out: &mut TextWriter, file: &str, places: &Places<'_>, levels: &[Level]) {
     let [below @ .., top] = levels else {
-        return Ok(());
+        return;
     };
-    out.push_str(" at ")?;
-    append_place(out, file, places, token_at(places, top))?;
-    out.push_str(", in ")?;
-    append_piece(out, places, top.piece)?;
+    out.text(" at ");
+    append_place(out, file, places, token_at(places, top));
+    out.text(", in ");
+    append_piece(out, places, top.piece);
     let [.., caller] = below else {
-        return Ok(());
+        return;
     };
-    out.push_str(" called at ")?;
+    out.text(" called at ");
     append_place(out, file, places, token_at(places, caller))
 }
 
@@ -58,11 +53,11 @@ fn entered<'l>(levels: &'l [Level], is_entering: bool) -> &'l [Level] {
 
 /// Appends where a process stands, and where the procedure that it is in was called.
 pub(crate) fn append_stand(
-    out: &mut String,
+    out: &mut TextWriter,
     file: &str,
     follower: &Follower<'_, '_>,
     process: u64,
-) -> Result<(), AllocError> {
+) {
     let is_entering = match follower.state.process(process) {
         Some(found) => matches!(found.stage, Stage::Entering(_)),
         None => false,

@@ -1,20 +1,19 @@
 // Values, as the text writes them.
 
 use crate::follower::Follower;
-use crate::names::{append_bytes, append_piece};
+use crate::names::append_piece;
 use program::{Member, MemberType, Program, ValueType};
-use std::alloc::AllocError;
+use text_writer::TextWriter;
 
 /// Appends a value of a type.
-pub(crate) fn append_typed(
-    out: &mut String,
-    kind: Option<ValueType>,
-    value: i64,
-) -> Result<(), AllocError> {
+pub(crate) fn append_typed(out: &mut TextWriter, kind: Option<ValueType>, value: i64) {
     match kind {
-        Some(ValueType::Boolean) => out.push_str(if value == 0 { "FALSE" } else { "TRUE" }),
-        Some(ValueType::Process) => write!(out, "process {value}"),
-        _ => write!(out, "{value}"),
+        Some(ValueType::Boolean) => out.text(if value == 0 { "FALSE" } else { "TRUE" }),
+        Some(ValueType::Process) => {
+            out.text("process ");
+            out.signed(value)
+        }
+        _ => out.signed(value),
     }
 }
 
@@ -47,41 +46,41 @@ fn local_type(program: &Program, piece: u32, slot: u32) -> Option<ValueType> {
 
 /// Appends the value of a local.
 pub(crate) fn append_value(
-    out: &mut String,
+    out: &mut TextWriter,
     program: &Program,
     piece: u32,
     slot: u32,
     value: i64,
-) -> Result<(), AllocError> {
+) {
     append_typed(out, local_type(program, piece, slot), value)
 }
 
 /// Appends the name of a local.
 pub(crate) fn append_local(
-    out: &mut String,
+    out: &mut TextWriter,
     follower: &Follower<'_, '_>,
     piece: u32,
     slot: u32,
-) -> Result<(), AllocError> {
-    append_bytes(out, follower.places.local(piece, slot))
+) {
+    out.shown(follower.places.local(piece, slot))
 }
 
 /// Appends the name of a piece, with the arguments that its locals begin with, where it has parameters.
 pub(crate) fn append_callee(
-    out: &mut String,
+    out: &mut TextWriter,
     follower: &Follower<'_, '_>,
     piece: u32,
     locals: &[i64],
-) -> Result<(), AllocError> {
-    append_piece(out, follower.places, piece)?;
+) {
+    append_piece(out, follower.places, piece);
     let Some(procedure) = follower.program.procedures.get(piece as usize) else {
-        return Ok(());
+        return;
     };
     for (number, (kind, value)) in procedure.parameters.iter().zip(locals).enumerate() {
-        out.push_str(if number == 0 { "(" } else { ", " })?;
-        append_typed(out, Some(*kind), *value)?;
+        out.text(if number == 0 { "(" } else { ", " });
+        append_typed(out, Some(*kind), *value);
     }
-    out.push_str(if procedure.parameters.is_empty() {
+    out.text(if procedure.parameters.is_empty() {
         ""
     } else {
         ")"

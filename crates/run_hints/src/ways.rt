@@ -1,7 +1,18 @@
 // How to look on.
 
-use crate::names::append_bytes;
 use std::alloc::AllocError;
+
+// Appends bytes of a file's name.
+fn append_bytes(out: &mut String, bytes: &[u8]) -> Result<(), AllocError> {
+    for byte in bytes {
+        out.push(if matches!(*byte, b' '..=b'~') {
+            char::from(*byte)
+        } else {
+            '?'
+        })?;
+    }
+    Ok(())
+}
 
 /// How a run was made.
 #[derive(Clone, Copy)]
