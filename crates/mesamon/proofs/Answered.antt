@@ -1,17 +1,19 @@
 -- How the program ends, by what it told.
 use Rattle.std.proofs.Common.{◌≡◌, ◌++◌, ◌⊎◌, ℕ, Bool, true, false, List, [], Result, Ok, Err, IfOk, IfErr, inl, inr, refl, codes}
-use Rattle.std.proofs.Common.{is_some, sym, subst}
+use Rattle.std.proofs.Common.{◌∙◌, is_some, sym, subst}
 use Rattle.commandline.specs.CommandLine.{AsksFor}
 use Rattle.commandline.specs.declared.job.Job.{Job}
 use Rattle.commandline.specs.declared.job.Job.TheVariants.{Check, Compile, List as ListImage, Run, Exec, Replay, Explain, Emit, Explore}
+use Rattle.commandline.proofs.Workers.{compiling_workers}
 use Rattle.log_text.specs.LogLines.{line_feed}
 use Rattle.scanner.specs.Refusals.{refusal_text}
 use Rattle.scanner.specs.declared.refusal.Refusal.{Refusal}
 use Rattle.runner.specs.declared.report.Verdict.{Verdict}
 use Rattle.runner.specs.declared.report.Verdict.TheVariants as verdict
 use Rattle.mesamon.specs.Answers.{IsTold, IsToldOrMemory, status_of_verdict}
-use Rattle.mesamon.specs.Asked.{asks_for_hints}
-use Rattle.mesamon.specs.Commands.{EndsSo, HasAnswered, HasDone, IsNoCommand, IsToldLeft, RefusesJob}
+use Rattle.mesamon.specs.Asked.{HasWorkers, asks_for_hints}
+use Rattle.mesamon.specs.Commands.{Devices, EndsSo, FinishesSo, HasAnswered, HasDone, HasDoneSome, IsNoCommand, IsToldFailed}
+use Rattle.mesamon.specs.Commands.{IsToldLeft, RefusesJob, RefusesSome}
 use Rattle.mesamon.specs.Exploring.{found_status}
 use Rattle.mesamon.specs.Failures.{IsRefusalBy}
 use Rattle.mesamon.specs.Overwriting.{overwrites}
@@ -22,25 +24,28 @@ use Rattle.mesamon.specs.declared.status.Status.{Status}
 use Rattle.mesamon.specs.declared.status.Status.TheVariants.{Done, Refused, Usage, Stuck, Limit, Memory, Failed}
 
 -- what was done of a job, of the job that it is
-pub done_as : {E : Type 0} (r : Result Answer E) (job same : Job) (bytes : List ℕ) → job ≡ same
-    → IfOk r (HasDone same bytes) → IfOk r (HasDone job bytes)
-done_as r job same bytes is h = subst (λ (j : Job). IfOk r (HasDone j bytes)) (sym is) h
+pub done_as : {E : Type 0} (r : Result Answer E) (job same : Job) (bytes second : List ℕ) → job ≡ same
+    → IfOk r (HasDone same bytes second) → IfOk r (HasDone job bytes second)
+done_as r job same bytes second is h = subst (λ (j : Job). IfOk r (HasDone j bytes second)) (sym is) h
 
 -- and why it has no answer
-pub refused_as : {T : Type 0} (r : Result T NoAnswer) (job same : Job) (bytes : List ℕ) → job ≡ same
-    → IfErr r (IsRefusalBy (RefusesJob same bytes)) → IfErr r (IsRefusalBy (RefusesJob job bytes))
-refused_as r job same bytes is h = subst (λ (j : Job). IfErr r (IsRefusalBy (RefusesJob j bytes))) (sym is) h
+pub refused_as : {T : Type 0} (r : Result T NoAnswer) (job same : Job) (bytes second : List ℕ) → job ≡ same
+    → IfErr r (IsRefusalBy (RefusesJob same bytes second)) → IfErr r (IsRefusalBy (RefusesJob job bytes second))
+refused_as r job same bytes second is h =
+    subst (λ (j : Job). IfErr r (IsRefusalBy (RefusesJob j bytes second))) (sym is) h
 
--- some bytes are those of the file
-pub some_bytes : {T E : Type 0} (r : Result T E) (bytes : List ℕ) (P : List ℕ → T → Type 0) → IfOk r (P bytes)
-    → IfOk r (λ a. (bs : List ℕ) × P bs a)
-some_bytes (Ok a) bytes P h = (bytes, h)
-some_bytes (Err e) bytes P h = tt
-
-pub some_refused : {T E : Type 0} (r : Result T E) (bytes : List ℕ) (P : List ℕ → E → Type 0) → IfErr r (P bytes)
-    → IfErr r (λ n. (bs : List ℕ) × P bs n)
-some_refused (Ok a) bytes P h = tt
-some_refused (Err e) bytes P h = (bytes, h)
+-- a job that words ask for has a number of workers that may be
+pub has_workers : (ws : List (List ℕ)) (job : Job) → AsksFor ws job → HasWorkers job
+has_workers ws (Check file hints) asks = tt
+has_workers ws (Compile file out workers version hints) asks =
+    compiling_workers ws (Compile file out workers version hints) file out workers version hints asks refl
+has_workers ws (ListImage image source hints) asks = tt
+has_workers ws (Run file options hints) asks = tt
+has_workers ws (Exec image options) asks = tt
+has_workers ws (Replay file by trace hints) asks = tt
+has_workers ws (Explain file by chart timeline places hints) asks = tt
+has_workers ws (Emit file out hints) asks = tt
+has_workers ws (Explore file states strays kills chart timeline hints) asks = tt
 
 -- a status with which a job that was done ends
 abbrev IsEnd : Status → Type 0
@@ -65,29 +70,29 @@ found_end false false = tt
 end_as : (s t : Status) → s ≡ t → IsEnd t → IsEnd s
 end_as s t is h = subst IsEnd (sym is) h
 
-ends : (job : Job) (bytes : List ℕ) (a : Answer) → HasDone job bytes a → IsEnd a.status
-ends (Check file hints) bytes a h = end_as a.status Done h.tells.ended tt
-ends (Compile file out workers version hints) bytes a h = end_as a.status Done h.tells.ended tt
-ends (ListImage image source hints) bytes a h = end_as a.status Done h.tells.ended tt
-ends (Run file options hints) bytes a h = end_as a.status _ h.tells.ended (verdict_end h.report.verdict)
-ends (Exec image options) bytes a h = end_as a.status _ h.runs.tells.ended (verdict_end h.runs.report.verdict)
-ends (Replay file by trace hints) bytes a h = end_as a.status _ h.tells.ended (verdict_end h.report.verdict)
-ends (Explain file by chart timeline places hints) bytes a h =
+ends : (job : Job) (bytes second : List ℕ) (a : Answer) → HasDone job bytes second a → IsEnd a.status
+ends (Check file hints) bytes second a h = end_as a.status Done h.tells.ended tt
+ends (Compile file out workers version hints) bytes second a h = end_as a.status Done h.tells.ended tt
+ends (ListImage image source hints) bytes second a h = end_as a.status Done h.tells.ended tt
+ends (Run file options hints) bytes second a h = end_as a.status _ h.tells.ended (verdict_end h.report.verdict)
+ends (Exec image options) bytes second a h = end_as a.status _ h.runs.tells.ended (verdict_end h.runs.report.verdict)
+ends (Replay file by trace hints) bytes second a h = end_as a.status _ h.tells.ended (verdict_end h.report.verdict)
+ends (Explain file by chart timeline places hints) bytes second a h =
     end_as a.status _ h.tells.ended (verdict_end h.explained_run.report.verdict)
-ends (Emit file out hints) bytes a h = end_as a.status Done h.tells.ended tt
-ends (Explore file states strays kills chart timeline hints) bytes a h =
+ends (Emit file out hints) bytes second a h = end_as a.status Done h.tells.1.ended tt
+ends (Explore file states strays kills chart timeline hints) bytes second a h =
     let e = h.explored_text.exploration in
     end_as a.status _ h.tells.ended (found_end (is_some e.stuck) e.complete)
 
--- standard output and standard error are known so; Out and Errs say that they failed
-module _ (ws : List (List ℕ)) (W E : List ℕ → Type 0) (Out Errs : Type 0) where
+-- by what is known of the devices; F says that one of them failed
+module _ (ws : List (List ℕ)) (on : Devices) where
   abbrev Ends : Status → Type 0
-  Ends s = EndsSo ws W E (Out ⊎ Errs) s
+  Ends s = EndsSo ws on s
 
-  failed : (s : Status) → s ≡ Failed → Out ⊎ Errs → Ends s
+  failed : (s : Status) → s ≡ Failed → on.Fails → Ends s
   failed s is fails = subst Ends (sym is) (inl fails)
 
-  at_end : (s : Status) → IsEnd s → HasAnswered ws W E s → Ends s
+  at_end : (s : Status) → IsEnd s → HasAnswered ws on s → Ends s
   at_end Done is h = h
   at_end Stuck is h = h
   at_end Limit is h = h
@@ -96,48 +101,56 @@ module _ (ws : List (List ℕ)) (W E : List ℕ → Type 0) (Out Errs : Type 0) 
   at_end Memory is h = absurd is
   at_end Failed is h = absurd is
 
+  -- memory that ran out
+  pub told_memory : (F : Type 0) (s : Status) → (F → on.Fails) → on.Wrote [] → IsTold (on.Told (codes "memory\n")) F Memory s
+      → Ends s
+  told_memory F s by none (inl (is, told)) = subst Ends (sym is) (none, told)
+  told_memory F s by none (inr (is, fails)) = failed s is (by fails)
+
+  -- words that ask for nothing
+  pub told_usage : (F : Type 0) (text : List ℕ) (s : Status) → (F → on.Fails) → on.Wrote [] → IsNoCommand ws
+      → IsTold (on.Told text) F Usage s → Ends s
+  told_usage F text s by none unasked (inl (is, told)) = subst Ends (sym is) (unasked, none)
+  told_usage F text s by none unasked (inr (is, fails)) = failed s is (by fails)
+
+  -- a failure
+  pub told_failure : (F : Type 0) (s : Status) → (F → on.Fails) → on.Wrote [] → IsToldFailed on.Told F s → Ends s
+  told_failure F s by none (inl (inl (is, w))) =
+      subst Ends (sym is) (inr (record { name = w.0; hints = w.1; wrote = none; told = w.2 }))
+  told_failure F s by none (inl (inr (is, fails))) = failed s is (by fails)
+  told_failure F s by none (inr memory) = told_memory F s by none memory
+
   -- a job that was done
-  pub told_answer : (job : Job) (bytes : List ℕ) (a : Answer) (hints : List ℕ) (s : Status) → AsksFor ws job
-      → overwrites job ≡ false → HasDone job bytes a → (asks_for_hints job ≡ false → hints ≡ [])
-      → IsTold (W a.output.items × E (a.account.items ++ hints)) (Out ⊎ Errs) a.status s → Ends s
-  told_answer job bytes a hints s asks apart done unasked (inl (is, both)) =
+  pub told_answer : (job : Job) (a : Answer) (asked : Bool) (s : Status) → AsksFor ws job → overwrites job ≡ false
+      → HasDoneSome on.Had job a → asked ≡ asks_for_hints job → FinishesSo on asked a s → Ends s
+  told_answer job a asked s asks apart done same (inl (put, hints, unasked, inl (is, both))) =
       subst Ends (sym is)
-      (at_end a.status (ends job bytes a done)
+      (at_end a.status (ends job done.bytes done.second a done.done)
       (record {
         job = job;
         asks = asks;
         apart = apart;
-        bytes = bytes;
         answer = a;
         done = done;
         ended = refl;
+        put = put;
         hints = hints;
-        unasked = unasked;
+        unasked = λ none. unasked (same ∙ none);
         wrote = both.0;
         told = both.1;
       }))
-  told_answer job bytes a hints s asks apart done unasked (inr (is, fails)) = failed s is fails
-
-  -- memory that ran out
-  pub told_memory : (s : Status) → W [] → IsTold (E (codes "memory\n")) Errs Memory s → Ends s
-  told_memory s none (inl (is, told)) = subst Ends (sym is) (none, told)
-  told_memory s none (inr (is, fails)) = failed s is (inr fails)
-
-  -- words that ask for nothing
-  pub told_usage : (text : List ℕ) (s : Status) → W [] → IsNoCommand ws → IsTold (E text) Errs Usage s → Ends s
-  told_usage text s none unasked (inl (is, told)) = subst Ends (sym is) (unasked, none)
-  told_usage text s none unasked (inr (is, fails)) = failed s is (inr fails)
+  told_answer job a asked s asks apart done same (inl (put, hints, unasked, inr (is, fails))) = failed s is fails
+  told_answer job a asked s asks apart done same (inr (none, told)) = told_failure on.Fails s (λ f. f) none told
 
   -- a text that is refused
-  pub told_refusal : (job : Job) (bytes : List ℕ) (e : Refusal) (hints : List ℕ) (s : Status) → W [] → AsksFor ws job
-      → RefusesJob job bytes e → (asks_for_hints job ≡ false → hints ≡ [])
-      → IsToldOrMemory E (E ((refusal_text e ++ line_feed) ++ hints)) Errs Refused s → Ends s
-  told_refusal job bytes e hints s none asks refuses unasked (inl (inl (is, told))) =
+  told_refusal : (F : Type 0) (job : Job) (e : Refusal) (hints : List ℕ) (s : Status) → (F → on.Fails) → on.Wrote []
+      → AsksFor ws job → RefusesSome on.Had job e → (asks_for_hints job ≡ false → hints ≡ [])
+      → IsToldOrMemory on.Told (on.Told ((refusal_text e ++ line_feed) ++ hints)) F Refused s → Ends s
+  told_refusal F job e hints s by none asks refuses unasked (inl (inl (is, told))) =
       subst Ends (sym is)
       (record {
         job = job;
         asks = asks;
-        bytes = bytes;
         refusal = e;
         refuses = refuses;
         hints = hints;
@@ -145,21 +158,13 @@ module _ (ws : List (List ℕ)) (W E : List ℕ → Type 0) (Out Errs : Type 0) 
         wrote = none;
         told = told;
       })
-  told_refusal job bytes e hints s none asks refuses unasked (inl (inr (is, fails))) = failed s is (inr fails)
-  told_refusal job bytes e hints s none asks refuses unasked (inr memory) = told_memory s none memory
-
-  -- a failure
-  pub told_failure : (s : Status) → W []
-      → IsToldOrMemory E ((name : List ℕ) × (more : List ℕ) × E ((name ++ line_feed) ++ more)) Errs Failed s → Ends s
-  told_failure s none (inl (inl (is, w))) =
-      subst Ends (sym is) (inr (record { name = w.0; hints = w.1; wrote = none; told = w.2 }))
-  told_failure s none (inl (inr (is, fails))) = failed s is (inr fails)
-  told_failure s none (inr memory) = told_memory s none memory
+  told_refusal F job e hints s by none asks refuses unasked (inl (inr (is, fails))) = failed s is (by fails)
+  told_refusal F job e hints s by none asks refuses unasked (inr memory) = told_memory F s by none memory
 
   -- a job without an answer
-  pub told_left : (job : Job) (bytes : List ℕ) (n : NoAnswer) (hints : List ℕ) (s : Status) → W [] → AsksFor ws job
-      → IsRefusalBy (RefusesJob job bytes) n → (asks_for_hints job ≡ false → hints ≡ []) → IsToldLeft E Errs hints n s
-      → Ends s
-  told_left job bytes (left.Refused e) hints s none asks refuses unasked told =
-      told_refusal job bytes e hints s none asks refuses unasked told
-  told_left job bytes (left.Failed f) hints s none asks refuses unasked told = told_failure s none told
+  pub told_left : (F : Type 0) (job : Job) (n : NoAnswer) (hints : List ℕ) (s : Status) → (F → on.Fails) → on.Wrote []
+      → AsksFor ws job → IsRefusalBy (RefusesSome on.Had job) n → (asks_for_hints job ≡ false → hints ≡ [])
+      → IsToldLeft on.Told F hints n s → Ends s
+  told_left F job (left.Refused e) hints s by none asks refuses unasked told =
+      told_refusal F job e hints s by none asks refuses unasked told
+  told_left F job (left.Failed f) hints s by none asks refuses unasked told = told_failure F s by none told

@@ -51,8 +51,9 @@ PiecesNeverAbort =
     → machine_end s.base q ≡ Some (Aborted cause) → IsCounted may cause → ⊥
 
 pub holds_of_image : NeverHangs → NeverAborts → PiecesNeverHang → PiecesNeverAbort → (p : Program) (may : Outside)
-    (e : Exploration) → Refines p (code_of p) × RefinesInPieces p (code_of p) → IsFoundOf p may e → HoldsOfImage p may e
-holds_of_image hangs aborts pieces_hang pieces_abort p may e (refines, pieces) found = record {
+    (most : ℕ) (e : Exploration) → Refines p (code_of p) × RefinesInPieces p (code_of p) → IsFoundOf p may most e
+    → HoldsOfImage p may e
+holds_of_image hangs aborts pieces_hang pieces_abort p may most e (refines, pieces) found = record {
   never_hangs = λ complete none steps s run few calm rests.
       hangs p (code_of p) may steps s refines (found.never_stuck complete none) run few calm rests;
   never_faults = λ complete none steps s q cause run few calm h counted.

@@ -3,8 +3,9 @@ mod Answered
 mod Explored
 mod Failing
 mod LegalLogs
-mod Listed
+mod ReadFiles
 mod Refusing
 mod Replays
 mod SourceLogs
+mod Told
 mod Written

@@ -6,9 +6,7 @@ use Rattle.scanner.specs.declared.refusal.Refusal.{Refusal}
 use Rattle.scanner.specs.declared.refusal.RefusalKind.TheVariants as kind
 use Rattle.runner.specs.Logs.{Outside}
 use Rattle.runner.specs.declared.schedule.Turn.{Turn}
-use Rattle.words.specs.declared.version.ImageVersion.{ImageVersion}
-use Rattle.compiler.specs.Accepts.{RefusesText, RefusesTextAs}
-use Rattle.mesamon.specs.Commands.{RefusesSource}
+use Rattle.compiler.specs.Accepts.{RefusesText}
 use Rattle.mesamon.specs.Explaining.{IsRefusedExplanation}
 use Rattle.mesamon.specs.Failures.{IsRefusalBy, OfExplain, OfRefusal, OfReplay, OfRun, OfSourceLog}
 use Rattle.mesamon.specs.Replaying.{IsRefusedReplay}
@@ -76,10 +74,3 @@ log_not_followed text lines (log.Refused e) n known gives = refused_by (RefusesT
 log_not_followed text lines (log.Line number) n known gives = fails (RefusesText text) n _ gives
 log_not_followed text lines (log.Entry number) n known gives = fails (RefusesText text) n _ gives
 log_not_followed text lines log.Memory n known gives = fails (RefusesText text) n _ gives
-
--- the source beside a listing is refused
-pub refused_source : (version : ImageVersion) (text : List ℕ) (e : Refusal) (n : NoAnswer)
-    → (e ≡ out_of_memory) ⊎ RefusesTextAs version text e → OfRefusal e n → IsRefusalBy RefusesSource n
-refused_source version text e n (inl memory) gives = refused_by RefusesSource e n (inl memory) gives
-refused_source version text e n (inr refuses) gives =
-    refused_by RefusesSource e n (inr (version, text, refuses)) gives

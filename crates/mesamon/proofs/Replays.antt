@@ -17,7 +17,8 @@ use Rattle.piece_machine.specs.PieceConcrete.{pieces_at}
 use Rattle.piece_machine.specs.PieceViews.{parts}
 use Rattle.piece_machine.proofs.Refused.{piece_breaks_so}
 use Rattle.lowering.specs.Pieces.{code_of}
-use Rattle.refinement.specs.Pieces.{RefinesInPieces}
+use Rattle.refinement.specs.Pieces.{ExplainedInPieces, RefinesInPieces}
+use Rattle.log_simulation.proofs.Verdicts.{verdict_so}
 use Rattle.runner.specs.Logs.{cost, event_cost}
 use Rattle.runner.specs.LogRuns.{local_step_of, shared_step_of, steps_of}
 use Rattle.runner.specs.Schedules.{FailsAt, IsFollowed, IsOneStep, turn_by, turn_by_event, turn_of}
@@ -88,6 +89,8 @@ replay_explained text image schedule r c f =
     sym (length-map r.log.items turn_of) ∙ ap length followed.follows.turns in
     let below = followed.few in
     let few : length steps < 2 ^ 32 = omega (arith, count, total, many, below) in
+    let explained : ExplainedInPieces c.program (code_of c.program) steps (pieces_at (parts r.last)) =
+    refines.follows run_buckets steps (pieces_at (parts r.last)) (omega arith) run few in
     record {
       program = c.program;
       accepts = c.accepts;
@@ -95,7 +98,8 @@ replay_explained text image schedule r c f =
       steps = steps;
       turns = same_turns steps (steps_of r.log.items) same ∙ steps_turns r.log.items single ∙ followed.follows.turns;
       machine_run = run;
-      explained = refines.follows run_buckets steps (pieces_at (parts r.last)) (omega arith) run few;
+      explained = explained;
+      says = verdict_so c.program steps (parts r.last) explained r.verdict followed.verdict;
     }
 
 sound_at : (text : List ℕ) (image : Program) (schedule : List Turn) (number : ℕ) (c : IsCompiled text image)

@@ -8,7 +8,7 @@ use Rattle.piece_machine.specs.PieceViews.{parts}
 use Rattle.program.specs.Trees.{Program as ProgramOf, as_version}
 use Rattle.lowering.specs.Pieces.{code_of}
 use Rattle.meaning.specs.Labels.{Action}
-use Rattle.refinement.specs.Pieces.{RefinesInPieces}
+use Rattle.refinement.specs.Pieces.{ExplainedInPieces, RefinesInPieces}
 use Rattle.runner.specs.declared.fault.RunFault.{RunFault}
 use Rattle.runner.specs.declared.fault.RunFault.TheVariants.{Broken, Memory, Stray, CannotMove, Limit}
 use Rattle.runner.specs.declared.report.Report.{Report}
@@ -16,6 +16,9 @@ use Rattle.runner.specs.Logs.{Outside}
 use Rattle.runner.specs.LogRuns.{RunsSo, LocallySo}
 use Rattle.runner.specs.Reports.{IsReport, CanFail, MeetsBroken}
 use Rattle.simulation.specs.ExplainedLog.{IsExplainedLog}
+use Rattle.log_simulation.specs.Verdicts.{SaysOf}
+use Rattle.log_simulation.proofs.Verdicts.{verdict_so}
+use Rattle.runner.specs.declared.report.Verdict.{Verdict}
 use Rattle.backend.specs.Lowered.{IsLowered}
 use Rattle.backend.specs.declared.lowered.Lowered.{Lowered}
 use Rattle.compiler.specs.Compiles.{IsCompiled}
@@ -31,6 +34,8 @@ run_explained runs text image may limit r c below report =
     let (steps, run, count, same, fit) = runs (code_of c.program) r.log.items (parts r.last) reported.legal in
     let within = reported.within in
     let few : length steps < 2 ^ 32 = omega arith in
+    let explained : ExplainedInPieces c.program (code_of c.program) steps (pieces_at (parts r.last)) =
+    refines.follows run_buckets steps (pieces_at (parts r.last)) (omega arith) run few in
     record {
       program = c.program;
       accepts = c.accepts;
@@ -39,7 +44,8 @@ run_explained runs text image may limit r c below report =
       count = count;
       labels = same;
       machine_run = run;
-      explained = refines.follows run_buckets steps (pieces_at (parts r.last)) (omega arith) run few;
+      explained = explained;
+      says = verdict_so c.program steps (parts r.last) explained r.verdict reported.verdict;
     }
 
 pub run_fails : (text : List ℕ) (image : Program) (may : Outside) (limit : ℕ) (fault : RunFault)
@@ -77,6 +83,20 @@ pub of_code : (p : ProgramOf) (image : Program) (log entries : List Entry) (acti
 of_code p image log entries actions own same h =
     subst (λ (es : List Entry). IsExplainedLog p (code_of p) es actions) same
     (subst (λ (i : Program). IsExplainedLog (as_version i.version p) i log actions) own h)
+
+-- the same, with what a verdict says of the source
+pub of_code_saying : (p : ProgramOf) (image : Program) (log entries : List Entry) (actions : List Action) (v : Verdict)
+    → image ≡ code_of p → log ≡ entries
+    → (e : IsExplainedLog (as_version image.version p) image log actions)
+    × SaysOf v (as_version image.version p) e.recorded.explained.explained.source
+    → (e : IsExplainedLog p (code_of p) entries actions) × SaysOf v p e.recorded.explained.explained.source
+of_code_saying p image log entries actions v own same h =
+    subst
+    (λ (es : List Entry). (e : IsExplainedLog p (code_of p) es actions) × SaysOf v p e.recorded.explained.explained.source)
+    same
+    (subst
+    (λ (i : Program). (e : IsExplainedLog (as_version i.version p) i log actions)
+    × SaysOf v (as_version i.version p) e.recorded.explained.explained.source) own h)
 
 -- what a program is lowered to has the version of its image
 pub of_own_version : (p : ProgramOf) (lowered : Lowered) → IsLowered p lowered

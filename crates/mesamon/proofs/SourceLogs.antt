@@ -9,7 +9,8 @@ use Rattle.piece_machine.specs.PieceConcrete.{pieces_at}
 use Rattle.piece_machine.specs.PieceViews.{PieceView, parts}
 use Rattle.program.specs.Trees.{Program}
 use Rattle.lowering.specs.Pieces.{code_of}
-use Rattle.refinement.specs.Pieces.{RefinesInPieces}
+use Rattle.refinement.specs.Pieces.{ExplainedInPieces, RefinesInPieces}
+use Rattle.log_simulation.proofs.Verdicts.{verdict_so}
 use Rattle.runner.specs.LogSchedules.{IsBadLogEntry, IsFollowedLog}
 use Rattle.runner.specs.Reports.{IsVerdict}
 use Rattle.runner.specs.declared.report.Report.{Report}
@@ -96,6 +97,8 @@ followed_log text lines image entries slice r c reads same f =
     followed.follows.legal in
     let below = followed.follows.few in
     let few : length steps < 2 ^ 32 = omega (arith, count, below) in
+    let explained : ExplainedInPieces c.program (code_of c.program) steps (pieces_at (parts r.last)) =
+    refines.follows run_buckets steps (pieces_at (parts r.last)) (omega arith) run few in
     record {
       log = record { program = c.program; accepts = c.accepts; entries = entries; reads = reads };
       followed = followed;
@@ -103,5 +106,6 @@ followed_log text lines image entries slice r c reads same f =
       count = count;
       labels = labels;
       machine_run = run;
-      explained = refines.follows run_buckets steps (pieces_at (parts r.last)) (omega arith) run few;
+      explained = explained;
+      says = verdict_so c.program steps (parts r.last) explained r.verdict followed.verdict;
     }

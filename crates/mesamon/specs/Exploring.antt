@@ -1,6 +1,7 @@
 -- What a search over all runs of a source text's program answers, and what is told of it.
 use Rattle.std.specs.Prelude.{ℕ, ◌≡◌, ◌<◌, ◌^◌, ◌++◌, Bool, length, true, false, IfSome, List, [], Option, Some, None, Vec, codes, map}
-use Rattle.std.specs.Prelude.{is_some, if◌then◌else◌, nat_lt}
+use Rattle.std.proofs.Common.{Bor}
+use Rattle.std.specs.Prelude.{is_some, if◌then◌else◌, nat_lt, ◌||◌}
 use Rattle.std.specs.Fmt.{decimal}
 use Rattle.std.specs.Global.{Global}
 use Rattle.std.specs.List.{flat_map}
@@ -19,24 +20,29 @@ use Rattle.refinement.specs.Seen.{machine_end}
 use Rattle.image_ends.specs.Ending.{AllOver, IsSearched}
 use Rattle.source_states.specs.declared.action.Action.{Action}
 use Rattle.source_states.specs.Actions.{action_of}
+use Rattle.source_search.specs.Bounds.{HasSearched}
 use Rattle.source_search.specs.Found.{HasFailed, IsCounted, LeadsNowhere, LeadsTo}
 use Rattle.source_search.specs.declared.outside.Outside.{Outside}
 use Rattle.source_search.specs.declared.runs.Exploration.{Exploration}
 use Rattle.actionlines.specs.Lines.{line}
+use Rattle.commandline.specs.declared.options.ChartOptions.{ChartOptions}
 use Rattle.compiler.specs.Accepts.{AcceptsText}
 use Rattle.log_text.specs.LogLines.{line_feed}
+use Rattle.mesamon.specs.Answers.{AreDrawn, ArePuts}
 use Rattle.mesamon.specs.declared.answer.Answer.{Answer}
+use Rattle.mesamon.specs.declared.answer.OutFiles.{OutFiles}
 use Rattle.mesamon.specs.declared.exploring.ExploredText.{ExploredText}
 use Rattle.mesamon.specs.declared.status.Status.{Status}
 use Rattle.mesamon.specs.declared.status.Status.TheVariants.{Done, Stuck, Limit}
 
--- what was found of a program, with as much from outside as may be: runs with such an end; and where the search was
--- complete and found none, there is none
-pub record IsFoundOf (p : Program) (may : Outside) (e : Exploration) : Type 0 where
+-- what was found of a program, with as much from outside as may be, keeping so many states at most: runs with such an end;
+-- where the search was complete and found none, there is none; and it was complete unless it met the bound that it names
+pub record IsFoundOf (p : Program) (may : Outside) (most : ℕ) (e : Exploration) : Type 0 where
   pub stuck : IfSome e.stuck (λ v. LeadsTo p may (IsStuck p) v.items)
   pub aborted : IfSome e.aborted (λ v. LeadsTo p may (HasFailed may) v.items)
   pub never_stuck : e.complete ≡ true → e.stuck ≡ None → LeadsNowhere p may (IsStuck p)
   pub never_aborted : e.complete ≡ true → e.aborted ≡ None → LeadsNowhere p may (HasFailed may)
+  pub searched : HasSearched p may most e
 
 -- of each run of the program's image, under whatever schedule, of fewer than 2^32 steps, in which no more are killed than
 -- may be, and, where no stray wakes were searched, nobody who waits on a condition is woken from outside: where the
@@ -59,9 +65,9 @@ pub record HoldsOfImage (p : Program) (may : Outside) (e : Exploration) : Type 0
       → machine_end s.base q ≡ Some (outcome.Aborted cause) → IsCounted may cause → ⊥
 
 -- the text's program, what was found of it, and what that says of its image
-pub record IsExploredText (text : List ℕ) (may : Outside) (r : ExploredText) : Type 0 where
+pub record IsExploredText (text : List ℕ) (may : Outside) (most : ℕ) (r : ExploredText) : Type 0 where
   pub accepts : AcceptsText text (said_by r.checked)
-  pub found : IsFoundOf (said_by r.checked) may r.exploration
+  pub found : IsFoundOf (said_by r.checked) may most r.exploration
   pub image : HoldsOfImage (said_by r.checked) may r.exploration
 
 -- the line of how many states were kept
@@ -95,14 +101,31 @@ found_status false false = Limit
 abbrev pub explored_status : Exploration → Status
 explored_status e = found_status (is_some e.stuck) e.complete
 
--- what was found is told alone
-pub record TellsFound (may : Outside) (r : ExploredText) (a : Answer) : Type 0 where
-  pub ended : a.status ≡ explored_status r.exploration
-  pub output : a.output.items ≡ explored_lines may r
-  pub account : a.account.items ≡ []
+-- whether a run was found
+abbrev pub is_found : Exploration → Bool
+is_found e = is_some e.stuck || is_some e.aborted
 
--- all runs of the text's program were searched, with as much from outside as may be, and what was found was told
-pub record HasExplored (may : Outside) (text : List ℕ) (a : Answer) : Type 0 where
-  pub explored_text : ExploredText
-  pub explored : IsExploredText text may explored_text
-  pub tells : TellsFound may explored_text a
+-- the run that was found is drawn and timed to the files of these names; where none was, no file is written
+abbrev pub AreDrawnIf : Bool → Option ChartOptions → Option (Bor (List ℕ)) → OutFiles → Type 0
+AreDrawnIf true chart timeline files = AreDrawn chart timeline files
+AreDrawnIf false chart timeline files = ArePuts None files
+
+-- what was found is told alone
+pub record TellsFound (may : Outside) (chart : Option ChartOptions) (timeline : Option (Bor (List ℕ))) (r : ExploredText)
+    (a : Answer)
+    : Type 0
+  where
+    pub ended : a.status ≡ explored_status r.exploration
+    pub output : a.output.items ≡ explored_lines may r
+    pub account : a.account.items ≡ []
+    pub files : AreDrawnIf (is_found r.exploration) chart timeline a.files
+
+-- all runs of the text's program were searched, with as much from outside as may be and keeping so many states at most, and
+-- what was found was told
+pub record HasExplored (may : Outside) (most : ℕ) (chart : Option ChartOptions) (timeline : Option (Bor (List ℕ))) (text : List ℕ)
+    (a : Answer)
+    : Type 0
+  where
+    pub explored_text : ExploredText
+    pub explored : IsExploredText text may most explored_text
+    pub tells : TellsFound may chart timeline explored_text a

@@ -74,3 +74,11 @@ OfSourceLog log.Memory n = n ≡ Failed Memory
 abbrev pub IsRefusalBy : (Refusal → Type 0) → NoAnswer → Type 0
 IsRefusalBy Refuses (Refused e) = Refuses e
 IsRefusalBy Refuses (Failed f) = Unit {0}
+
+-- it is want of memory
+abbrev pub HasNoMemory : NoAnswer → Type 0
+HasNoMemory n = n ≡ Failed Memory
+
+-- it is no refusal
+abbrev pub IsNoRefusal : NoAnswer → Type 0
+IsNoRefusal n = IsRefusalBy (λ e. ⊥) n

@@ -1,13 +1,14 @@
+pub mod Turns
 pub mod Running
 pub mod Alone
 pub mod Replaying
 pub mod Explaining
 pub mod SourceLog
 pub mod Asked
-pub mod Exploring
 pub mod Statuses
 pub mod ImageLine
 pub mod Failures
 pub mod Overwriting
 pub mod Answers
+pub mod Exploring
 pub mod Commands

@@ -9,6 +9,7 @@ use Rattle.piece_machine.specs.PieceViews.{parts}
 use Rattle.program.specs.Trees.{Program}
 use Rattle.lowering.specs.Pieces.{code_of}
 use Rattle.refinement.specs.Pieces.{ExplainedInPieces}
+use Rattle.log_simulation.specs.Verdicts.{SaysOf}
 use Rattle.runner.specs.declared.report.Report.{Report}
 use Rattle.runner.specs.declared.schedule.ScheduleFault.TheVariants as follow
 use Rattle.runner.specs.declared.schedule.Turn.{Turn}
@@ -23,7 +24,7 @@ abbrev pub step_turn : Step → Turn
 step_turn s = turn_by s.doing s.thread
 
 -- a report of the code of the text's program by a schedule: a run of the machine that has one step for each turn, in
--- that order, which a run of the program explains
+-- that order, which a run of the program explains; its verdict is one on the source
 pub record IsReplayOfText (text : List ℕ) (schedule : List Turn) (report : Report) : Type 0 where
   pub program : Program
   pub accepts : AcceptsText text program
@@ -32,6 +33,7 @@ pub record IsReplayOfText (text : List ℕ) (schedule : List Turn) (report : Rep
   pub turns : map step_turn steps ≡ schedule
   pub machine_run : PieceRun (code_of program) run_buckets steps (pieces_at (parts report.last))
   pub explained : ExplainedInPieces program (code_of program) steps (pieces_at (parts report.last))
+  pub says : SaysOf report.verdict program explained.source
 
 -- why an image of a text isn't run by a schedule to its end: the first entry that is refused, or want of memory
 abbrev pub IsLeftSchedule : Image → List Turn → ReplayFault → Type 0

@@ -9,6 +9,7 @@ use Rattle.piece_machine.specs.PieceViews.{parts}
 use Rattle.program.specs.Trees.{Program}
 use Rattle.lowering.specs.Pieces.{code_of}
 use Rattle.refinement.specs.Pieces.{ExplainedInPieces}
+use Rattle.log_simulation.specs.Verdicts.{SaysOf}
 use Rattle.runner.specs.declared.fault.RunFault.{RunFault}
 use Rattle.runner.specs.declared.report.Report.{Report}
 use Rattle.runner.specs.LogRuns.{steps_of}
@@ -20,7 +21,8 @@ use Rattle.compiler.specs.Accepts.{AcceptsText, RefusesText}
 use Rattle.scanner.specs.Refusals.{out_of_memory}
 
 -- a report of a run of the code of the text's program, with no more from outside than may be in it: a run of the machine,
--- whose steps are those of the report's log, one by one, and which a run of the program explains
+-- whose steps are those of the report's log, one by one, and which a run of the program explains. Its verdict is one on the
+-- source: each process is over, or the source is stuck, and each process waits that isn't over
 pub record IsRunOfText (text : List ℕ) (may : Outside) (limit : ℕ) (report : Report) : Type 0 where
   pub program : Program
   pub accepts : AcceptsText text program
@@ -30,6 +32,7 @@ pub record IsRunOfText (text : List ℕ) (may : Outside) (limit : ℕ) (report :
   pub labels : map label_of steps ≡ map event_label (steps_of report.log.items)
   pub machine_run : PieceRun (code_of program) run_buckets steps (pieces_at (parts report.last))
   pub explained : ExplainedInPieces program (code_of program) steps (pieces_at (parts report.last))
+  pub says : SaysOf report.verdict program explained.source
 
 -- the run of that code can fail so
 pub record IsFailedRun (text : List ℕ) (may : Outside) (limit : ℕ) (fault : RunFault) : Type 0 where

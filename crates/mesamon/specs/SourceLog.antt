@@ -14,6 +14,7 @@ use Rattle.program.specs.Names.{said_by}
 use Rattle.program.specs.Trees.{Program}
 use Rattle.lowering.specs.Pieces.{code_of}
 use Rattle.refinement.specs.Pieces.{ExplainedInPieces}
+use Rattle.log_simulation.specs.Verdicts.{SaysOf}
 use Rattle.source_states.specs.Actions.{action_of}
 use Rattle.backend.specs.Refusals.{CodeFits}
 use Rattle.runner.specs.LogSchedules.{IsBadLogEntry, IsFollowedLog}
@@ -53,13 +54,15 @@ pub record IsReportOfLog (p : Program) (entries : List Entry) (r : Report) : Typ
   pub output : r.output.items ≡ (concrete r.last.view).common.output
   pub verdict : IsVerdict (concrete r.last.view) r.verdict
 
--- the lines are those of a log of the code of the text's program, and the actions are its explanation
+-- the lines are those of a log of the code of the text's program, and the actions are its explanation; the verdict on where
+-- it leads is one on the source
 pub record IsExplanationOfLog (text lines : List ℕ) (r : ExplainedRun) : Type 0 where
   pub accepts : AcceptsText text (said_by r.checked)
   pub entries : List Entry
   pub reads : IsLogText lines entries
   pub explained : IsExplainedLog (said_by r.checked) (code_of (said_by r.checked)) entries (map action_of r.actions.items)
   pub report : IsReportOfLog (said_by r.checked) entries r.report
+  pub says : SaysOf r.report.verdict (said_by r.checked) explained.recorded.explained.explained.source
 
 -- the text is a program's, and the lines are those of entries
 pub record ReadsLog (text lines : List ℕ) : Type 0 where
@@ -111,7 +114,8 @@ IsWantOfMemory Memory = Unit {0}
 IsWantOfMemory fault = ⊥
 
 -- the report of the code of the text's program, run by the threads and counts of the log that the lines are: a run of the
--- machine, whose steps are those of the report's own log, one by one, and which a run of the program explains
+-- machine, whose steps are those of the report's own log, one by one, and which a run of the program explains; its verdict
+-- is one on the source
 pub record IsReplayOfLog (text lines : List ℕ) (report : Report) : Type 0 where
   pub log : ReadsLog text lines
   pub followed : IsFollowedLog (code_of log.program) log.entries report
@@ -120,6 +124,7 @@ pub record IsReplayOfLog (text lines : List ℕ) (report : Report) : Type 0 wher
   pub labels : map label_of steps ≡ map event_label (steps_of report.log.items)
   pub machine_run : PieceRun (code_of log.program) run_buckets steps (pieces_at (parts report.last))
   pub explained : ExplainedInPieces log.program (code_of log.program) steps (pieces_at (parts report.last))
+  pub says : SaysOf report.verdict log.program explained.source
 
 -- the entry of this number is the first that the code of the text's program can't follow
 pub record CannotFollow (text lines : List ℕ) (number : ℕ) : Type 0 where

@@ -1,60 +1,105 @@
-ghost use Rattle.std.specs.Prelude.{◌≡◌, ◌++◌, ◌⊎◌, [], IfOk, OnOk, OnErr};
+ghost use Rattle.std.specs.Prelude.{◌≡◌, ◌++◌, ◌⊎◌, None, [], IfOk, IfErr, OnOk, OnErr};
 ghost use Rattle.account_text.specs.Accounts.{account, output_lines};
 ghost use Rattle.devices.specs.Writing.{HasAll};
-ghost use Rattle.mesamon.specs.Answers.{HasMetFailure, status_of_verdict};
+ghost use Rattle.log_text.specs.LogLines.{log_lines};
+ghost use Rattle.mesamon.specs.Answers.{HasMetFailure, TellsReport, log_put, put_of, status_of_verdict};
+ghost use Rattle.mesamon.specs.Failures.{HasNoMemory};
 
+use crate::failure::NoAnswer;
 use crate::status::Status;
 use account_text::{append_account, append_output};
 use devices::{Counted, write_bytes};
+use log_text::append_log;
+use packed_log::LogReader;
 use runner::{Report, Verdict};
 use std::alloc::{AllocError, Global};
 use std::io;
 use std::io::Write;
 
-/// What a command that was done tells.
+/// A file that a command writes.
 #[derive(Drop)]
-pub struct Answer {
+pub struct OutFile<'a> {
+    /// Its name.
+    pub name: &'a str,
+    /// What it gets, in place of what it held.
+    pub bytes: Vec<u8>,
+}
+
+/// The files that a command writes.
+#[derive(Drop)]
+pub struct OutFiles<'a> {
+    /// That of the image, of the C, of the log or of the picture.
+    pub out: Option<OutFile<'a>>,
+    /// That of the timeline.
+    pub timeline: Option<OutFile<'a>>,
+}
+
+impl<'a> OutFiles<'a> {
+    /// None, or this one.
+    pub fn only(out: Option<OutFile<'a>>) -> OutFiles<'a>
+        ensures out { result.out ≡ out.entry }
+        ensures timeline { result.timeline ≡ None }
+    {
+        OutFiles {
+            out,
+            timeline: None,
+        }
+    }
+}
+
+/// What comes of a job that was done.
+#[derive(Drop)]
+pub struct Answer<'a> {
     /// How it ended.
     pub status: Status,
     /// What standard output gets.
     pub output: Vec<u8>,
     /// What standard error gets, but for hints.
     pub account: Vec<u8>,
+    /// The files that it writes.
+    pub files: OutFiles<'a>,
 }
 
-impl Answer {
-    /// That of a command that ended so and has nothing for standard error.
-    pub fn quiet(alloc: Global, status: Status, output: Vec<u8>) -> Answer
+impl<'a> Answer<'a> {
+    /// That of a job that ended so and has nothing for standard error.
+    pub fn quiet(alloc: Global, status: Status, output: Vec<u8>, files: OutFiles<'a>) -> Answer<'a>
         ensures status { result.status ≡ status }
         ensures output { result.output.items ≡ output.items }
         ensures account { result.account.items ≡ [] }
+        ensures files { result.files ≡ files.entry }
     {
         Answer {
             status,
             output,
             account: Vec::new(alloc),
+            files,
         }
     }
 
-    /// That of a run with this report, with its log or without.
-    pub fn of_report(alloc: Global, report: &Report, trace: bool) -> Result<Answer, AllocError>
-        ensures ended { IfOk result (λ a. a.status ≡ status_of_verdict report.now.verdict) }
-        ensures output { IfOk result (λ a. a.output.items ≡ output_lines report.now.output.items) }
-        ensures account { IfOk result (λ a. a.account.items ≡ account report.now trace) }
+    /// That of a run with this report, with its log on standard error or without, and in the file of this name, where one is
+    /// named.
+    pub fn of_report(
+        alloc: Global,
+        report: &Report,
+        trace: bool,
+        log: Option<&'a str>,
+    ) -> Result<Answer<'a>, NoAnswer<'a>>
+        ensures told { IfOk result (TellsReport report.now trace log.entry) }
+        ensures failed { IfErr result HasNoMemory }
     {
-        let mut output = String::new(alloc);
-        append_output(&mut output, report.output.as_slice())?;
-        let mut account = String::new(alloc);
-        append_account(&mut account, report, trace)?;
+        let output = output_of(alloc, report)?;
+        let account = account_of(alloc, report, trace)?;
+        let out = log_file(alloc, log, report.log.iter())?;
         Ok(Answer {
             status: status_of(report.verdict),
-            output: output.into_bytes(),
-            account: account.into_bytes(),
+            output,
+            account,
+            files: OutFiles::only(out),
         })
     }
 
-    /// Writes it, and hints behind its account. Each of the two devices gets all of its bytes, also where the other
-    /// failed.
+    /// Writes what it tells, and hints behind its account. Each of the two devices gets all of its bytes, also where the
+    /// other failed.
     pub fn write<O: Write, E: Write>(
         &self,
         hints: &str,
@@ -82,6 +127,48 @@ fn write_both<W: Write>(writer: &mut Counted<W>, first: &[u8], second: &[u8]) ->
 {
     write_bytes(writer, first)?;
     write_bytes(writer, second)
+}
+
+// The lines of what a run printed.
+fn output_of(alloc: Global, report: &Report) -> Result<Vec<u8>, AllocError>
+    ensures { IfOk result (λ v. v.items ≡ output_lines report.now.output.items) }
+{
+    let mut lines = String::new(alloc);
+    append_output(&mut lines, report.output.as_slice())?;
+    Ok(lines.into_bytes())
+}
+
+// The account of a run, with its log or without.
+fn account_of(alloc: Global, report: &Report, trace: bool) -> Result<Vec<u8>, AllocError>
+    ensures { IfOk result (λ v. v.items ≡ account report.now trace) }
+{
+    let mut lines = String::new(alloc);
+    append_account(&mut lines, report, trace)?;
+    Ok(lines.into_bytes())
+}
+
+// The file of a log, where one is named.
+fn log_file<'a>(
+    alloc: Global,
+    name: Option<&'a str>,
+    log: LogReader<'_>,
+) -> Result<Option<OutFile<'a>>, AllocError>
+    ensures { IfOk result (λ file. put_of file ≡ log_put name.entry log.entry) }
+{
+    let Some(name) = name else {
+        return Ok(None);
+    };
+    let bytes = log_bytes(alloc, log)?;
+    Ok(Some(OutFile { name, bytes }))
+}
+
+// The lines of a log.
+fn log_bytes(alloc: Global, log: LogReader<'_>) -> Result<Vec<u8>, AllocError>
+    ensures { IfOk result (λ v. v.items ≡ log_lines log.entry) }
+{
+    let mut lines = String::new(alloc);
+    append_log(&mut lines, log)?;
+    Ok(lines.into_bytes())
 }
 
 /// How a run that came to its end so ended.

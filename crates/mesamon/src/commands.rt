@@ -4,17 +4,18 @@ ghost use Rattle.devices.specs.Writing.{HasAll};
 ghost use Rattle.log_text.specs.LogLines.{line_feed};
 ghost use Rattle.scanner.specs.Refusals.{refusal_text};
 ghost use Rattle.mesamon.specs.Answers.{HasMetFailure, IsTold, IsToldOrMemory};
-ghost use Rattle.mesamon.specs.Commands.{EndsSo, IsToldLeft};
+ghost use Rattle.mesamon.specs.Commands.{EndsSo, FinishesSo, IsToldFailed, IsToldLeft, devices_by};
 ghost use Rattle.mesamon.specs.Statuses.{status_code};
 ghost use Rattle.mesamon.specs.declared.status.Status.{Status as StatusOf};
 
 use crate::answer::Answer;
 use crate::failure::{Failure, NoAnswer};
+use crate::files::put_files;
 use crate::jobs::{asks_for_hints, do_job};
 use crate::lines::write_text;
 use crate::overwriting::overwrites;
 use crate::status::Status;
-use crate::telling::tell_failure;
+use crate::telling::tell_more;
 use commandline::{Job, WordsFault, line};
 use devices::Counted;
 use scanner::Refusal;
@@ -36,8 +37,8 @@ const TWICE: &str = "error: a file that is to be written is named twice\n";
 /// and `errors` stand for standard output and standard error; the hints that the words ask for stand behind all else that
 /// `errors` gets. `progress` is told how far a search over all runs has come, as it goes, and gives nothing back.
 ///
-/// The first fault decides: of the words, of reading the files, of the source text or the image, of its run, of
-/// writing.
+/// The first fault decides: of the words, of reading the files, of the source text or the image, of its run, of writing
+/// the files, of writing what is told.
 ///
 /// A text or an image is run with a worker for each thread, but where a fixed order or that of a seed is asked for: then
 /// on the calling thread, so that the log is the same each time.
@@ -51,8 +52,8 @@ pub fn perform_with_hints<
     P: Progress,
 >(rt: &R, words: &[&str], output: &mut Counted<O>, errors: &mut Counted<E>, progress: &mut P) -> u8
     ensures { (status : StatusOf) × (result ≡ status_code status) × EndsSo (map (λ w. w.now) words.now)
-        (HasAll O.contents output.old output.new) (HasAll E.contents errors.old errors.new)
-        (HasMetFailure output.new ⊎ HasMetFailure errors.new) status }
+        (devices_by R.File.remaining R.File.contents O.contents E.contents output.old output.new
+        errors.old errors.new) status }
 {
     perform(rt, words, output, errors, progress).code()
 }
@@ -66,8 +67,8 @@ fn perform<R: Files + AllocGlobal + Threads + Wait + Sync, O: Write, E: Write, P
     progress: &mut P,
 ) -> Status
     ensures { EndsSo (map (λ w. w.now) words.now)
-        (HasAll O.contents output.old output.new) (HasAll E.contents errors.old errors.new)
-        (HasMetFailure output.new ⊎ HasMetFailure errors.new) result }
+        (devices_by R.File.remaining R.File.contents O.contents E.contents output.old output.new
+        errors.old errors.new) result }
 {
     match line(rt.alloc(), words) {
         Ok(job) => perform_job(rt, job, output, errors, progress),
@@ -86,20 +87,55 @@ fn perform_job<R: Files + AllocGlobal + Threads + Wait + Sync, O: Write, E: Writ
 ) -> Status
     requires { (ws : List (List ℕ)) × AsksFor ws job }
     ensures { (ws : List (List ℕ)) → AsksFor ws job.entry → EndsSo ws
-        (HasAll O.contents output.old output.new) (HasAll E.contents errors.old errors.new)
-        (HasMetFailure output.new ⊎ HasMetFailure errors.new) result }
+        (devices_by R.File.remaining R.File.contents O.contents E.contents output.old output.new
+        errors.old errors.new) result }
 {
     if overwrites(&job) {
         return tell(errors, TWICE, Status::Usage);
     }
     let mut hints = String::new(rt.alloc());
     let done = do_job(rt, job, &mut hints, progress);
-    tell_failure(&mut hints, &done);
-    let behind = asked_hints(asks_for_hints(&job), hints.as_str());
+    let asked = asks_for_hints(&job);
     match done {
-        Ok(answer) => tell_answer(&answer, behind, output, errors),
-        Err(left) => tell_left(rt.alloc(), left, behind, errors),
+        Ok(answer) => finish(rt, &answer, asked, hints.as_str(), output, errors),
+        Err(left) => {
+            tell_more(&mut hints, left);
+            tell_left(rt.alloc(), left, asked_hints(asked, hints.as_str()), errors)
+        }
     }
+}
+
+// Writes the files of a job that was done, and then what it tells.
+fn finish<R: Files + AllocGlobal, O: Write, E: Write>(
+    rt: &R,
+    answer: &Answer<'_>,
+    asked: bool,
+    hints: &str,
+    output: &mut Counted<O>,
+    errors: &mut Counted<E>,
+) -> Status
+    ensures { FinishesSo
+        (devices_by R.File.remaining R.File.contents O.contents E.contents output.old output.new
+        errors.old errors.new) asked answer.now result }
+{
+    match put_files(rt, &answer.files) {
+        Ok(()) => tell_answer(answer, asked_hints(asked, hints), output, errors),
+        Err(failure) => tell_unput(rt.alloc(), failure, asked, errors),
+    }
+}
+
+// Writes that a file couldn't be written, and why where that is known.
+fn tell_unput<E: Write>(
+    alloc: Global,
+    failure: Failure<'_>,
+    asked: bool,
+    errors: &mut Counted<E>,
+) -> Status
+    ensures { IsToldFailed (HasAll E.contents errors.old errors.new) (HasMetFailure errors.new) result }
+{
+    let mut hints = String::new(alloc);
+    tell_more(&mut hints, NoAnswer::Failed(failure));
+    tell_failed(alloc, failure, asked_hints(asked, hints.as_str()), errors)
 }
 
 // The hints, where they are asked for.
@@ -121,7 +157,7 @@ fn tell<E: Write>(errors: &mut Counted<E>, text: &str, status: Status) -> Status
 
 // Writes what a command that was done tells, and hints behind it.
 fn tell_answer<O: Write, E: Write>(
-    answer: &Answer,
+    answer: &Answer<'_>,
     hints: &str,
     output: &mut Counted<O>,
     errors: &mut Counted<E>,
@@ -177,10 +213,7 @@ fn tell_failed<E: Write>(
     hints: &str,
     errors: &mut Counted<E>,
 ) -> Status
-    ensures { IsToldOrMemory (HasAll E.contents errors.old errors.new)
-        ((name : List ℕ) × (more : List ℕ)
-        × HasAll E.contents errors.old errors.new ((name ++ line_feed) ++ more))
-        (HasMetFailure errors.new) Status.Failed result }
+    ensures { IsToldFailed (HasAll E.contents errors.old errors.new) (HasMetFailure errors.new) result }
 {
     if let Failure::Memory = failure {
         return tell(errors, MEMORY, Status::Memory);

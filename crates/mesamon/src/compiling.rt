@@ -1,13 +1,13 @@
-ghost use Rattle.std.specs.Prelude.{◌≤◌, ◌++◌, IfOk, IfErr, codes, length};
+ghost use Rattle.std.specs.Prelude.{◌≤◌, ◌++◌, IfOk, IfErr, None, Some, codes, length};
 ghost use Rattle.compiler.specs.Accepts.{RefusesProgram, RefusesText, RefusesTextAs};
-ghost use Rattle.mesamon.specs.Answers.{TellsAlone};
-ghost use Rattle.mesamon.specs.Commands.{HasChecked, HasCompiled, HasEmitted};
-ghost use Rattle.mesamon.specs.Failures.{IsRefusalBy};
+ghost use Rattle.isa.specs.Spelling.{spelling};
+ghost use Rattle.mesamon.specs.Answers.{TellsAlone, put_of};
+ghost use Rattle.mesamon.specs.Commands.{HasChecked, HasCompiled, HasEmitted, TellsEmitted};
+ghost use Rattle.mesamon.specs.Failures.{HasNoMemory, IsRefusalBy};
 ghost use Rattle.mesamon.specs.ImageLine.{image_line};
 
-use crate::answer::Answer;
-use crate::failure::{Failure, NoAnswer};
-use crate::files::put_bytes;
+use crate::answer::{Answer, OutFile, OutFiles};
+use crate::failure::NoAnswer;
 use crate::hinting::SourceText;
 use crate::lines::line_of_image;
 use crate::status::Status;
@@ -16,82 +16,80 @@ use emit::emit;
 use isa::{Image, encode};
 use program::Checked;
 use std::alloc::{AllocError, Global};
-use std::rt::Files;
 use std::sync::Wait;
 use std::thread::Threads;
 use words::{ImageVersion, OpenGate};
 
-// The answer that all is well.
-fn ok(alloc: Global) -> Result<Answer, AllocError>
-    ensures { IfOk result (TellsAlone (codes "ok\n")) }
+// The answer that all is well, with this file, or none.
+fn ok<'a>(alloc: Global, out: Option<OutFile<'a>>) -> Result<Answer<'a>, NoAnswer<'a>>
+    ensures told { IfOk result (TellsAlone (codes "ok\n") (put_of out.entry)) }
+    ensures failed { IfErr result HasNoMemory }
 {
     let line = Vec::from_slice(alloc, "ok\n".as_bytes())?;
-    Ok(Answer::quiet(alloc, Status::Done, line))
+    Ok(Answer::quiet(alloc, Status::Done, line, OutFiles::only(out)))
 }
 
 /// Checks a text.
-pub fn answer_check<'a>(alloc: Global, text: &SourceText<'_>) -> Result<Answer, NoAnswer<'a>>
+pub fn answer_check<'a>(alloc: Global, text: &SourceText<'_>) -> Result<Answer<'a>, NoAnswer<'a>>
     ensures done { IfOk result (HasChecked text.now.bytes.now) }
     ensures refused { IfErr result (IsRefusalBy (RefusesProgram text.now.bytes.now)) }
 {
     check_text(alloc, text.bytes)?;
-    Ok(ok(alloc)?)
+    ok(alloc, None)
 }
 
-/// Compiles a text to the file of an image of this version.
-pub fn answer_compile<'a, R: Files + AllocGlobal + Threads + Wait + Sync>(
+/// Compiles a text to an image of this version, for the file of this name.
+pub fn answer_compile<'a, R: AllocGlobal + Threads + Wait + Sync>(
     rt: &R,
     text: &SourceText<'_>,
     out: &'a str,
     version: ImageVersion,
     workers: u32,
-) -> Result<Answer, NoAnswer<'a>>
+) -> Result<Answer<'a>, NoAnswer<'a>>
     requires { (1 ≤ workers) × (workers ≤ 64) }
-    ensures done { IfOk result (HasCompiled version text.now.bytes.now) }
+    ensures done { IfOk result (HasCompiled version out.entry text.now.bytes.now) }
     ensures refused { IfErr result (IsRefusalBy (RefusesTextAs version text.now.bytes.now)) }
 {
     let image = compile_with_as(rt, rt.alloc(), text.bytes, version, workers, &OpenGate)?;
-    Ok(put_image(rt, &image, out)?)
+    image_answer(rt.alloc(), &image, out)
 }
 
-// Writes an image to a file.
-fn put_image<'a, R: Files + AllocGlobal>(
-    rt: &R,
-    image: &Image,
-    out: &'a str,
-) -> Result<Answer, Failure<'a>>
-    ensures { IfOk result (TellsAlone (image_line (length image.now.code))) }
+// That an image is made, and its bytes for the file of this name.
+fn image_answer<'a>(alloc: Global, image: &Image, out: &'a str) -> Result<Answer<'a>, NoAnswer<'a>>
+    ensures told { IfOk result (TellsAlone (image_line (length image.now.code))
+        (Some (out.entry, spelling image.now))) }
+    ensures failed { IfErr result HasNoMemory }
 {
-    let bytes = encode(rt.alloc(), image)?;
     let count = image.code().len();
-    let line = line_of_image(rt.alloc(), count)?;
-    put_bytes(rt, out, bytes.as_slice())?;
-    Ok(Answer::quiet(rt.alloc(), Status::Done, line.into_bytes()))
+    let line = line_of_image(alloc, count)?;
+    let bytes = encode(alloc, image)?;
+    let out = OutFile { name: out, bytes };
+    Ok(Answer::quiet(
+        alloc,
+        Status::Done,
+        line.into_bytes(),
+        OutFiles::only(Some(out)),
+    ))
 }
 
-/// Writes the program of a text as one in C to a file.
-pub fn answer_emit<'a, R: Files + AllocGlobal>(
-    rt: &R,
+/// Makes of the program of a text one in C, for the file of this name.
+pub fn answer_emit<'a>(
+    alloc: Global,
     text: &SourceText<'_>,
     out: &'a str,
-) -> Result<Answer, NoAnswer<'a>>
-    ensures done { IfOk result (HasEmitted text.now.bytes.now) }
+) -> Result<Answer<'a>, NoAnswer<'a>>
+    ensures done { IfOk result (HasEmitted out.entry text.now.bytes.now) }
     ensures refused { IfErr result (IsRefusalBy (RefusesText text.now.bytes.now)) }
 {
-    let (checked, _lowered) = compile_checked(rt.alloc(), text.bytes)?;
-    Ok(put_c(rt, &checked, out)?)
+    let (checked, _lowered) = compile_checked(alloc, text.bytes)?;
+    c_answer(alloc, &checked, out)
 }
 
-// Writes a program as one in C to a file.
-fn put_c<'a, R: Files + AllocGlobal>(
-    rt: &R,
-    checked: &Checked,
-    out: &'a str,
-) -> Result<Answer, Failure<'a>>
-    ensures { IfOk result (TellsAlone (codes "ok\n")) }
+// That the C of a program is made, and its bytes for the file of this name.
+fn c_answer<'a>(alloc: Global, checked: &Checked, out: &'a str) -> Result<Answer<'a>, NoAnswer<'a>>
+    ensures told { IfOk result (TellsEmitted out.entry) }
+    ensures failed { IfErr result HasNoMemory }
 {
-    let lines = emit(rt.alloc(), checked)?;
-    let answer = ok(rt.alloc())?;
-    put_bytes(rt, out, lines.as_slice())?;
-    Ok(answer)
+    let bytes = emit(alloc, checked)?;
+    ok(alloc, Some(OutFile { name: out, bytes }))
 }

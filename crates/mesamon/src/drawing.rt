@@ -1,5 +1,8 @@
-use crate::failure::Failure;
-use crate::files::put_bytes;
+ghost use Rattle.std.specs.Prelude.{◌≡◌, IfOk};
+ghost use Rattle.mesamon.specs.Answers.{AreDrawn, name_of};
+ghost use Rattle.mesamon.specs.Overwriting.{out_of};
+
+use crate::answer::{OutFile, OutFiles};
 use chart::{Picture, chart};
 use commandline::ChartOptions;
 use packed_log::PackedLog;
@@ -7,7 +10,6 @@ use places::{Places, places_of};
 use program::Checked;
 use source_states::Action;
 use std::alloc::{AllocError, Global};
-use std::rt::Files;
 use timeline::timeline;
 
 /// The files that show a run, where they are wanted.
@@ -35,46 +37,47 @@ pub struct ShownRun<'r, 'n> {
 }
 
 impl<'a> Drawings<'a> {
-    /// Writes them for a run. All are made before the first is written.
-    pub fn put<R: Files + AllocGlobal>(
-        &self,
-        rt: &R,
-        run: &ShownRun<'_, '_>,
-    ) -> Result<(), Failure<'a>> {
-        let picture = self.picture(rt.alloc(), run)?;
-        let records = self.records(rt.alloc(), run)?;
-        if let (Some(options), Some(picture)) = (self.chart, &picture) {
-            put_bytes(rt, options.out, picture.as_slice())?;
-        }
-        if let (Some(out), Some(records)) = (self.timeline, &records) {
-            put_bytes(rt, out, records.as_slice())?;
-        }
-        Ok(())
+    /// Makes them for a run.
+    pub fn drawn(&self, alloc: Global, run: &ShownRun<'_, '_>) -> Result<OutFiles<'a>, AllocError>
+        ensures { IfOk result (AreDrawn self.now.chart self.now.timeline) }
+    {
+        let out = picture_file(alloc, run, self.chart)?;
+        let timeline = timeline_file(alloc, run, self.timeline)?;
+        Ok(OutFiles { out, timeline })
     }
+}
 
-    // The picture, where one is wanted.
-    fn picture(
-        &self,
-        alloc: Global,
-        run: &ShownRun<'_, '_>,
-    ) -> Result<Option<Vec<u8>>, AllocError> {
-        match self.chart {
-            Some(options) => Ok(Some(picture_of(alloc, run, options)?)),
-            None => Ok(None),
-        }
-    }
+// The file of the picture, where one is wanted.
+fn picture_file<'a>(
+    alloc: Global,
+    run: &ShownRun<'_, '_>,
+    wanted: Option<ChartOptions<'a>>,
+) -> Result<Option<OutFile<'a>>, AllocError>
+    ensures { IfOk result (λ file. name_of file ≡ out_of wanted.entry) }
+{
+    let Some(options) = wanted else {
+        return Ok(None);
+    };
+    let bytes = picture_of(alloc, run, options)?;
+    Ok(Some(OutFile {
+        name: options.out,
+        bytes,
+    }))
+}
 
-    // The records of the timeline, where one is wanted.
-    fn records(
-        &self,
-        alloc: Global,
-        run: &ShownRun<'_, '_>,
-    ) -> Result<Option<Vec<u8>>, AllocError> {
-        match self.timeline {
-            Some(_) => Ok(Some(timeline(alloc, run.checked, run.actions)?)),
-            None => Ok(None),
-        }
-    }
+// The file of the timeline, where one is wanted.
+fn timeline_file<'a>(
+    alloc: Global,
+    run: &ShownRun<'_, '_>,
+    wanted: Option<&'a str>,
+) -> Result<Option<OutFile<'a>>, AllocError>
+    ensures { IfOk result (λ file. name_of file ≡ wanted.entry) }
+{
+    let Some(name) = wanted else {
+        return Ok(None);
+    };
+    let bytes = timeline(alloc, run.checked, run.actions)?;
+    Ok(Some(OutFile { name, bytes }))
 }
 
 // The names of the pieces of a program, by their numbers.

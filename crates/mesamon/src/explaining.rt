@@ -2,13 +2,17 @@ ghost use Rattle.std.specs.Prelude.{IfOk, IfErr, true};
 ghost use Rattle.compiler.specs.Accepts.{RefusesText};
 ghost use Rattle.mesamon.specs.Asked.{IsExplainedAs};
 ghost use Rattle.mesamon.specs.Commands.{AreTold, HasExplained, TellsRun, explained_lines};
-ghost use Rattle.mesamon.specs.Failures.{IsRefusalBy};
+ghost use Rattle.mesamon.specs.Explaining.{IsExplanation};
+ghost use Rattle.mesamon.specs.Failures.{HasNoMemory, IsRefusalBy};
+ghost use Rattle.mesamon.specs.Replaying.{IsReplayOfText};
+ghost use Rattle.mesamon.specs.SourceLog.{IsExplanationOfLog};
+ghost use Rattle.mesamon.specs.Turns.{turns_in};
+ghost use Rattle.mesamon.specs.Answers.{AreDrawn};
 
-use crate::answer::{Answer, status_of};
+use crate::answer::{Answer, OutFiles, status_of};
 use crate::drawing::{Drawings, ShownRun};
 use crate::explained_run::{ExplainedRun, explain_by_seed, explain_schedule, explain_source};
-use crate::failure::{Failure, NoAnswer};
-use crate::files::whole_bytes_of;
+use crate::failure::NoAnswer;
 use crate::hinting::SourceText;
 use crate::schedule::schedule_of;
 use crate::source_log::explain_log_text;
@@ -19,51 +23,56 @@ use commandline::ExplainedBy;
 use line_tails::put_beside;
 use run_hints::asides_of;
 use std::alloc::{AllocError, Global};
-use std::rt::Files;
 
-/// Explains what a run of a source text is in its source, and shows it in other files where they are named.
-pub fn answer_explain<'a, R: Files + AllocGlobal>(
-    rt: &R,
+/// Explains what a run of a source text is in its source, and shows it in other files where they are named. `second` has
+/// the bytes of the schedule or the log.
+pub fn answer_explain<'a>(
+    alloc: Global,
     text: &SourceText<'_>,
+    second: &[u8],
     by: ExplainedBy<'a>,
     drawings: Drawings<'a>,
     places: bool,
     told: &mut String,
-) -> Result<Answer, NoAnswer<'a>>
-    ensures done { IfOk result (HasExplained by.entry places text.now.bytes.now) }
+) -> Result<Answer<'a>, NoAnswer<'a>>
+    ensures done { IfOk result (HasExplained by.entry second.now places drawings.entry.chart
+        drawings.entry.timeline text.now.bytes.now) }
     ensures refused { IfErr result (IsRefusalBy (RefusesText text.now.bytes.now)) }
 {
-    let run = explain_by(rt, text, by, told)?;
-    tell_explained(rt.alloc(), told, text, &run, by);
-    Ok(show_run(rt, text, &run, by, drawings, places)?)
+    let run = explain_by(alloc, text, second, by, told)?;
+    tell_explained(alloc, told, text, &run, by);
+    run_answer(alloc, text, &run, by, drawings, places)
 }
 
 // Tells an explained run, and shows it in other files where they are named. It is lent: a caller that owned it over all that
 // can fail here took the borrow checker minutes.
-fn show_run<'a, R: Files + AllocGlobal>(
-    rt: &R,
+fn run_answer<'a>(
+    alloc: Global,
     text: &SourceText<'_>,
     run: &ExplainedRun<'_>,
     by: ExplainedBy<'a>,
     drawings: Drawings<'a>,
     places: bool,
-) -> Result<Answer, Failure<'a>>
-    ensures { IfOk result (TellsRun places run.now) }
+) -> Result<Answer<'a>, NoAnswer<'a>>
+    ensures told { IfOk result (TellsRun places drawings.entry.chart drawings.entry.timeline run.now) }
+    ensures failed { IfErr result HasNoMemory }
 {
-    let lines = run_lines(rt.alloc(), text, run, places)?;
-    put_run(rt, drawings, text, run, by)?;
-    Ok(Answer::quiet(rt.alloc(), status_of(run.report.verdict), lines))
+    let lines = run_lines(alloc, text, run, places)?;
+    let files = drawn_run(alloc, drawings, text, run, by)?;
+    Ok(Answer::quiet(alloc, status_of(run.report.verdict), lines, files))
 }
 
-// Shows an explained run in files.
-fn put_run<'a, R: Files + AllocGlobal>(
-    rt: &R,
+// The files that show an explained run.
+fn drawn_run<'a>(
+    alloc: Global,
     drawings: Drawings<'a>,
     text: &SourceText<'_>,
     run: &ExplainedRun<'_>,
     by: ExplainedBy<'a>,
-) -> Result<(), Failure<'a>> {
-    let title = title_of(rt.alloc(), text.file, by, run.report.verdict)?;
+) -> Result<OutFiles<'a>, AllocError>
+    ensures { IfOk result (AreDrawn drawings.entry.chart drawings.entry.timeline) }
+{
+    let title = title_of(alloc, text.file, by, run.report.verdict)?;
     let shown = ShownRun {
         text: text.bytes,
         checked: &run.checked,
@@ -71,7 +80,7 @@ fn put_run<'a, R: Files + AllocGlobal>(
         log: &run.report.log,
         title: title.as_str(),
     };
-    drawings.put(rt, &shown)
+    drawings.drawn(alloc, &shown)
 }
 
 // The lines of an explained run, with the places of its actions behind them where those are wanted.
@@ -110,17 +119,17 @@ fn lines_beside(
     put_beside(alloc, "", lines, tails.as_slice())
 }
 
-// Runs a text and explains the run, or explains the log of a file.
-fn explain_by<'a, 't, R: Files + AllocGlobal>(
-    rt: &R,
+// Runs a text and explains the run, or explains a log.
+fn explain_by<'a, 't>(
+    alloc: Global,
     text: &SourceText<'t>,
+    second: &[u8],
     by: ExplainedBy<'a>,
     told: &mut String,
 ) -> Result<ExplainedRun<'t>, NoAnswer<'a>>
-    ensures run { IfOk result (λ run. IsExplainedAs by.entry text.now.bytes.now run) }
+    ensures run { IfOk result (λ run. IsExplainedAs by.entry second.now text.now.bytes.now run) }
     ensures refused { IfErr result (IsRefusalBy (RefusesText text.now.bytes.now)) }
 {
-    let alloc = rt.alloc();
     match by {
         ExplainedBy::Order { steps } => Ok(explain_source(alloc, text.bytes, steps)?),
         ExplainedBy::Seed {
@@ -129,19 +138,41 @@ fn explain_by<'a, 't, R: Files + AllocGlobal>(
             strays,
             kills,
         } => Ok(explain_by_seed(alloc, text.bytes, steps, seed, strays, kills)?),
-        ExplainedBy::Schedule(name) => {
-            let turns = schedule_of(rt, name)?;
-            match explain_schedule(alloc, text.bytes, turns.as_slice()) {
-                Ok(run) => Ok(run),
-                Err(fault) => Err(told_turn(alloc, told, text, turns.as_slice(), fault)),
-            }
-        }
-        ExplainedBy::Log(name) => {
-            let log = whole_bytes_of(rt, name)?;
-            match explain_log_text(alloc, text.bytes, log.as_slice()) {
-                Ok(run) => Ok(run),
-                Err(fault) => Err(told_entry(alloc, told, text, log.as_slice(), fault)),
-            }
-        }
+        ExplainedBy::Schedule(_) => explain_turns(alloc, text, second, told),
+        ExplainedBy::Log(_) => explain_log(alloc, text, second, told),
+    }
+}
+
+// Explains the run by the schedule that these bytes are.
+fn explain_turns<'a, 't>(
+    alloc: Global,
+    text: &SourceText<'t>,
+    schedule: &[u8],
+    told: &mut String,
+) -> Result<ExplainedRun<'t>, NoAnswer<'a>>
+    ensures run { IfOk result (λ run. IsExplanation text.now.bytes.now
+        (IsReplayOfText text.now.bytes.now (turns_in schedule.now)) run) }
+    ensures refused { IfErr result (IsRefusalBy (RefusesText text.now.bytes.now)) }
+{
+    let turns = schedule_of(alloc, schedule)?;
+    match explain_schedule(alloc, text.bytes, turns.as_slice()) {
+        Ok(run) => Ok(run),
+        Err(fault) => Err(told_turn(alloc, told, text, turns.as_slice(), fault)),
+    }
+}
+
+// Explains the log whose lines these are.
+fn explain_log<'a, 't>(
+    alloc: Global,
+    text: &SourceText<'t>,
+    lines: &[u8],
+    told: &mut String,
+) -> Result<ExplainedRun<'t>, NoAnswer<'a>>
+    ensures run { IfOk result (λ run. IsExplanationOfLog text.now.bytes.now lines.now run) }
+    ensures refused { IfErr result (IsRefusalBy (RefusesText text.now.bytes.now)) }
+{
+    match explain_log_text(alloc, text.bytes, lines) {
+        Ok(run) => Ok(run),
+        Err(fault) => Err(told_entry(alloc, told, text, lines, fault)),
     }
 }

@@ -1,14 +1,14 @@
-ghost use Rattle.std.specs.Prelude.{◌≡◌, ◌++◌, ◌⊎◌, IfOk, IfErr, MatchResult, OnOk, string_bytes};
+ghost use Rattle.std.specs.Prelude.{◌≡◌, ◌++◌, ◌⊎◌, IfOk, IfErr, MatchResult, OnOk, is_some, string_bytes};
 ghost use Rattle.scanner.specs.Refusals.{out_of_memory};
 ghost use Rattle.program.specs.Names.{naming_of, said_by};
 ghost use Rattle.compiler.specs.Accepts.{RefusesText};
 ghost use Rattle.mesamon.specs.Exploring.{end_lines, explored_lines, explored_status, none_aborts, states_line};
-ghost use Rattle.mesamon.specs.Exploring.{HasExplored, IsExploredText, IsFoundOf, TellsFound};
-ghost use Rattle.mesamon.specs.Failures.{IsRefusalBy};
+ghost use Rattle.mesamon.specs.Exploring.{AreDrawnIf, HasExplored, IsExploredText, IsFoundOf, TellsFound, is_found};
+ghost use Rattle.mesamon.specs.Failures.{HasNoMemory, IsRefusalBy};
 
-use crate::answer::Answer;
+use crate::answer::{Answer, OutFiles};
 use crate::drawing::{Drawings, ShownRun};
-use crate::failure::{Failure, NoAnswer};
+use crate::failure::NoAnswer;
 use crate::hinting::SourceText;
 use crate::status::Status;
 use crate::telling::tell_found;
@@ -23,7 +23,6 @@ use source_search::{Exploration, Outside, Progress, explore};
 use source_states::Action;
 use std::alloc::{AllocError, Global};
 use std::fmt::Write as _;
-use std::rt::Files;
 
 /// A source text's program, and what a search over all its runs found.
 #[derive(Drop)]
@@ -38,7 +37,8 @@ pub struct ExploredText<'a> {
 /// one in which a process aborts. With strays, processes that wait on a condition are also woken by nobody; with kills,
 /// so many processes at most are killed, wherever they stand, and who was killed doesn't count as one that aborts.
 ///
-/// Where the search was complete and found none, there is none, and so no schedule of the text's image hangs, or has a
+/// The search is complete unless it met a bound, which `Exploration::bound` names: as many states are kept as may be, or one
+/// of the others. Where it was complete and found none, there is none, and so no schedule of the text's image hangs, or has a
 /// thread that aborts: with strays whatever wakes come from outside, else as long as none do; and as long as no more
 /// threads are killed. That is so where futex calls are whole, and where they are taken in pieces.
 ///
@@ -54,7 +54,7 @@ pub fn explore_source<'a, P: Progress>(
     outside: Outside,
     progress: &mut P,
 ) -> Result<ExploredText<'a>, Refusal>
-    ensures { MatchResult result (λ explored. IsExploredText text.now outside explored)
+    ensures { MatchResult result (λ explored. IsExploredText text.now outside most_states explored)
         (λ e. (e ≡ out_of_memory) ⊎ RefusesText text.now e) }
 {
     text_laws();
@@ -75,66 +75,66 @@ fn explore_checked<P: Progress>(
     outside: Outside,
     progress: &mut P,
 ) -> Result<Exploration, AllocError>
-    ensures { IfOk result (λ e. IsFoundOf (said_by checked.now) outside e) }
+    ensures { IfOk result (IsFoundOf (said_by checked.now) outside most_states) }
 {
     explore(alloc, checked, most_states, outside, progress)
 }
 
 /// Searches all runs of a source text, with as much from outside as may be, tells what is found, and shows it in other
 /// files where they are named and anything was found. How far the search has come is told as it goes.
-pub fn answer_explore<'a, R: Files + AllocGlobal, P: Progress>(
-    rt: &R,
+pub fn answer_explore<'a, P: Progress>(
+    alloc: Global,
     text: &SourceText<'_>,
     most_states: u32,
     outside: Outside,
     drawings: Drawings<'a>,
     told: &mut String,
     progress: &mut P,
-) -> Result<Answer, NoAnswer<'a>>
-    ensures done { IfOk result (HasExplored outside text.now.bytes.now) }
+) -> Result<Answer<'a>, NoAnswer<'a>>
+    ensures done { IfOk result (HasExplored outside most_states drawings.entry.chart drawings.entry.timeline
+        text.now.bytes.now) }
     ensures refused { IfErr result (IsRefusalBy (RefusesText text.now.bytes.now)) }
 {
-    let explored = explore_source(
-        rt.alloc(),
-        text.bytes,
-        most_states as usize,
-        outside,
-        progress,
-    )?;
+    let explored = explore_source(alloc, text.bytes, most_states as usize, outside, progress)?;
     let found = shown(&explored.exploration);
-    tell_found(rt.alloc(), told, text, &explored.checked, found);
-    Ok(show_found(rt, text, &explored, outside, drawings)?)
+    tell_found(alloc, told, text, &explored.checked, found);
+    found_answer(alloc, text, &explored, outside, drawings)
 }
 
 // Tells what was found, and shows it in other files where they are named.
-fn show_found<'a, R: Files + AllocGlobal>(
-    rt: &R,
+fn found_answer<'a>(
+    alloc: Global,
     text: &SourceText<'_>,
     explored: &ExploredText<'_>,
     outside: Outside,
     drawings: Drawings<'a>,
-) -> Result<Answer, Failure<'a>>
-    ensures { IfOk result (TellsFound outside explored.now) }
+) -> Result<Answer<'a>, NoAnswer<'a>>
+    ensures told { IfOk result (TellsFound outside drawings.entry.chart drawings.entry.timeline
+        explored.now) }
+    ensures failed { IfErr result HasNoMemory }
 {
-    let lines = lines_of(rt.alloc(), explored, outside)?;
-    put_found(rt, drawings, text, explored)?;
+    let lines = lines_of(alloc, explored, outside)?;
+    let files = drawn_found(alloc, drawings, text, explored)?;
     let status = status_of_found(&explored.exploration);
-    Ok(Answer::quiet(rt.alloc(), status, lines))
+    Ok(Answer::quiet(alloc, status, lines, files))
 }
 
-// Shows the run that was found in files.
-fn put_found<'a, R: Files + AllocGlobal>(
-    rt: &R,
+// The files that show the run that was found.
+fn drawn_found<'a>(
+    alloc: Global,
     drawings: Drawings<'a>,
     text: &SourceText<'_>,
     explored: &ExploredText<'_>,
-) -> Result<(), Failure<'a>> {
+) -> Result<OutFiles<'a>, AllocError>
+    ensures { IfOk result (AreDrawnIf (is_found explored.now.exploration) drawings.entry.chart
+        drawings.entry.timeline) }
+{
     let Some(actions) = shown(&explored.exploration) else {
-        return Ok(());
+        return Ok(OutFiles::only(None));
     };
     let is_stuck = explored.exploration.stuck.is_some();
-    let title = title_of_found(rt.alloc(), text.file, is_stuck)?;
-    let log = PackedLog::new(rt.alloc());
+    let title = title_of_found(alloc, text.file, is_stuck)?;
+    let log = PackedLog::new(alloc);
     let run = ShownRun {
         text: text.bytes,
         checked: &explored.checked,
@@ -142,11 +142,13 @@ fn put_found<'a, R: Files + AllocGlobal>(
         log: &log,
         title: title.as_str(),
     };
-    drawings.put(rt, &run)
+    drawings.drawn(alloc, &run)
 }
 
 // The run that was found: the stuck one, where there are two.
-fn shown(found: &Exploration) -> Option<&[Action]> {
+fn shown(found: &Exploration) -> Option<&[Action]>
+    ensures { is_some result ≡ is_found found.now }
+{
     match (&found.stuck, &found.aborted) {
         (Some(actions), _) => Some(actions.as_slice()),
         (None, Some(actions)) => Some(actions.as_slice()),

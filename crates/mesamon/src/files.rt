@@ -1,9 +1,13 @@
-ghost use Rattle.std.specs.Prelude.{◌≡◌, IfOk};
+ghost use Rattle.std.specs.Prelude.{◌≡◌, ◌+◌, ◌^◌, IfOk, IfSome, OnOk};
+ghost use Rattle.devices.specs.Files.{IsOfFile, IsPut};
 ghost use Rattle.isa.specs.Spelling.{IsSpelled, spelling};
+ghost use Rattle.mesamon.specs.Answers.{ArePut, put_of};
 
+use crate::answer::{OutFile, OutFiles};
 use crate::failure::Failure;
 use devices::{Counted, put_file, read_source, read_whole};
 use isa::{Image, decode};
+use scanner::MOST_BYTES;
 use std::alloc::Global;
 use std::fs;
 use std::rt::Files;
@@ -12,29 +16,56 @@ use std::rt::Files;
 ///
 /// No more is needed: a source text of so many bytes is refused as too long, and an image ends earlier, since each of
 /// its 65,536 instructions has at most 11 bytes.
-pub fn bytes_of<'a, R: Files + AllocGlobal>(rt: &R, name: &'a str) -> Result<Vec<u8>, Failure<'a>> {
+pub fn bytes_of<'a, R: Files + AllocGlobal>(rt: &R, name: &'a str) -> Result<Vec<u8>, Failure<'a>>
+    ensures { IfOk result (λ v. IsOfFile R.File.remaining (MOST_BYTES + 1) v.items) }
+{
     let file = fs::open(rt, name).map_err(|error| Failure::of_read(name, &error))?;
-    read_source(rt.alloc(), &mut Counted::new(file)).map_err(|fault| Failure::of_source(
-        name, fault,
-    ))
+    match read_source(rt.alloc(), &mut Counted::new(file)) {
+        Ok(bytes) => Ok(bytes),
+        Err(fault) => Err(Failure::of_source(name, fault)),
+    }
 }
 
 /// All bytes of the file of this name; the failure names it.
 pub fn whole_bytes_of<'a, R: Files + AllocGlobal>(
     rt: &R,
     name: &'a str,
-) -> Result<Vec<u8>, Failure<'a>> {
+) -> Result<Vec<u8>, Failure<'a>>
+    ensures { IfOk result (λ v. IsOfFile R.File.remaining (2 ^ 62) v.items) }
+{
     let file = fs::open(rt, name).map_err(|error| Failure::of_read(name, &error))?;
-    read_whole(rt.alloc(), &mut Counted::new(file)).map_err(|fault| Failure::of_source(name, fault))
+    match read_whole(rt.alloc(), &mut Counted::new(file)) {
+        Ok(bytes) => Ok(bytes),
+        Err(fault) => Err(Failure::of_source(name, fault)),
+    }
 }
 
-/// Writes a file of this name with these bytes, in place of what it held, as `put_file` does; the failure names it.
-pub fn put_bytes<'a, R: Files + AllocGlobal>(
+/// Writes the files of a command, where it has any, the first before the other; the failure names the one that isn't
+/// written.
+pub fn put_files<'a, R: Files + AllocGlobal>(
     rt: &R,
-    name: &'a str,
-    bytes: &[u8],
-) -> Result<(), Failure<'a>> {
-    put_file(rt, name, bytes).map_err(|error| Failure::of_write(name, &error))
+    files: &OutFiles<'a>,
+) -> Result<(), Failure<'a>>
+    ensures { OnOk result (ArePut (IsPut R.File.contents) files.now) }
+{
+    put_wanted(rt, &files.out)?;
+    put_wanted(rt, &files.timeline)
+}
+
+// Writes a file, where there is one, in place of what it held, as `put_file` does; the failure names it.
+fn put_wanted<'a, R: Files + AllocGlobal>(
+    rt: &R,
+    file: &Option<OutFile<'a>>,
+) -> Result<(), Failure<'a>>
+    ensures { OnOk result (IfSome (put_of file.now) (λ p. IsPut R.File.contents p.1)) }
+{
+    let Some(file) = file else {
+        return Ok(());
+    };
+    match put_file(rt, file.name, file.bytes.as_slice()) {
+        Ok(()) => Ok(()),
+        Err(error) => Err(Failure::of_write(file.name, &error)),
+    }
 }
 
 /// The image that these bytes spell.

@@ -1,7 +1,8 @@
-ghost use Rattle.std.specs.Prelude.{◌≡◌, ℕ, List, IfOk, IfErr};
-ghost use Rattle.commandline.specs.CommandLine.{AsksFor};
-ghost use Rattle.mesamon.specs.Asked.{asks_for_hints};
-ghost use Rattle.mesamon.specs.Commands.{HasDone, RefusesJob};
+ghost use Rattle.std.specs.Prelude.{◌≡◌, IfOk, IfErr, IfSome};
+ghost use Rattle.devices.specs.Files.{IsOfFile};
+ghost use Rattle.mesamon.specs.Asked.{HasWorkers, asks_for_hints, most_of};
+ghost use Rattle.mesamon.specs.Asked.{read_of_explained, read_of_replay, read_of_source, read_second};
+ghost use Rattle.mesamon.specs.Commands.{HasDone, HasDoneSome, RefusesJob, RefusesSome};
 ghost use Rattle.mesamon.specs.Failures.{IsRefusalBy};
 
 use crate::answer::Answer;
@@ -9,12 +10,12 @@ use crate::compiling::{answer_check, answer_compile, answer_emit};
 use crate::drawing::Drawings;
 use crate::explaining::answer_explain;
 use crate::exploring::answer_explore;
-use crate::failure::NoAnswer;
-use crate::files::bytes_of;
+use crate::failure::{Failure, NoAnswer};
+use crate::files::{bytes_of, whole_bytes_of};
 use crate::hinting::{SourceText, tell_refused};
 use crate::listing::answer_list;
 use crate::running::{answer_exec, answer_replay, answer_run};
-use commandline::Job;
+use commandline::{ExplainedBy, Job, ReplayedBy};
 use source_search::{Outside, Progress};
 use std::rt::Files;
 use std::sync::Wait;
@@ -56,57 +57,159 @@ fn is_of_image(job: Job<'_>) -> bool {
     matches!(job, Job::List { .. } | Job::Exec { .. })
 }
 
-/// Does a job: reads its files, writes those that it makes, and answers what it tells. What is to stand behind that is
-/// appended to `told`, where hints are asked for.
+// The second file that a job reads.
+#[derive(Clone, Copy)]
+enum Second<'a> {
+    // None.
+    None,
+    // A source text, or a schedule.
+    Text(&'a str),
+    // A log.
+    Log(&'a str),
+}
+
+// That of a listing.
+fn second_of_list<'a>(source: Option<&'a str>) -> Second<'a>
+    ensures { most_of result ≡ read_of_source source.entry }
+{
+    match source {
+        Some(name) => Second::Text(name),
+        None => Second::None,
+    }
+}
+
+// That of a replay.
+fn second_of_replay<'a>(by: ReplayedBy<'a>) -> Second<'a>
+    ensures { most_of result ≡ read_of_replay by.entry }
+{
+    match by {
+        ReplayedBy::Schedule { schedule, .. } => Second::Text(schedule),
+        ReplayedBy::Log(name) => Second::Log(name),
+    }
+}
+
+// That of an explanation.
+fn second_of_explained<'a>(by: ExplainedBy<'a>) -> Second<'a>
+    ensures { most_of result ≡ read_of_explained by.entry }
+{
+    match by {
+        ExplainedBy::Schedule(name) => Second::Text(name),
+        ExplainedBy::Log(name) => Second::Log(name),
+        ExplainedBy::Order { .. } | ExplainedBy::Seed { .. } => Second::None,
+    }
+}
+
+// That of a job.
+fn second_of<'a>(job: Job<'a>) -> Second<'a>
+    ensures { most_of result ≡ read_second job.entry }
+{
+    match job {
+        Job::List { source, .. } => second_of_list(source),
+        Job::Replay { by, .. } => second_of_replay(by),
+        Job::Explain { by, .. } => second_of_explained(by),
+        Job::Check { .. }
+        | Job::Compile { .. }
+        | Job::Run { .. }
+        | Job::Exec { .. }
+        | Job::Emit { .. }
+        | Job::Explore { .. } => Second::None,
+    }
+}
+
+// The bytes of a job's second file; none, where it has no such file.
+fn second_bytes<'a, R: Files + AllocGlobal>(
+    rt: &R,
+    second: Second<'a>,
+) -> Result<Vec<u8>, Failure<'a>>
+    ensures { IfOk result (λ v. IfSome (most_of second.entry) (λ most. IsOfFile R.File.remaining most v.items)) }
+{
+    match second {
+        Second::None => Ok(Vec::new(rt.alloc())),
+        Second::Text(name) => bytes_of(rt, name),
+        Second::Log(name) => whole_bytes_of(rt, name),
+    }
+}
+
+/// Reads a job's files and does it. What is to stand behind what it tells is appended to `told`, where hints are asked for.
 pub fn do_job<'a, R: Files + AllocGlobal + Threads + Wait + Sync, P: Progress>(
     rt: &R,
     job: Job<'a>,
     told: &mut String,
     progress: &mut P,
-) -> Result<Answer, NoAnswer<'a>>
-    requires { (ws : List (List ℕ)) × AsksFor ws job }
-    ensures done { IfOk result (λ a. (bytes : List ℕ) × HasDone job.entry bytes a) }
-    ensures refused { IfErr result
-        (λ n. (bytes : List ℕ) × IsRefusalBy (RefusesJob job.entry bytes) n) }
+) -> Result<Answer<'a>, NoAnswer<'a>>
+    requires { HasWorkers job }
+    ensures done { IfOk result (HasDoneSome (IsOfFile R.File.remaining) job.entry) }
+    ensures refused { IfErr result (IsRefusalBy (RefusesSome (IsOfFile R.File.remaining) job.entry)) }
 {
-    let file = file_of(job);
-    let bytes = bytes_of(rt, file)?;
+    let bytes = bytes_of(rt, file_of(job))?;
+    let second = second_bytes(rt, second_of(job))?;
+    answer_job(rt, job, bytes.as_slice(), second.as_slice(), told, progress)
+}
+
+/// Does a job, with these bytes in the file that it is about, and these in the second one that it names: `second` is the
+/// source text beside an image, the schedule or the log, and is not looked at where the job has no second file. It reads
+/// and writes no file.
+///
+/// The answer has the exit status, what standard output and standard error get, and the files that are to be written.
+/// What is to stand behind that on standard error is appended to `told`, where hints are asked for.
+///
+/// # Errors
+///
+/// The refusal of the text that the job is about, or of the source text beside an image. Else the failure: bytes that are
+/// no image, or the image of another text; an entry of the schedule or of the log, or a line of the log, that is refused;
+/// a fault of the run of an image; or want of memory.
+pub fn answer_job<'a, R: AllocGlobal + Threads + Wait + Sync, P: Progress>(
+    rt: &R,
+    job: Job<'a>,
+    bytes: &[u8],
+    second: &[u8],
+    told: &mut String,
+    progress: &mut P,
+) -> Result<Answer<'a>, NoAnswer<'a>>
+    requires { HasWorkers job }
+    ensures done { IfOk result (HasDone job.entry bytes.now second.now) }
+    ensures refused { IfErr result (IsRefusalBy (RefusesJob job.entry bytes.now second.now)) }
+{
     let text = SourceText {
-        file,
-        bytes: bytes.as_slice(),
+        file: file_of(job),
+        bytes,
         hints: asks_for_hints(&job) && !is_of_image(job),
     };
-    let done = do_job_on(rt, job, &text, told, progress);
+    let done = answer_of(rt, job, &text, second, told, progress);
     if let Err(left) = &done {
         tell_refused(rt.alloc(), told, &text, *left);
     }
     done
 }
 
-// Does a job, of the text or the image in its file.
-fn do_job_on<'a, R: Files + AllocGlobal + Threads + Wait + Sync, P: Progress>(
+// The same, of the text or the image in its file.
+fn answer_of<'a, R: AllocGlobal + Threads + Wait + Sync, P: Progress>(
     rt: &R,
     job: Job<'a>,
     text: &SourceText<'_>,
+    second: &[u8],
     told: &mut String,
     progress: &mut P,
-) -> Result<Answer, NoAnswer<'a>>
-    requires { (ws : List (List ℕ)) × AsksFor ws job }
-    ensures done { IfOk result (HasDone job.entry text.now.bytes.now) }
-    ensures refused { IfErr result (IsRefusalBy (RefusesJob job.entry text.now.bytes.now)) }
+) -> Result<Answer<'a>, NoAnswer<'a>>
+    requires { HasWorkers job }
+    ensures done { IfOk result (HasDone job.entry text.now.bytes.now second.now) }
+    ensures refused { IfErr result (IsRefusalBy (RefusesJob job.entry text.now.bytes.now second.now)) }
 {
+    let alloc = rt.alloc();
     match job {
-        Job::Check { .. } => answer_check(rt.alloc(), text),
+        Job::Check { .. } => answer_check(alloc, text),
         Job::Compile {
             out,
             workers,
             version,
             ..
         } => answer_compile(rt, text, out, version, workers),
-        Job::List { source, hints, .. } => answer_list(rt, text.bytes, source, hints, told),
+        Job::List { source, hints, .. } => {
+            answer_list(alloc, text.bytes, source, second, hints, told)
+        }
         Job::Run { options, .. } => answer_run(rt, text, options, told),
-        Job::Exec { options, .. } => Ok(answer_exec(rt, text.bytes, options)?),
-        Job::Replay { by, trace, .. } => answer_replay(rt, text, by, trace, told),
+        Job::Exec { options, .. } => answer_exec(rt, text.bytes, options),
+        Job::Replay { by, trace, .. } => answer_replay(alloc, text, second, by, trace, told),
         Job::Explain {
             by,
             chart,
@@ -115,9 +218,9 @@ fn do_job_on<'a, R: Files + AllocGlobal + Threads + Wait + Sync, P: Progress>(
             ..
         } => {
             let drawings = Drawings { chart, timeline };
-            answer_explain(rt, text, by, drawings, places, told)
+            answer_explain(alloc, text, second, by, drawings, places, told)
         }
-        Job::Emit { out, .. } => answer_emit(rt, text, out),
+        Job::Emit { out, .. } => answer_emit(alloc, text, out),
         Job::Explore {
             states,
             strays,
@@ -128,7 +231,7 @@ fn do_job_on<'a, R: Files + AllocGlobal + Threads + Wait + Sync, P: Progress>(
         } => {
             let drawings = Drawings { chart, timeline };
             let outside = Outside { strays, kills };
-            answer_explore(rt, text, states, outside, drawings, told, progress)
+            answer_explore(alloc, text, states, outside, drawings, told, progress)
         }
     }
 }

@@ -1,11 +1,12 @@
 ghost use Rattle.std.specs.Prelude.{IfOk, IfErr, is_some, string_bytes};
+ghost use Rattle.compiler.specs.Accepts.{RefusesTextAs};
 ghost use Rattle.isa.specs.Lines.{lines};
-ghost use Rattle.mesamon.specs.Commands.{AreTold, HasListed, RefusesSource, TellsLines};
+ghost use Rattle.mesamon.specs.Commands.{AreTold, HasListed, RefusesBeside, TellsLines};
 ghost use Rattle.mesamon.specs.Failures.{IsRefusalBy};
 
-use crate::answer::Answer;
+use crate::answer::{Answer, OutFiles};
 use crate::failure::{Failure, NoAnswer};
-use crate::files::{bytes_of, image_of};
+use crate::files::image_of;
 use crate::hinting::{SourceText, tell_refused};
 use crate::status::Status;
 use compiler::compile_checked_as;
@@ -14,7 +15,6 @@ use line_tails::put_beside;
 use program::Checked;
 use source_listing::{Listing, listing_of};
 use std::alloc::{AllocError, Global};
-use std::rt::Files;
 
 // Whether two images are one.
 fn are_same(alloc: Global, a: &Image, b: &Image) -> Result<bool, AllocError> {
@@ -46,7 +46,7 @@ fn listing_of_text<'a>(
     image: &Image,
     told: &mut String,
 ) -> Result<Listing, NoAnswer<'a>>
-    ensures { IfErr result (IsRefusalBy RefusesSource) }
+    ensures { IfErr result (IsRefusalBy (RefusesTextAs image.now.version text.now.bytes.now)) }
 {
     match compile_checked_as(alloc, text.bytes, image.version()) {
         Ok((checked, lowered)) => {
@@ -60,78 +60,62 @@ fn listing_of_text<'a>(
     }
 }
 
-// The same, of the file of the source text.
-fn listing_of_file<'a, R: Files + AllocGlobal>(
-    rt: &R,
-    source: &'a str,
-    hints: bool,
+// The lines of an image, with those of the source text beside them, where one is named.
+fn lines_beside<'a>(
+    alloc: Global,
     image: &Image,
-    told: &mut String,
-) -> Result<Listing, NoAnswer<'a>>
-    ensures { IfErr result (IsRefusalBy RefusesSource) }
-{
-    let bytes = bytes_of(rt, source)?;
-    let text = SourceText {
-        file: source,
-        bytes: bytes.as_slice(),
-        hints,
-    };
-    listing_of_text(rt.alloc(), &text, source, image, told)
-}
-
-// The lines of an image, with those of the source text of a file beside them, where one is named.
-fn lines_beside<'a, R: Files + AllocGlobal>(
-    rt: &R,
     source: Option<&'a str>,
+    second: &[u8],
     hints: bool,
-    image: &Image,
     lines: String,
     told: &mut String,
 ) -> Result<Vec<u8>, NoAnswer<'a>>
     ensures told { IfOk result
         (λ v. AreTold (is_some source.entry) (string_bytes lines) v.items) }
-    ensures refused { IfErr result (IsRefusalBy RefusesSource) }
+    ensures refused { IfErr result (IsRefusalBy (RefusesTextAs image.now.version second.now)) }
 {
     let Some(source) = source else {
         return Ok(lines.into_bytes());
     };
-    let Listing { head, tails } = listing_of_file(rt, source, hints, image, told)?;
-    Ok(put_beside(
-        rt.alloc(),
-        head.as_str(),
-        lines.as_bytes(),
-        tails.as_slice(),
-    )?)
+    let text = SourceText {
+        file: source,
+        bytes: second,
+        hints,
+    };
+    let Listing { head, tails } = listing_of_text(alloc, &text, source, image, told)?;
+    Ok(put_beside(alloc, head.as_str(), lines.as_bytes(), tails.as_slice())?)
 }
 
 // Lists the instructions of an image.
-fn list_image<'a, R: Files + AllocGlobal>(
-    rt: &R,
+fn list_image<'a>(
+    alloc: Global,
     image: &Image,
     source: Option<&'a str>,
+    second: &[u8],
     hints: bool,
     told: &mut String,
-) -> Result<Answer, NoAnswer<'a>>
+) -> Result<Answer<'a>, NoAnswer<'a>>
     ensures done { IfOk result (TellsLines (is_some source.entry) (lines 0 image.now.code)) }
-    ensures refused { IfErr result (IsRefusalBy RefusesSource) }
+    ensures refused { IfErr result (IsRefusalBy (RefusesTextAs image.now.version second.now)) }
 {
-    let lines = list_lines(rt.alloc(), image)?;
-    let output = lines_beside(rt, source, hints, image, lines, told)?;
-    Ok(Answer::quiet(rt.alloc(), Status::Done, output))
+    let lines = list_lines(alloc, image)?;
+    let output = lines_beside(alloc, image, source, second, hints, lines, told)?;
+    Ok(Answer::quiet(alloc, Status::Done, output, OutFiles::only(None)))
 }
 
 /// Lists the instructions of the image that these bytes spell, with the lines of the source text of a file, whose image it
-/// has to be, where one is named.
-pub fn answer_list<'a, R: Files + AllocGlobal>(
-    rt: &R,
+/// has to be, where one is named. `second` has the bytes of that file.
+pub fn answer_list<'a>(
+    alloc: Global,
     bytes: &[u8],
     source: Option<&'a str>,
+    second: &[u8],
     hints: bool,
     told: &mut String,
-) -> Result<Answer, NoAnswer<'a>>
+) -> Result<Answer<'a>, NoAnswer<'a>>
     ensures done { IfOk result (HasListed (is_some source.entry) bytes.now) }
-    ensures refused { IfErr result (IsRefusalBy RefusesSource) }
+    ensures refused { IfErr result (IsRefusalBy (RefusesBeside bytes.now second.now)) }
 {
-    let image = image_of(rt.alloc(), bytes)?;
-    list_image(rt, &image, source, hints, told)
+    let image = image_of(alloc, bytes)?;
+    list_image(alloc, &image, source, second, hints, told)
 }

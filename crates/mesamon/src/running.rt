@@ -1,16 +1,17 @@
 ghost use Rattle.std.specs.Prelude.{◌≡◌, IfOk, IfErr};
-ghost use Rattle.account_text.specs.Accounts.{account, output_lines};
 ghost use Rattle.compiler.specs.Accepts.{RefusesText};
 ghost use Rattle.runner.specs.Reports.{IsReport};
-ghost use Rattle.mesamon.specs.Answers.{status_of_verdict};
-ghost use Rattle.mesamon.specs.Asked.{IsReplayedAs, IsRunAs, outside_by};
+ghost use Rattle.mesamon.specs.Asked.{IsReplayedAs, IsRunAs, log_beside, outside_by};
 ghost use Rattle.mesamon.specs.Commands.{HasExecuted, HasRun, RunsImage};
-ghost use Rattle.mesamon.specs.Failures.{IsRefusalBy};
+ghost use Rattle.mesamon.specs.Failures.{IsNoRefusal, IsRefusalBy};
+ghost use Rattle.mesamon.specs.Replaying.{IsReplayOfText};
 ghost use Rattle.mesamon.specs.Running.{IsRefusedRun, IsRunOfText};
+ghost use Rattle.mesamon.specs.SourceLog.{IsReplayOfLog};
+ghost use Rattle.mesamon.specs.Turns.{turns_in};
 
 use crate::answer::Answer;
 use crate::failure::{Failure, NoAnswer};
-use crate::files::{image_of, put_bytes, whole_bytes_of};
+use crate::files::image_of;
 use crate::hinting::SourceText;
 use crate::replaying::replay;
 use crate::schedule::schedule_of;
@@ -19,29 +20,28 @@ use crate::source_run::{RunSourceFault, run_by_seed, run_in_order, run_source};
 use crate::telling::{tell_run, told_entry, told_turn};
 use commandline::{Order, ReplayedBy, RunOptions};
 use isa::Image;
-use log_text::append_log;
-use packed_log::LogReader;
 use run_hints::Way;
 use runner::{Report, RunFault};
-use std::rt::Files;
+use std::alloc::Global;
 use std::sync::Wait;
 use std::thread::Threads;
 use words::OpenGate;
 use workers::Calls;
 
 /// Runs a source text.
-pub fn answer_run<'a, R: Files + AllocGlobal + Threads + Wait + Sync>(
+pub fn answer_run<'a, R: AllocGlobal + Threads + Wait + Sync>(
     rt: &R,
     text: &SourceText<'_>,
     options: RunOptions<'a>,
     told: &mut String,
-) -> Result<Answer, NoAnswer<'a>>
-    ensures done { IfOk result (HasRun (IsRunAs options.entry) options.entry.trace text.now.bytes.now) }
+) -> Result<Answer<'a>, NoAnswer<'a>>
+    ensures done { IfOk result (HasRun (IsRunAs options.entry) options.entry.trace options.entry.log
+        text.now.bytes.now) }
     ensures refused { IfErr result (IsRefusalBy (RefusesText text.now.bytes.now)) }
 {
     let report = run_by(rt, text.bytes, options.steps, options.order)?;
     tell_run(rt.alloc(), told, text, &report, way_of(options));
-    Ok(show(rt, &report, options.trace, options.log)?)
+    Answer::of_report(rt.alloc(), &report, options.trace, options.log)
 }
 
 // How a run by these options is made. One with kills is looked at by its log, as one on real threads.
@@ -83,57 +83,32 @@ fn run_by<R: AllocGlobal + Threads + Wait + Sync>(
     }
 }
 
-// What a run tells, whose log is written to a file of this name, where one is named. All texts are made before that.
-fn show<'a, R: Files + AllocGlobal>(
-    rt: &R,
-    report: &Report,
-    trace: bool,
-    log: Option<&'a str>,
-) -> Result<Answer, Failure<'a>>
-    ensures ended { IfOk result (λ a. a.status ≡ status_of_verdict report.now.verdict) }
-    ensures output { IfOk result (λ a. a.output.items ≡ output_lines report.now.output.items) }
-    ensures account { IfOk result (λ a. a.account.items ≡ account report.now trace) }
-{
-    let answer = Answer::of_report(rt.alloc(), report, trace)?;
-    if let Some(name) = log {
-        put_log(rt, name, report.log.iter())?;
-    }
-    Ok(answer)
-}
-
-// Writes the lines of a log to a file.
-fn put_log<'a, R: Files + AllocGlobal>(
-    rt: &R,
-    name: &'a str,
-    log: LogReader<'_>,
-) -> Result<(), Failure<'a>> {
-    let mut text = String::new(rt.alloc());
-    append_log(&mut text, log)?;
-    put_bytes(rt, name, text.as_bytes())
-}
-
 /// Runs the image that these bytes spell.
-pub fn answer_exec<'a, R: Files + AllocGlobal + Threads + Wait + Sync>(
+pub fn answer_exec<'a, R: AllocGlobal + Threads + Wait + Sync>(
     rt: &R,
     bytes: &[u8],
     options: RunOptions<'a>,
-) -> Result<Answer, Failure<'a>>
-    ensures { IfOk result (HasExecuted options.entry bytes.now) }
+) -> Result<Answer<'a>, NoAnswer<'a>>
+    ensures done { IfOk result (HasExecuted options.entry bytes.now) }
+    ensures refused { IfErr result IsNoRefusal }
 {
     let image = image_of(rt.alloc(), bytes)?;
     exec_image(rt, &image, options)
 }
 
 // Runs an image, and tells that.
-fn exec_image<'a, R: Files + AllocGlobal + Threads + Wait + Sync>(
+fn exec_image<'a, R: AllocGlobal + Threads + Wait + Sync>(
     rt: &R,
     image: &Image,
     options: RunOptions<'a>,
-) -> Result<Answer, Failure<'a>>
-    ensures { IfOk result (RunsImage options.entry image.now) }
+) -> Result<Answer<'a>, NoAnswer<'a>>
+    ensures done { IfOk result (RunsImage options.entry image.now) }
+    ensures refused { IfErr result IsNoRefusal }
 {
-    let report = run_image(rt, image, options.steps, options.order)?;
-    show(rt, &report, options.trace, options.log)
+    match run_image(rt, image, options.steps, options.order) {
+        Ok(report) => Answer::of_report(rt.alloc(), &report, options.trace, options.log),
+        Err(fault) => Err(NoAnswer::Failed(Failure::from(fault))),
+    }
 }
 
 // Runs an image.
@@ -165,20 +140,22 @@ fn run_image<R: AllocGlobal + Threads + Wait + Sync>(
     }
 }
 
-/// Runs a source text by the schedule or the log of a file.
-pub fn answer_replay<'a, R: Files + AllocGlobal>(
-    rt: &R,
+/// Runs a source text by a schedule or a log, of which these are the bytes.
+pub fn answer_replay<'a>(
+    alloc: Global,
     text: &SourceText<'_>,
+    second: &[u8],
     by: ReplayedBy<'a>,
     trace: bool,
     told: &mut String,
-) -> Result<Answer, NoAnswer<'a>>
-    ensures done { IfOk result (HasRun (IsReplayedAs by.entry) trace text.now.bytes.now) }
+) -> Result<Answer<'a>, NoAnswer<'a>>
+    ensures done { IfOk result (HasRun (IsReplayedAs by.entry second.now) trace (log_beside by.entry)
+        text.now.bytes.now) }
     ensures refused { IfErr result (IsRefusalBy (RefusesText text.now.bytes.now)) }
 {
-    let report = replay_by(rt, text, by, told)?;
-    tell_run(rt.alloc(), told, text, &report, way_by(by));
-    Ok(show(rt, &report, trace, log_beside(by))?)
+    let report = replay_by(alloc, text, second, by, told)?;
+    tell_run(alloc, told, text, &report, way_by(by));
+    Answer::of_report(alloc, &report, trace, log_beside(by))
 }
 
 // How a replay is made.
@@ -189,37 +166,60 @@ fn way_by(by: ReplayedBy<'_>) -> Way<'_> {
     }
 }
 
-// Runs a text by the schedule or the log of a file.
-fn replay_by<'a, R: Files + AllocGlobal>(
-    rt: &R,
+// Runs a text by a schedule or a log.
+fn replay_by<'a>(
+    alloc: Global,
     text: &SourceText<'_>,
+    second: &[u8],
     by: ReplayedBy<'a>,
     told: &mut String,
 ) -> Result<Report, NoAnswer<'a>>
-    ensures report { IfOk result (λ report. IsReplayedAs by.entry text.now.bytes.now report) }
+    ensures report { IfOk result (λ report. IsReplayedAs by.entry second.now text.now.bytes.now report) }
     ensures refused { IfErr result (IsRefusalBy (RefusesText text.now.bytes.now)) }
 {
-    let alloc = rt.alloc();
     match by {
-        ReplayedBy::Schedule { schedule, .. } => {
-            let turns = schedule_of(rt, schedule)?;
-            match replay(alloc, text.bytes, turns.as_slice()) {
-                Ok(report) => Ok(report),
-                Err(fault) => Err(told_turn(alloc, told, text, turns.as_slice(), fault)),
-            }
-        }
-        ReplayedBy::Log(name) => {
-            let log = whole_bytes_of(rt, name)?;
-            match replay_log_text(alloc, text.bytes, log.as_slice()) {
-                Ok(report) => Ok(report),
-                Err(fault) => Err(told_entry(alloc, told, text, log.as_slice(), fault)),
-            }
-        }
+        ReplayedBy::Schedule { .. } => replay_schedule(alloc, text, second, told),
+        ReplayedBy::Log(_) => replay_log(alloc, text, second, told),
+    }
+}
+
+// Runs a text by the schedule that these bytes are.
+fn replay_schedule<'a>(
+    alloc: Global,
+    text: &SourceText<'_>,
+    schedule: &[u8],
+    told: &mut String,
+) -> Result<Report, NoAnswer<'a>>
+    ensures report { IfOk result (λ report. IsReplayOfText text.now.bytes.now (turns_in schedule.now) report) }
+    ensures refused { IfErr result (IsRefusalBy (RefusesText text.now.bytes.now)) }
+{
+    let turns = schedule_of(alloc, schedule)?;
+    match replay(alloc, text.bytes, turns.as_slice()) {
+        Ok(report) => Ok(report),
+        Err(fault) => Err(told_turn(alloc, told, text, turns.as_slice(), fault)),
+    }
+}
+
+// Runs a text by the threads and counts of the log whose lines these are.
+fn replay_log<'a>(
+    alloc: Global,
+    text: &SourceText<'_>,
+    lines: &[u8],
+    told: &mut String,
+) -> Result<Report, NoAnswer<'a>>
+    ensures report { IfOk result (λ report. IsReplayOfLog text.now.bytes.now lines.now report) }
+    ensures refused { IfErr result (IsRefusalBy (RefusesText text.now.bytes.now)) }
+{
+    match replay_log_text(alloc, text.bytes, lines) {
+        Ok(report) => Ok(report),
+        Err(fault) => Err(told_entry(alloc, told, text, lines, fault)),
     }
 }
 
 // The file that the log of a replay is written to, where that is wanted.
-fn log_beside(by: ReplayedBy<'_>) -> Option<&str> {
+fn log_beside<'a>(by: ReplayedBy<'a>) -> Option<&'a str>
+    ensures { result ≡ log_beside by.entry }
+{
     match by {
         ReplayedBy::Schedule { log, .. } => log,
         ReplayedBy::Log(_) => None,

@@ -1,6 +1,5 @@
 ghost use Rattle.mesamon.specs.Failures.{OfReplay, OfSourceLog};
 
-use crate::answer::Answer;
 use crate::explained_run::ExplainedRun;
 use crate::failure::{Failure, NoAnswer};
 use crate::hinting::{SourceText, append_told};
@@ -27,21 +26,16 @@ fn append_reason(told: &mut String, reason: Option<ErrorKind>) {
     }
 }
 
-/// Appends what helps where a job has no answer, and more is known than its line tells. What was to be told of a run isn't
-/// told where the run's own lines aren't.
-pub fn tell_failure(told: &mut String, done: &Result<Answer, NoAnswer<'_>>) {
-    let Err(NoAnswer::Failed(failure)) = done else {
+/// Appends what helps where a job has no answer, and more is known than its line tells.
+pub fn tell_more(told: &mut String, left: NoAnswer<'_>) {
+    let NoAnswer::Failed(failure) = left else {
         return;
     };
     match failure {
         Failure::LogLine(_) => {
             let _appended = told.push_str(LINE);
         }
-        Failure::Read { reason, .. } => append_reason(told, *reason),
-        Failure::Write { reason, .. } => {
-            told.clear();
-            append_reason(told, *reason);
-        }
+        Failure::Read { reason, .. } | Failure::Write { reason, .. } => append_reason(told, reason),
         Failure::Memory => told.clear(),
         _ => {}
     }

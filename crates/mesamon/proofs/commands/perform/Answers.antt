@@ -1,4 +1,4 @@
-use Rattle.std.proofs.Common.{inl, map}
+use Rattle.std.proofs.Common.{inl, inr, map}
 use Rattle.std.proofs.KnownBytes.{Appends-nil}
 use Rattle.mesamon.proofs.Answered.{told_memory, told_usage}
 use Rattle.mesamon.proofs.commands.perform.Goals as goal
@@ -11,9 +11,9 @@ returns-in-Ok g c = c.perform_job.ensures (map (λ w. w.now) c.args.words.now) c
 
 pub returns-in-Err-Usage : goal.returns-in-Err-Usage
 returns-in-Err-Usage g c =
-    told_usage _ _ _ _ _ _ c.tell.result (Appends-nil _)
+    told_usage _ _ _ _ c.tell.result (λ f. inr f) (Appends-nil _)
     (inl (λ job taken asks. let memory = c.in-Err-Usage.ensures.only job taken asks in absurd cc)) c.tell.ensures
 
 pub returns-in-Err-Memory : goal.returns-in-Err-Memory
 returns-in-Err-Memory g c =
-    told_memory _ _ _ _ _ c.tell-in-Err-Memory.result (Appends-nil _) c.tell-in-Err-Memory.ensures
+    told_memory _ _ _ c.tell-in-Err-Memory.result (λ f. inr f) (Appends-nil _) c.tell-in-Err-Memory.ensures

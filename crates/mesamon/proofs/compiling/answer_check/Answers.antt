@@ -1,5 +1,6 @@
 use Rattle.compiler.specs.Accepts.{RefusesProgram}
 use Rattle.mesamon.proofs.Refusing.{left_by, refused_by}
+use Rattle.mesamon.proofs.Told.{no_memory, ok_so}
 use Rattle.mesamon.proofs.compiling.answer_check.Goals as goal
 
 pub returns-in_err-check_text-clause-refused : goal.returns-in_err-check_text-clause-refused
@@ -8,8 +9,13 @@ returns-in_err-check_text-clause-refused c =
     (λ n gives. refused_by (RefusesProgram c.args.text.now.bytes.now) c.in_err-check_text.field-0.0 n c.in_err-check_text.ensures gives)
 
 pub returns-clause-done : goal.returns-clause-done
-returns-clause-done c = record {
-  program = c.in_ok-check_text.ensures.0;
-  accepts = c.in_ok-check_text.ensures.1;
-  tells = c.in_ok-ok.ensures;
-}
+returns-clause-done c =
+    ok_so c.ok.result _ _
+    (λ a tells. record {
+      program = c.in_ok-check_text.ensures.0;
+      accepts = c.in_ok-check_text.ensures.1;
+      tells = tells;
+    }) c.ok.ensures.told
+
+pub returns-clause-refused : goal.returns-clause-refused
+returns-clause-refused c = no_memory _ _ c.ok.ensures.failed

@@ -1,5 +1,6 @@
 use Rattle.compiler.specs.Accepts.{RefusesTextAs}
 use Rattle.mesamon.proofs.Refusing.{left_by, refused_by}
+use Rattle.mesamon.proofs.Told.{no_memory, ok_so}
 use Rattle.mesamon.proofs.compiling.answer_compile.Goals as goal
 
 pub returns-in_err-image-clause-refused : goal.returns-in_err-image-clause-refused
@@ -8,8 +9,10 @@ returns-in_err-image-clause-refused g c =
     (λ n gives. refused_by (RefusesTextAs c.args.version c.args.text.now.bytes.now) c.in_err-image.field-0.0 n c.in_err-image.ensures.refusal gives)
 
 pub returns-clause-done : goal.returns-clause-done
-returns-clause-done g c = record {
-  image = _;
-  compiled = c.in_ok-image.ensures.accepted;
-  tells = c.in_ok-put_image.ensures;
-}
+returns-clause-done g c =
+    ok_so c.image_answer.result _ _
+    (λ a tells. record { image = c.in_ok-image.image; compiled = c.in_ok-image.ensures.accepted; tells = tells })
+    c.image_answer.ensures.told
+
+pub returns-clause-refused : goal.returns-clause-refused
+returns-clause-refused g c = no_memory _ _ c.image_answer.ensures.failed

@@ -1,5 +1,11 @@
-use Rattle.std.proofs.Common.{rules}
+use Rattle.std.proofs.Common.{refl, rules}
+use Rattle.mesamon.proofs.Told.{are_puts}
 use Rattle.mesamon.proofs.compiling.ok.Goals as goal
 
-pub returns : goal.returns
-returns c = record { ended = c.quiet.ensures.status; output = search rules; account = c.quiet.ensures.account }
+pub returns-clause-told : goal.returns-clause-told
+returns-clause-told c = record {
+  ended = c.quiet.ensures.status;
+  output = search rules;
+  account = c.quiet.ensures.account;
+  files = are_puts _ _ _ _ c.quiet.ensures.files c.only.ensures.out c.only.ensures.timeline refl;
+}

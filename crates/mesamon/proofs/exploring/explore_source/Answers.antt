@@ -12,7 +12,7 @@ returns g c =
       found = found;
       image = holds_of_image c.image_laws.ensures.never_hangs c.image_laws.ensures.never_aborts
           c.image_laws.ensures.pieces_never_hang c.image_laws.ensures.pieces_never_abort p c.args.outside
-          c.in_ok-exploration.exploration
+          c.args.most_states c.in_ok-exploration.exploration
           (refines_own c.args.text.now _ p (λ q r. c.text_laws.ensures.one_program c.args.text.now q r) read.accepts
           read.compiled) found;
     }

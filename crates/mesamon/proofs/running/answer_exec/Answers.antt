@@ -1,6 +1,12 @@
-use Rattle.mesamon.proofs.Listed.{has_executed}
+use Rattle.mesamon.proofs.Told.{ok_so}
 use Rattle.mesamon.proofs.running.answer_exec.Goals as goal
 
-pub returns : goal.returns
-returns g c =
-    has_executed _ _ c.exec_image.result _ c.in_ok-image.ensures.0 c.in_ok-image.ensures.1 c.exec_image.ensures
+pub returns-clause-done : goal.returns-clause-done
+returns-clause-done g c =
+    ok_so c.exec_image.result _ _
+    (λ a runs. record {
+      image = c.in_ok-image.image;
+      spelled = c.in_ok-image.ensures.0;
+      is = c.in_ok-image.ensures.1;
+      runs = runs;
+    }) c.exec_image.ensures.done

@@ -1,17 +1,22 @@
+use Rattle.std.proofs.Common.{List, ℕ, Option, Bor, subst}
+use Rattle.mesamon.specs.Answers.{TellsReport}
 use Rattle.mesamon.proofs.Refusing.{left_as}
+use Rattle.mesamon.proofs.Told.{no_memory, ok_so}
 use Rattle.mesamon.proofs.running.answer_replay.Goals as goal
 
 pub returns-in_err-report-clause-refused : goal.returns-in_err-report-clause-refused
-returns-in_err-report-clause-refused g c =
+returns-in_err-report-clause-refused c =
     left_as _ _ _ c.from_residual.ensures c.in_err-report.ensures.refused
 
 pub returns-clause-done : goal.returns-clause-done
-returns-clause-done g c = record {
-  report = c.in_ok-report.report;
-  run = c.in_ok-report.ensures.report;
-  tells = record {
-    ended = c.in_ok-show.ensures.ended;
-    output = c.in_ok-show.ensures.output;
-    account = c.in_ok-show.ensures.account;
-  };
-}
+returns-clause-done c =
+    ok_so c.of_report.result _ _
+    (λ a tells. record {
+      report = c.in_ok-report.report;
+      run = c.in_ok-report.ensures.report;
+      tells = subst (λ (log : Option (Bor (List ℕ))). TellsReport c.in_ok-report.report c.args.trace log a)
+          c.log_beside.ensures tells;
+    }) c.of_report.ensures.told
+
+pub returns-clause-refused : goal.returns-clause-refused
+returns-clause-refused c = no_memory _ _ c.of_report.ensures.failed

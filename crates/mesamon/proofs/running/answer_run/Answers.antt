@@ -1,5 +1,6 @@
 use Rattle.mesamon.specs.Asked.{outside_by}
 use Rattle.mesamon.proofs.Refusing.{left_by, run_left}
+use Rattle.mesamon.proofs.Told.{no_memory, ok_so}
 use Rattle.mesamon.proofs.running.answer_run.Goals as goal
 
 pub returns-in_err-report-clause-refused : goal.returns-in_err-report-clause-refused
@@ -8,12 +9,10 @@ returns-in_err-report-clause-refused g c =
     (λ n gives. run_left c.args.text.now.bytes.now (outside_by c.args.options.order) c.args.options.steps c.in_err-report.field-0.0 n c.in_err-report.ensures.fault gives)
 
 pub returns-clause-done : goal.returns-clause-done
-returns-clause-done g c = record {
-  report = c.in_ok-report.report;
-  run = c.in_ok-report.ensures.report;
-  tells = record {
-    ended = c.in_ok-show.ensures.ended;
-    output = c.in_ok-show.ensures.output;
-    account = c.in_ok-show.ensures.account;
-  };
-}
+returns-clause-done g c =
+    ok_so c.of_report.result _ _
+    (λ a tells. record { report = c.in_ok-report.report; run = c.in_ok-report.ensures.report; tells = tells })
+    c.of_report.ensures.told
+
+pub returns-clause-refused : goal.returns-clause-refused
+returns-clause-refused g c = no_memory _ _ c.of_report.ensures.failed

@@ -1,7 +1,10 @@
-use Rattle.mesamon.proofs.Listed.{runs_image}
+use Rattle.mesamon.proofs.Told.{no_memory, ok_so}
 use Rattle.mesamon.proofs.running.exec_image.Goals as goal
 
-pub returns : goal.returns
-returns g c =
-    let told = c.show.ensures in
-    runs_image _ _ c.show.result c.in_ok-report.report c.in_ok-report.ensures told.ended told.output told.account
+pub returns-in-Ok-clause-done : goal.returns-in-Ok-clause-done
+returns-in-Ok-clause-done g c =
+    ok_so c.of_report.result _ _ (λ a tells. record { report = c.in-Ok.report; run = c.in-Ok.ensures; tells = tells })
+    c.of_report.ensures.told
+
+pub returns-in-Ok-clause-refused : goal.returns-in-Ok-clause-refused
+returns-in-Ok-clause-refused g c = no_memory _ _ c.of_report.ensures.failed

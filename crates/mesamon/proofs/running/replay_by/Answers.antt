@@ -1,10 +1,8 @@
-use Rattle.mesamon.proofs.Refusing.{log_not_followed, replay_left_by}
+use Rattle.mesamon.proofs.Told.{replayed_as}
 use Rattle.mesamon.proofs.running.replay_by.Goals as goal
 
-pub returns-in-Schedule-clause-refused : goal.returns-in-Schedule-clause-refused
-returns-in-Schedule-clause-refused g c =
-    replay_left_by _ _ _ c.told_turn.result c.in-Err.ensures.fault c.told_turn.ensures
+pub returns-in-Schedule-clause-report : goal.returns-in-Schedule-clause-report
+returns-in-Schedule-clause-report c = replayed_as _ _ _ _ _ c.in-Schedule.is c.replay_schedule.ensures.report
 
-pub returns-clause-refused : goal.returns-clause-refused
-returns-clause-refused g c =
-    log_not_followed _ _ _ c.told_entry.result c.in-Err-replay_log_text.ensures.fault c.told_entry.ensures
+pub returns-in-Log-clause-report : goal.returns-in-Log-clause-report
+returns-in-Log-clause-report c = replayed_as _ _ _ _ _ c.in-Log.is c.replay_log.ensures.report

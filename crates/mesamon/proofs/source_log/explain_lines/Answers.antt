@@ -1,7 +1,7 @@
 use Rattle.program.specs.Names.{said_by}
 use Rattle.mesamon.specs.SourceLog.{IsOfLog, IsRefusedLog}
 use Rattle.mesamon.specs.declared.source_log.SourceLogFault.TheVariants.{Memory}
-use Rattle.mesamon.proofs.RunsExplained.{of_code, of_own_version}
+use Rattle.mesamon.proofs.RunsExplained.{of_code_saying, of_own_version}
 use Rattle.mesamon.proofs.SourceLogs.{passes_on, reported, stopped}
 use Rattle.mesamon.proofs.source_log.explain_lines.Goals as goal
 
@@ -28,11 +28,14 @@ returns-clause-explained c =
     let read = c.in_ok-checked.ensures.compiled in
     let e = c.in_ok-explained.ensures in
     let report = c.in_ok-report.ensures in
+    let own = of_code_saying p c.in_ok-checked.lowered.image _ _ _ c.in_ok-report.report.verdict read.code.image c.iter.ensures
+    (e.explained, e.says c.in_ok-report.report.verdict report.verdict) in
     record {
       accepts = read.accepts;
       entries = c.in_ok-entries.entries.items;
       reads = c.in_ok-entries.ensures;
-      explained = of_code p c.in_ok-checked.lowered.image _ _ _ read.code.image c.iter.ensures e.explained;
+      explained = own.0;
       report = reported p c.in_ok-checked.lowered.image _ _ c.in_ok-explained.explained.last c.in_ok-report.report
           read.code.image c.iter.ensures e.last report.log report.last report.output report.verdict;
+      says = own.1;
     }

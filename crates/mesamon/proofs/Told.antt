@@ -1,0 +1,66 @@
+-- What is told of a job, by what is told of what it made.
+use Rattle.std.proofs.Common.{◌≡◌, ◌⊎◌, ◌∙◌, ℕ, List, Option, None, Result, Ok, Err, IfOk, IfErr, inl, inr, ap, sym, subst}
+use Rattle.scanner.specs.declared.refusal.Refusal.{Refusal}
+use Rattle.commandline.specs.declared.options.ExplainedBy.{ExplainedBy}
+use Rattle.commandline.specs.declared.options.ReplayedBy.{ReplayedBy}
+use Rattle.runner.specs.declared.report.Report.{Report}
+use Rattle.mesamon.specs.Answers.{ArePuts, Put, name_of, put_of}
+use Rattle.mesamon.specs.Asked.{IsExplainedAs, IsReplayedAs}
+use Rattle.mesamon.specs.Commands.{IsToldFailed}
+use Rattle.mesamon.specs.Failures.{HasNoMemory, IsRefusalBy}
+use Rattle.mesamon.specs.declared.answer.OutFile.{OutFile}
+use Rattle.mesamon.specs.declared.answer.OutFiles.{OutFiles}
+use Rattle.mesamon.specs.declared.explained_run.ExplainedRun.{ExplainedRun}
+use Rattle.mesamon.specs.declared.failure.NoAnswer.{NoAnswer}
+use Rattle.mesamon.specs.declared.failure.NoAnswer.TheVariants.{Refused, Failed}
+use Rattle.mesamon.specs.declared.status.Status.{Status}
+
+-- what is so of an answer is so in more words
+pub ok_so : {T E : Type 0} (r : Result T E) (P Q : T → Type 0) → ((x : T) → P x → Q x) → IfOk r P → IfOk r Q
+ok_so (Ok x) P Q on h = on x h
+ok_so (Err e) P Q on h = tt
+
+-- want of memory is no refusal
+memory_is_none : (Refuses : Refusal → Type 0) (n : NoAnswer) → HasNoMemory n → IsRefusalBy Refuses n
+memory_is_none Refuses n is = subst (IsRefusalBy Refuses) (sym is) tt
+
+pub no_memory : {T : Type 0} (r : Result T NoAnswer) (Refuses : Refusal → Type 0) → IfErr r HasNoMemory
+    → IfErr r (IsRefusalBy Refuses)
+no_memory (Ok x) Refuses h = tt
+no_memory (Err n) Refuses h = memory_is_none Refuses n h
+
+-- a refusal is one in more words
+refusal_so : (P Q : Refusal → Type 0) (n : NoAnswer) → ((e : Refusal) → P e → Q e) → IsRefusalBy P n → IsRefusalBy Q n
+refusal_so P Q (Refused e) on h = on e h
+refusal_so P Q (Failed f) on h = tt
+
+pub refused_so : {T : Type 0} (r : Result T NoAnswer) (P Q : Refusal → Type 0) → ((e : Refusal) → P e → Q e)
+    → IfErr r (IsRefusalBy P) → IfErr r (IsRefusalBy Q)
+refused_so (Ok x) P Q on h = tt
+refused_so (Err n) P Q on h = refusal_so P Q n on h
+
+-- the file that is made alone is this one
+pub are_puts : (made files : OutFiles) (out : Option OutFile) (put : Option Put) → files ≡ made → made.out ≡ out
+    → made.timeline ≡ None → put_of out ≡ put → ArePuts put files
+are_puts made files out put is has none same =
+    subst (ArePuts put) (sym is) (ap put_of has ∙ same, ap name_of none)
+
+-- that a failure was named, where another device may have failed too
+pub told_failed_by : (Told : List ℕ → Type 0) (F G : Type 0) (s : Status) → (F → G) → IsToldFailed Told F s
+    → IsToldFailed Told G s
+told_failed_by Told F G s by (inl (inl named)) = inl (inl named)
+told_failed_by Told F G s by (inl (inr (is, fails))) = inl (inr (is, by fails))
+told_failed_by Told F G s by (inr (inl memory)) = inr (inl memory)
+told_failed_by Told F G s by (inr (inr (is, fails))) = inr (inr (is, by fails))
+
+-- a run again, by what is named
+pub replayed_as : {E : Type 0} (r : Result Report E) (by same : ReplayedBy) (second text : List ℕ) → by ≡ same
+    → IfOk r (IsReplayedAs same second text) → IfOk r (IsReplayedAs by second text)
+replayed_as r by same second text is h =
+    subst (λ (b : ReplayedBy). IfOk r (IsReplayedAs b second text)) (sym is) h
+
+-- a run that is explained, by what is named
+pub explained_as : {E : Type 0} (r : Result ExplainedRun E) (by same : ExplainedBy) (second text : List ℕ) → by ≡ same
+    → IfOk r (IsExplainedAs same second text) → IfOk r (IsExplainedAs by second text)
+explained_as r by same second text is h =
+    subst (λ (b : ExplainedBy). IfOk r (IsExplainedAs b second text)) (sym is) h

@@ -1,0 +1,20 @@
+use Rattle.std.proofs.Common.{inl, inr}
+use Rattle.std.proofs.KnownBytes.{Appends-nil}
+use Rattle.devices.specs.Writing.{HasAll}
+use Rattle.mesamon.specs.Answers.{HasMetFailure}
+use Rattle.mesamon.proofs.Told.{told_failed_by}
+use Rattle.mesamon.proofs.commands.finish.Goals as goal
+
+pub returns-in-Ok : goal.returns-in-Ok
+returns-in-Ok g c =
+    inl (c.in-Ok.ensures, c.asked_hints.result.now, c.asked_hints.ensures, c.tell_answer.ensures)
+
+pub returns-in-Err : goal.returns-in-Err
+returns-in-Err g c =
+    let errors = c.tell_unput.new.errors in (
+    inr (
+      Appends-nil _,
+      told_failed_by (HasAll g.E.Write.contents c.args.errors.now errors) (HasMetFailure errors) _ _ (λ f. inr f)
+          c.tell_unput.ensures,
+    )
+    )

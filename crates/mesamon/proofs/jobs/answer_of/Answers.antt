@@ -1,0 +1,61 @@
+use Rattle.std.proofs.Common.{subst}
+use Rattle.mesamon.specs.Asked.{HasWorkers}
+use Rattle.mesamon.proofs.Answered.{done_as, refused_as}
+use Rattle.mesamon.proofs.jobs.answer_of.Goals as goal
+
+pub answer_compile-requires-after_bounds : goal.answer_compile-requires-after_bounds
+answer_compile-requires-after_bounds g c κs within = subst HasWorkers c.in-Compile.is c.requires
+
+pub returns-in-Check-clause-done : goal.returns-in-Check-clause-done
+returns-in-Check-clause-done g c = done_as _ _ _ _ _ c.in-Check.is c.answer_check.ensures.done
+
+pub returns-in-Check-clause-refused : goal.returns-in-Check-clause-refused
+returns-in-Check-clause-refused g c = refused_as _ _ _ _ _ c.in-Check.is c.answer_check.ensures.refused
+
+pub returns-in-Compile-clause-done : goal.returns-in-Compile-clause-done
+returns-in-Compile-clause-done g c = done_as _ _ _ _ _ c.in-Compile.is c.answer_compile.ensures.done
+
+pub returns-in-Compile-clause-refused : goal.returns-in-Compile-clause-refused
+returns-in-Compile-clause-refused g c = refused_as _ _ _ _ _ c.in-Compile.is c.answer_compile.ensures.refused
+
+pub returns-in-List-clause-done : goal.returns-in-List-clause-done
+returns-in-List-clause-done g c = done_as _ _ _ _ _ c.in-List.is c.answer_list.ensures.done
+
+pub returns-in-List-clause-refused : goal.returns-in-List-clause-refused
+returns-in-List-clause-refused g c = refused_as _ _ _ _ _ c.in-List.is c.answer_list.ensures.refused
+
+pub returns-in-Run-clause-done : goal.returns-in-Run-clause-done
+returns-in-Run-clause-done g c = done_as _ _ _ _ _ c.in-Run.is c.answer_run.ensures.done
+
+pub returns-in-Run-clause-refused : goal.returns-in-Run-clause-refused
+returns-in-Run-clause-refused g c = refused_as _ _ _ _ _ c.in-Run.is c.answer_run.ensures.refused
+
+pub returns-in-Exec-clause-done : goal.returns-in-Exec-clause-done
+returns-in-Exec-clause-done g c = done_as _ _ _ _ _ c.in-Exec.is c.answer_exec.ensures.done
+
+pub returns-in-Exec-clause-refused : goal.returns-in-Exec-clause-refused
+returns-in-Exec-clause-refused g c = refused_as _ _ _ _ _ c.in-Exec.is c.answer_exec.ensures.refused
+
+pub returns-in-Replay-clause-done : goal.returns-in-Replay-clause-done
+returns-in-Replay-clause-done g c = done_as _ _ _ _ _ c.in-Replay.is c.answer_replay.ensures.done
+
+pub returns-in-Replay-clause-refused : goal.returns-in-Replay-clause-refused
+returns-in-Replay-clause-refused g c = refused_as _ _ _ _ _ c.in-Replay.is c.answer_replay.ensures.refused
+
+pub returns-in-Explain-clause-done : goal.returns-in-Explain-clause-done
+returns-in-Explain-clause-done g c = done_as _ _ _ _ _ c.in-Explain.is c.answer_explain.ensures.done
+
+pub returns-in-Explain-clause-refused : goal.returns-in-Explain-clause-refused
+returns-in-Explain-clause-refused g c = refused_as _ _ _ _ _ c.in-Explain.is c.answer_explain.ensures.refused
+
+pub returns-in-Emit-clause-done : goal.returns-in-Emit-clause-done
+returns-in-Emit-clause-done g c = done_as _ _ _ _ _ c.in-Emit.is c.answer_emit.ensures.done
+
+pub returns-in-Emit-clause-refused : goal.returns-in-Emit-clause-refused
+returns-in-Emit-clause-refused g c = refused_as _ _ _ _ _ c.in-Emit.is c.answer_emit.ensures.refused
+
+pub returns-in-Explore-clause-done : goal.returns-in-Explore-clause-done
+returns-in-Explore-clause-done g c = done_as _ _ _ _ _ c.in-Explore.is c.answer_explore.ensures.done
+
+pub returns-in-Explore-clause-refused : goal.returns-in-Explore-clause-refused
+returns-in-Explore-clause-refused g c = refused_as _ _ _ _ _ c.in-Explore.is c.answer_explore.ensures.refused
