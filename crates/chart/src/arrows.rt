@@ -1,6 +1,4 @@
-use crate::shapes::append_shape;
 use crate::sheet::{Sheet, index_of};
-use std::alloc::AllocError;
 
 /// What leads from one process to another.
 #[derive(Clone, Copy)]
@@ -43,16 +41,13 @@ impl<'c, 'n> Sheet<'c, 'n> {
     }
 
     /// Draws an arrow in the column of the last action.
-    pub fn draw_arrow(&mut self, arrow: Arrow, from: u64, to: u64) -> Result<(), AllocError> {
+    pub fn draw_arrow(&mut self, arrow: Arrow, from: u64, to: u64) {
         let (Some(start), Some(goal)) = (self.middle(from), self.middle(to)) else {
-            return Ok(());
+            return;
         };
         let left = self.moment(1).left;
         let end = head(start, goal);
-        append_shape(
-            &mut self.marks,
-            arrow.form(),
-            &[left, start, end, left, start, end],
-        )
+        let numbers = [left, start, end, left, start, end];
+        self.marks.form(arrow.form(), &numbers)
     }
 }

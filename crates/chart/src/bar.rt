@@ -1,8 +1,7 @@
 use crate::labels::Labels;
 use crate::layer::Layer;
 use crate::palette::colour;
-use crate::shapes::append_shape;
-use std::alloc::AllocError;
+use text_writer::TextWriter;
 
 // The class of a colour that no monitor has.
 const NO_MONITOR: u64 = 9;
@@ -73,54 +72,49 @@ impl Bar {
     }
 
     // Appends the beginning of an element, up to its classes.
-    fn append_class(&self, out: &mut Vec<u8>, element: &str) -> Result<(), AllocError> {
+    fn append_class(&self, out: &mut TextWriter, element: &str) {
         let (class, number) = class_of(self.layer);
-        append_shape(out, element, &[])?;
-        append_shape(out, class, &[])?;
-        append_shape(out, self.manner(), &[number])
+        out.text(element);
+        out.text(class);
+        out.form(self.manner(), &[number])
     }
 
     // Draws a rectangle.
-    fn append_block(&self, out: &mut Vec<u8>, place: Place) -> Result<(), AllocError> {
+    fn append_block(&self, out: &mut TextWriter, place: Place) {
         let tall = height(place.level);
         let top = place.middle.saturating_sub(tall / 2);
         let wide = place.right.saturating_sub(self.left);
-        self.append_class(out, "<rect class='")?;
+        self.append_class(out, "<rect class='");
         let numbers = [self.left, top, wide, tall];
-        append_shape(out, " x='$' y='$' width='$' height='$'/>", &numbers)
+        out.form(" x='$' y='$' width='$' height='$'/>", &numbers)
     }
 
     // Draws a line, on the ground where it stands on another bar.
-    fn append_line(&self, out: &mut Vec<u8>, place: Place) -> Result<(), AllocError> {
+    fn append_line(&self, out: &mut TextWriter, place: Place) {
         if place.level > 0 {
             let top = place.middle.saturating_sub(4);
             let numbers = [self.left, top, place.right.saturating_sub(self.left)];
-            append_shape(
-                out,
+            out.form(
                 "<rect class='under' x='$' y='$' width='$' height='8'/>",
                 &numbers,
-            )?;
+            );
         }
-        self.append_class(out, "<path class='")?;
-        append_shape(
-            out,
-            " d='M$,$H$'/>",
-            &[self.left, place.middle, place.right],
-        )
+        self.append_class(out, "<path class='");
+        out.form(" d='M$,$H$'/>", &[self.left, place.middle, place.right])
     }
 
     /// Draws a bar up to its right edge, with what it is.
-    pub fn draw(&self, out: &mut Vec<u8>, labels: Labels, place: Place) -> Result<(), AllocError> {
+    pub fn draw(&self, out: &mut TextWriter, labels: Labels, place: Place) {
         if place.right <= self.left {
-            return Ok(());
+            return;
         }
-        append_shape(out, "<g><title>", &[])?;
-        labels.append_description(out, self.layer)?;
-        append_shape(out, ", $ to $</title>", &[self.since, place.until])?;
+        out.text("<g><title>");
+        labels.append_description(out, self.layer);
+        out.form(", $ to $</title>", &[self.since, place.until]);
         match self.layer {
-            Layer::Holds(_, _) | Layer::Waits(_) => self.append_block(out, place)?,
-            _ => self.append_line(out, place)?,
+            Layer::Holds(_, _) | Layer::Waits(_) => self.append_block(out, place),
+            _ => self.append_line(out, place),
         }
-        append_shape(out, "</g>\n", &[])
+        out.text("</g>\n")
     }
 }

@@ -1,10 +1,9 @@
 // The procedures that run in a process, and the monitors that they hold.
 
-use crate::layer::Layer;
+use crate::layer::{Layer, Layers};
 use program::{Role, Statement};
 use source_offers::{Process, Stage, upcoming};
 use source_states::{Action, ActionKind, SourceState};
-use std::alloc::AllocError;
 
 /// The piece that an action begins, before it: that of a call, or of a process that is made.
 pub(crate) fn begun(state: &SourceState, action: &Action) -> Option<u32> {
@@ -13,6 +12,16 @@ pub(crate) fn begun(state: &SourceState, action: &Action) -> Option<u32> {
         (ActionKind::Call, Statement::Call { procedure, .. }) => Some(*procedure),
         (ActionKind::Fork(_), Statement::Fork { procedure, .. }) => Some(*procedure),
         _ => None,
+    }
+}
+
+/// The processes that an action resumes.
+pub(crate) fn resumed_by(kind: &ActionKind) -> &[u64] {
+    match kind {
+        ActionKind::Notify(_, resumed) => resumed.as_slice(),
+        ActionKind::Broadcast(_, resumed) => resumed.as_slice(),
+        ActionKind::Kill(resumed, _) => resumed.as_slice(),
+        _ => &[],
     }
 }
 
@@ -42,58 +51,44 @@ fn held_on_top(process: &Process) -> Option<u32> {
 }
 
 // Appends a monitor that a process holds, where it didn't give it up.
-fn append_hold(
-    layers: &mut Vec<Layer>,
-    process: &Process,
-    monitor: u32,
-    piece: Option<u32>,
-) -> Result<(), AllocError> {
+fn append_hold(layers: &mut Layers, process: &Process, monitor: u32, piece: Option<u32>) {
     if given_up(process) != Some(monitor) {
-        layers.push(Layer::Holds(monitor, piece))?;
+        layers.push(Layer::Holds(monitor, piece));
     }
-    Ok(())
 }
 
 // Appends the monitors that the procedures of a process hold which wait for one that they called.
-fn append_of_callers(
-    layers: &mut Vec<Layer>,
-    process: &Process,
-    pieces: &[Option<u32>],
-) -> Result<(), AllocError> {
+fn append_of_callers(layers: &mut Layers, process: &Process, pieces: &[Option<u32>]) {
     for (index, caller) in process.callers.iter().enumerate() {
         if let Role::Entry(monitor) = caller.role {
             let piece = pieces.get(index).copied().unwrap_or(None);
-            append_hold(layers, process, monitor, piece)?;
+            append_hold(layers, process, monitor, piece);
         }
     }
-    Ok(())
 }
 
 // Appends the monitors that a dying process hasn't given up yet, the outermost first.
-fn append_left(layers: &mut Vec<Layer>, left: &[u32]) -> Result<(), AllocError> {
+fn append_left(layers: &mut Layers, left: &[u32]) {
     for monitor in left.iter().rev() {
-        layers.push(Layer::Holds(*monitor, None))?;
+        layers.push(Layer::Holds(*monitor, None));
     }
-    Ok(())
 }
 
 /// Appends the monitors that a process holds, from the outermost. These pieces run in it, the outermost first.
-pub(crate) fn append_held(
-    layers: &mut Vec<Layer>,
-    process: &Process,
-    pieces: &[Option<u32>],
-) -> Result<(), AllocError> {
+pub(crate) fn append_held(layers: &mut Layers, process: &Process, pieces: &[Option<u32>]) {
     match &process.stage {
-        Stage::Dying(_, left) => return append_left(layers, left.as_slice()),
-        Stage::Leaving(_) | Stage::Over(_) => return Ok(()),
-        _ => {}
+        Stage::Dying(_, left) => append_left(layers, left.as_slice()),
+        Stage::Leaving(_) => {}
+        Stage::Over(_) => {}
+        _ => append_of_frames(layers, process, pieces),
     }
-    append_of_callers(layers, process, pieces)?;
-    match held_on_top(process) {
-        None => Ok(()),
-        Some(monitor) => {
-            let piece = pieces.get(process.callers.len()).copied().unwrap_or(None);
-            append_hold(layers, process, monitor, piece)
-        }
+}
+
+// Appends the monitors that the procedures of a process hold.
+fn append_of_frames(layers: &mut Layers, process: &Process, pieces: &[Option<u32>]) {
+    append_of_callers(layers, process, pieces);
+    if let Some(monitor) = held_on_top(process) {
+        let piece = pieces.get(process.callers.len()).copied().unwrap_or(None);
+        append_hold(layers, process, monitor, piece)
     }
 }

@@ -2,7 +2,7 @@ use crate::frames::append_held;
 use program::Member;
 use source_offers::{Process, Stage};
 use source_states::SourceState;
-use std::alloc::AllocError;
+use std::alloc::Global;
 
 /// What a process is doing while others act. Those that it holds lie below what it waits for.
 #[derive(Clone, Copy, PartialEq, Eq)]
@@ -25,6 +25,32 @@ pub(crate) enum Layer {
     Dies,
     /// Is over, and not joined.
     IsOver,
+}
+
+/// What a process is doing, from the outermost monitor that it holds. Where memory runs out it tells so.
+#[derive(Drop)]
+pub(crate) struct Layers {
+    /// The layers, as far as memory sufficed.
+    pub list: Vec<Layer>,
+    /// Whether memory ran out.
+    pub failed: bool,
+}
+
+impl Layers {
+    /// None of them.
+    pub fn new(alloc: Global) -> Layers {
+        Layers {
+            list: Vec::new(alloc),
+            failed: false,
+        }
+    }
+
+    /// Appends a layer.
+    pub fn push(&mut self, layer: Layer) {
+        if self.list.push(layer).is_err() {
+            self.failed = true;
+        }
+    }
 }
 
 /// A failed attempt to take a monitor, where it is known which, and who held that.
@@ -62,22 +88,23 @@ fn tried(layer: Option<Layer>, trial: Option<Trial>) -> Option<Layer> {
 /// Appends what a process of this number is doing, if there is one, from the outermost monitor that it holds. These are
 /// the pieces that run in it, the outermost first, and its last attempt to take a monitor, if that failed.
 pub(crate) fn append_layers_of(
-    layers: &mut Vec<Layer>,
+    layers: &mut Layers,
     state: &SourceState,
     number: u64,
     pieces: &[Option<u32>],
     trial: Option<Trial>,
-) -> Result<(), AllocError> {
-    let Some(process) = state.process(number) else {
-        return Ok(());
-    };
-    append_held(layers, process, pieces)?;
-    let last = match tried(uppermost(state, number, process), trial) {
-        None if layers.is_empty() => Some(Layer::Runs),
-        last => last,
-    };
-    if let Some(layer) = last {
-        layers.push(layer)?;
+) {
+    if let Some(process) = state.process(number) {
+        append_held(layers, process, pieces);
+        append_last(layers, tried(uppermost(state, number, process), trial));
     }
-    Ok(())
+}
+
+// Appends what a process does besides holding monitors; where it does neither, it runs.
+fn append_last(layers: &mut Layers, last: Option<Layer>) {
+    match last {
+        Some(layer) => layers.push(layer),
+        None if layers.list.is_empty() => layers.push(Layer::Runs),
+        None => {}
+    }
 }

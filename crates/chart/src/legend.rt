@@ -1,7 +1,7 @@
 use crate::labels::Labels;
 use crate::palette::colour;
-use crate::shapes::{append_shape, append_text, letters_of, wide};
-use std::alloc::AllocError;
+use crate::shapes::{append_text, letters_of, wide};
+use text_writer::TextWriter;
 
 // What the lines and marks are.
 const SAMPLES: &str =
@@ -23,6 +23,14 @@ const SAMPLES: &str =
 <path class='end' d='M156,-4h8v8h-8z'/><text x='170' y='4'>ends</text>
 <path class='cross' d='M211,-5l10,10m0,-10l-10,10'/><text x='227' y='4'>aborts</text>
 <text class='print' x='282' y='4'>7</text><text x='294' y='4'>prints</text></g>
+</g>
+</g>
+";
+
+// What comes before the monitors.
+const HEAD: &str = "<path class='base' d='M12,$H$'/>
+<g class='legend'>
+<text x='12' y='$'>monitors</text>
 ";
 
 // How wide a letter is, in tenths.
@@ -32,12 +40,7 @@ const LETTER: u64 = 61;
 pub(crate) const SAMPLES_WIDE: u64 = 970;
 
 // Draws the colours of the monitors from a height on, in as many lines as they take; the height of the last line.
-fn append_monitors(
-    out: &mut Vec<u8>,
-    labels: Labels,
-    wide_as: u64,
-    top: u64,
-) -> Result<u64, AllocError> {
+fn append_monitors(out: &mut TextWriter, labels: Labels, wide_as: u64, top: u64) -> u64 {
     let mut left: u64 = 84;
     let mut middle = top;
     for (number, naming) in labels.names.monitors.iter().enumerate() {
@@ -47,43 +50,38 @@ fn append_monitors(
             middle = middle.saturating_add(20);
         }
         let monitor = u32::try_from(number).unwrap_or(0);
-        append_shape(
-            out,
-            "<rect class='m$' x='$' y='$' width='24' height='12'/>",
-            &[colour(monitor), left, middle.saturating_sub(6)],
-        )?;
-        let place = [left.saturating_add(30), middle.saturating_add(4)];
-        append_text(out, "<text x='$' y='$'>", &place, naming.name)?;
+        append_monitor(out, colour(monitor), left, middle, naming.name);
         left = left.saturating_add(long);
     }
-    Ok(middle)
+    middle
+}
+
+// Draws the colour of a monitor, and its name.
+fn append_monitor(out: &mut TextWriter, colour: u64, left: u64, middle: u64, name: &[u8]) {
+    out.form(
+        "<rect class='m$' x='$' y='$' width='24' height='12'/>",
+        &[colour, left, middle.saturating_sub(6)],
+    );
+    let place = [left.saturating_add(30), middle.saturating_add(4)];
+    append_text(out, "<text x='$' y='$'>", &place, name)
 }
 
 /// Draws the legend below a height, in a picture of that width; the height of the picture with it.
 pub(crate) fn append_legend(
-    out: &mut Vec<u8>,
+    out: &mut TextWriter,
     labels: Labels,
     wide_as: u64,
     bottom: u64,
-) -> Result<u64, AllocError> {
+) -> u64 {
     let top = bottom.saturating_add(34);
-    append_shape(
-        out,
-        "<path class='base' d='M12,$H$'/>\n<g class='legend'>\n",
-        &[bottom.saturating_add(14), wide_as.saturating_sub(12)],
-    )?;
-    append_shape(
-        out,
-        "<text x='12' y='$'>monitors</text>\n",
-        &[top.saturating_add(4)],
-    )?;
-    let last = append_monitors(out, labels, wide_as, top)?;
-    append_shape(
-        out,
+    let line = bottom.saturating_add(14);
+    let numbers = [line, wide_as.saturating_sub(12), top.saturating_add(4)];
+    out.form(HEAD, &numbers);
+    let last = append_monitors(out, labels, wide_as, top);
+    out.form(
         "<g transform='translate(12,$)'>\n",
         &[last.saturating_add(28)],
-    )?;
-    append_shape(out, SAMPLES, &[])?;
-    append_shape(out, "</g>\n</g>\n", &[])?;
-    Ok(last.saturating_add(70))
+    );
+    out.text(SAMPLES);
+    last.saturating_add(70)
 }

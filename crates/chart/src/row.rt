@@ -1,9 +1,10 @@
 use crate::bar::{Bar, Place};
 use crate::labels::Labels;
 use crate::layer::{Layer, Trial};
-use crate::shapes::{append_shape, append_text, letters_of, wide};
+use crate::shapes::{append_text, letters_of, wide};
 use source_states::ActionKind;
 use std::alloc::{AllocError, Global};
+use text_writer::TextWriter;
 
 /// On how many levels bars are drawn; those that stand on more share the last.
 pub(crate) const LEVELS: usize = 6;
@@ -15,7 +16,7 @@ const LETTER: u64 = 56;
 #[derive(Drop)]
 pub(crate) struct Row {
     /// Its name.
-    pub name: Vec<u8>,
+    pub name: String,
     /// The pieces that run in the process, the outermost first.
     pub pieces: Vec<Option<u32>>,
     /// Its last attempt to take a monitor, while that is one that failed.
@@ -71,40 +72,24 @@ fn is_for_good(layer: Layer, action: u64, last: Option<u64>) -> bool {
 }
 
 // Writes a name above a bar, and gives where it ends.
-fn write_name(
-    marks: &mut Vec<u8>,
-    form: &str,
-    left: u64,
-    above: u64,
-    name: &[u8],
-) -> Result<u64, AllocError> {
-    append_text(marks, form, &[left, above], name)?;
-    Ok(
-        left.saturating_add(wide(letters_of(name), LETTER))
-            .saturating_add(5),
-    )
+fn write_name(marks: &mut TextWriter, form: &str, place: [u64; 2], name: &[u8]) -> u64 {
+    append_text(marks, form, &place, name);
+    let long = wide(letters_of(name), LETTER);
+    place[0].saturating_add(long).saturating_add(5)
 }
 
 // Writes who holds the monitor above the bar of a process that waits for it, and gives where that ends.
-fn write_holder(
-    marks: &mut Vec<u8>,
-    left: u64,
-    above: u64,
-    holder: u64,
-) -> Result<u64, AllocError> {
-    append_shape(
-        marks,
-        "<text class='quiet' x='$' y='$'>held by $</text>\n",
-        &[left, above, holder],
-    )?;
-    Ok(left.saturating_add(wide(10, LETTER)).saturating_add(5))
+fn write_holder(marks: &mut TextWriter, place: [u64; 2], holder: u64) -> u64 {
+    let form = "<text class='quiet' x='$' y='$'>held by $</text>\n";
+    marks.form(form, &[place[0], place[1], holder]);
+    place[0].saturating_add(wide(10, LETTER)).saturating_add(5)
 }
 
 impl Row {
     /// The row of a process with this name, which begins with this piece and has this last action.
     pub fn new(
         alloc: Global,
-        name: Vec<u8>,
+        name: String,
         piece: Option<u32>,
         last: Option<u64>,
     ) -> Result<Row, AllocError> {
@@ -128,19 +113,19 @@ impl Row {
     /// Begins its row in a strip, at this height, with its name.
     pub fn begin(
         &mut self,
-        lines: &mut Vec<u8>,
-        marks: &mut Vec<u8>,
+        lines: &mut TextWriter,
+        marks: &mut TextWriter,
         labels: Labels,
         middle: u64,
-    ) -> Result<(), AllocError> {
+    ) {
         self.placed = true;
         self.middle = middle;
         append_text(
             lines,
             "<text class='process' x='-8' y='$'>",
             &[middle.saturating_add(4)],
-            self.name.as_slice(),
-        )?;
+            self.name.as_bytes(),
+        );
         self.label_from(marks, labels, 0)
     }
 
@@ -153,22 +138,22 @@ impl Row {
     /// and a RECOVER part has begun. An attempt to take a monitor is over where the action took it.
     pub fn settle(
         &mut self,
+        marks: &mut TextWriter,
         kind: &ActionKind,
         piece: Option<u32>,
         depth: usize,
-    ) -> Result<(), AllocError> {
+    ) {
         match kind {
-            ActionKind::Call => self.pieces.push(piece)?,
-            ActionKind::Enter(_) | ActionKind::Resume(_) | ActionKind::Kill(_, _) => {
-                self.trial = None;
-            }
+            ActionKind::Call => marks.push(&mut self.pieces, piece),
+            ActionKind::Enter(_) => self.trial = None,
+            ActionKind::Resume(_) => self.trial = None,
+            ActionKind::Kill(_, _) => self.trial = None,
             _ => {}
         }
         self.pieces.truncate(depth);
         for _piece in self.pieces.len()..depth {
-            self.pieces.push(None)?;
+            marks.push(&mut self.pieces, None);
         }
-        Ok(())
     }
 
     /// Where a note of so many letters, round a middle, stands below its bars, behind the notes before it.
@@ -179,82 +164,66 @@ impl Row {
         [left, self.middle.saturating_add(17)]
     }
 
-    // Writes the name of what a bar shows above it, where no other name stands.
-    fn label(&mut self, marks: &mut Vec<u8>, labels: Labels, bar: Bar) -> Result<(), AllocError> {
-        if bar.left < self.names_end {
-            return Ok(());
-        }
-        let above = self.middle.saturating_sub(11);
-        self.names_end = match bar.layer {
+    // Writes the name of what a bar shows above it, and gives where it ends; of others that is where they begin.
+    fn write_label(&self, marks: &mut TextWriter, labels: Labels, bar: Bar) -> u64 {
+        let place = [bar.left, self.middle.saturating_sub(11)];
+        match bar.layer {
             Layer::Holds(monitor, piece) => {
                 let name = labels.piece(piece).unwrap_or(labels.monitor(monitor));
-                write_name(marks, "<text x='$' y='$'>", bar.left, above, name)?
+                write_name(marks, "<text x='$' y='$'>", place, name)
             }
             Layer::Waits(condition) => {
                 let name = labels.condition(condition);
-                let form = "<text class='condition' x='$' y='$'>";
-                write_name(marks, form, bar.left, above, name)?
+                write_name(marks, "<text class='condition' x='$' y='$'>", place, name)
             }
-            Layer::Tried(_, holder) => write_holder(marks, bar.left, above, holder)?,
-            _ => return Ok(()),
-        };
-        Ok(())
+            Layer::Tried(_, holder) => write_holder(marks, place, holder),
+            _ => self.names_end,
+        }
     }
 
     /// Writes the names of what its bars show above them, from a level on, where it has a row.
-    pub fn label_from(
-        &mut self,
-        marks: &mut Vec<u8>,
-        labels: Labels,
-        first: usize,
-    ) -> Result<(), AllocError> {
+    pub fn label_from(&mut self, marks: &mut TextWriter, labels: Labels, first: usize) {
         if !self.placed {
-            return Ok(());
+            return;
         }
         for level in first..self.bars.len() {
             if let Some(bar) = self.bars.get(level).copied() {
-                self.label(marks, labels, bar)?;
+                if bar.left >= self.names_end {
+                    self.names_end = self.write_label(marks, labels, bar);
+                }
             }
         }
-        Ok(())
     }
 
     // Draws the bar of a level, up to a moment.
-    fn draw_level(
-        &self,
-        levels: &mut [Vec<u8>],
-        labels: Labels,
-        level: usize,
-        moment: Moment,
-    ) -> Result<(), AllocError> {
+    fn draw_level(&self, levels: &mut [TextWriter], labels: Labels, level: usize, moment: Moment) {
         let Some(bar) = self.bars.get(level) else {
-            return Ok(());
+            return;
         };
         match levels.get_mut(level.min(LEVELS - 1)) {
             Some(out) => bar.draw(out, labels, place(level, self.middle, moment)),
-            None => Ok(()),
+            None => {}
         }
     }
 
-    // Draws its bars from a level on, up to a moment, each over those that it stands on, where it has a row.
-    fn draw_from(
+    /// Draws its bars from a level on, up to a moment, each over those that it stands on, where it has a row.
+    pub fn draw_from(
         &self,
-        levels: &mut [Vec<u8>],
+        levels: &mut [TextWriter],
         labels: Labels,
         first: usize,
         moment: Moment,
-    ) -> Result<(), AllocError> {
+    ) {
         if !self.placed {
-            return Ok(());
+            return;
         }
         for level in first..self.bars.len() {
-            self.draw_level(levels, labels, level, moment)?;
+            self.draw_level(levels, labels, level, moment);
         }
-        Ok(())
     }
 
-    // How many of its bars go on, from the lowest.
-    fn kept(&self, layers: &[Layer]) -> usize {
+    /// How many of its bars go on, from the lowest, where it does this.
+    pub fn kept(&self, layers: &[Layer]) -> usize {
         let mut kept: usize = 0;
         for (bar, layer) in self.bars.iter().zip(layers) {
             if bar.layer != *layer {
@@ -265,36 +234,29 @@ impl Row {
         kept
     }
 
-    /// From a moment on the process does this: bars that end are drawn, and others begin. How many are the same.
+    /// From a moment on the process does this: bars end but for so many, which are the same, and others begin.
     pub fn change(
         &mut self,
-        levels: &mut [Vec<u8>],
-        labels: Labels,
+        marks: &mut TextWriter,
         layers: &[Layer],
+        kept: usize,
         moment: Moment,
-    ) -> Result<usize, AllocError> {
-        let kept = self.kept(layers);
-        self.draw_from(levels, labels, kept, moment)?;
+    ) {
         self.bars.truncate(kept);
         for layer in layers.get(kept..).unwrap_or(&[]) {
-            self.bars.push(Bar {
+            let bar = Bar {
                 layer: *layer,
                 left: moment.left,
                 since: moment.action,
                 never: is_for_good(*layer, moment.action, self.last),
-            })?;
+            };
+            marks.push(&mut self.bars, bar);
         }
-        Ok(kept)
     }
 
     /// Ends its row in this strip: its bars go on from the next strip's left edge. How far its words reach.
-    pub fn cut(
-        &mut self,
-        levels: &mut [Vec<u8>],
-        labels: Labels,
-        moment: Moment,
-    ) -> Result<u64, AllocError> {
-        self.draw_from(levels, labels, 0, moment)?;
+    pub fn cut(&mut self, levels: &mut [TextWriter], labels: Labels, moment: Moment) -> u64 {
+        self.draw_from(levels, labels, 0, moment);
         for bar in self.bars.iter_mut() {
             bar.left = 0;
         }
@@ -302,6 +264,6 @@ impl Row {
         self.placed = false;
         self.names_end = 0;
         self.notes_end = 0;
-        Ok(reach)
+        reach
     }
 }

@@ -1,10 +1,11 @@
 use crate::labels::Labels;
-use crate::layer::{Layer, Trial, append_layers_of};
+use crate::layer::{Layer, Layers, Trial, append_layers_of};
 use crate::row::{Moment, Row};
 use crate::span::Span;
 use monitor_waits::Attempt;
 use source_states::{Action, SourceState};
 use std::alloc::{AllocError, Global};
+use text_writer::TextWriter;
 
 /// How many actions stand side by side; more stand below them.
 pub(crate) const COLUMNS: u64 = 80;
@@ -29,11 +30,11 @@ pub(crate) struct Sheet<'c, 'n> {
     /// The attempts to take a monitor that failed, which come next.
     pub attempts: &'c [Attempt],
     /// What lies behind the bars.
-    pub lines: Vec<u8>,
+    pub lines: TextWriter,
     /// The bars, those that stand on others behind them.
-    pub bars: Vec<Vec<u8>>,
-    /// What lies before the bars.
-    pub marks: Vec<u8>,
+    pub bars: Vec<TextWriter>,
+    /// What lies before the bars. Where memory runs out elsewhere, it fails too.
+    pub marks: TextWriter,
     /// The rows of the processes, the first of process 1.
     pub rows: Vec<Row>,
     /// The processes that others join.
@@ -60,10 +61,10 @@ pub(crate) fn index_of(process: u64) -> usize {
 }
 
 // Where the bars of each level are written.
-fn no_bars(alloc: Global) -> Result<Vec<Vec<u8>>, AllocError> {
+fn no_bars(alloc: Global) -> Result<Vec<TextWriter>, AllocError> {
     let mut bars = Vec::new(alloc);
     for _level in 0..crate::row::LEVELS {
-        bars.push(Vec::new(alloc))?;
+        bars.push(TextWriter::new(alloc))?;
     }
     Ok(bars)
 }
@@ -77,15 +78,16 @@ impl<'c, 'n> Sheet<'c, 'n> {
         attempts: &'c [Attempt],
         span: Span,
     ) -> Result<Sheet<'c, 'n>, AllocError> {
+        let bars = no_bars(alloc)?;
         Ok(Sheet {
             alloc,
             labels,
             actions,
             span,
             attempts,
-            lines: Vec::new(alloc),
-            bars: no_bars(alloc)?,
-            marks: Vec::new(alloc),
+            lines: TextWriter::new(alloc),
+            bars,
+            marks: TextWriter::new(alloc),
             rows: Vec::new(alloc),
             joined: Vec::new(alloc),
             lasts: Vec::new(alloc),
@@ -130,45 +132,39 @@ impl<'c, 'n> Sheet<'c, 'n> {
     }
 
     // From a moment on a process does this.
-    fn change(&mut self, process: u64, layers: &[Layer], moment: Moment) -> Result<(), AllocError> {
+    fn change(&mut self, process: u64, layers: &[Layer], moment: Moment) {
         let Some(row) = self.rows.get_mut(index_of(process)) else {
-            return Ok(());
+            return;
         };
-        let kept = row.change(self.bars.as_mut_slice(), self.labels, layers, moment)?;
+        let kept = row.kept(layers);
+        row.draw_from(self.bars.as_mut_slice(), self.labels, kept, moment);
+        row.change(&mut self.marks, layers, kept, moment);
         row.label_from(&mut self.marks, self.labels, kept)
     }
 
     /// From a moment on a process does what the state says.
-    pub fn follow(
-        &mut self,
-        state: &SourceState,
-        process: u64,
-        moment: Moment,
-    ) -> Result<(), AllocError> {
-        let mut layers = Vec::new(self.alloc);
+    pub fn follow(&mut self, state: &SourceState, process: u64, moment: Moment) {
+        let mut layers = Layers::new(self.alloc);
         if let Some(row) = self.rows.get(index_of(process)) {
             let pieces = row.pieces.as_slice();
-            append_layers_of(&mut layers, state, process, pieces, row.trial)?;
+            append_layers_of(&mut layers, state, process, pieces, row.trial);
         }
-        self.change(process, layers.as_slice(), moment)
+        if layers.failed {
+            self.marks.fail();
+        }
+        self.change(process, layers.list.as_slice(), moment)
     }
 
     /// A process is joined, or is over and never joined: its row ends.
-    pub fn leave(&mut self, process: u64, moment: Moment) -> Result<(), AllocError> {
-        self.change(process, &[], moment)?;
+    pub fn leave(&mut self, process: u64, moment: Moment) {
+        self.change(process, &[], moment);
         if let Some(row) = self.rows.get_mut(index_of(process)) {
             row.gone = true;
         }
-        Ok(())
     }
 
     // A process failed to take a monitor.
-    fn fail(
-        &mut self,
-        state: &SourceState,
-        attempt: Attempt,
-        moment: Moment,
-    ) -> Result<(), AllocError> {
+    fn fail(&mut self, state: &SourceState, attempt: Attempt, moment: Moment) {
         if let Some(row) = self.rows.get_mut(index_of(attempt.process)) {
             row.trial = Some(Trial {
                 monitor: attempt.monitor,
@@ -179,20 +175,14 @@ impl<'c, 'n> Sheet<'c, 'n> {
     }
 
     /// Draws the attempts that come behind fewer than so many actions, at a moment.
-    pub fn fail_all(
-        &mut self,
-        state: &SourceState,
-        count: u64,
-        moment: Moment,
-    ) -> Result<(), AllocError> {
+    pub fn fail_all(&mut self, state: &SourceState, count: u64, moment: Moment) {
         let attempts = self.attempts;
         for attempt in attempts {
             if attempt.behind as u64 >= count {
                 break;
             }
-            self.fail(state, *attempt, moment)?;
+            self.fail(state, *attempt, moment);
             self.attempts = self.attempts.get(1..).unwrap_or(&[]);
         }
-        Ok(())
     }
 }

@@ -1,9 +1,8 @@
-use Rattle.std.proofs.Common.{◌≡◌, ◌++◌, drop}
+use Rattle.std.proofs.Common.{◌≡◌, ◌++◌, IfSome, IsSomeAnd, drop}
 use Rattle.std.specs.List.{flat_map}
 use Rattle.chart.specs.Texts.{escape}
 use Rattle.chart.proofs.shapes.append_escaped.Given as goal
 
 abbrev pub invariant-loop-byte : goal.invariant-loop-byte
-invariant-loop-byte l =
-    l.out.items ++ flat_map escape (drop l.byte-index l.text)
-    ≡ l.fn.out.items ++ flat_map escape l.text
+invariant-loop-byte l = IfSome l.out (λ text. IsSomeAnd l.fn.out (λ before.
+    text ++ flat_map escape (drop l.byte-index l.text) ≡ before ++ flat_map escape l.text))
