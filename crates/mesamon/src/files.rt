@@ -12,14 +12,23 @@ use std::alloc::Global;
 use std::fs;
 use std::rt::Files;
 
-/// The bytes of the file of this name, or the first `MOST_BYTES + 1` of a longer one; the failure names it.
+// The file that a name is for: `-` is standard input.
+fn path_of<'a>(name: &'a str) -> &'a str {
+    if name == "-" {
+        return "/dev/stdin";
+    }
+    name
+}
+
+/// The bytes of the file of this name, or the first `MOST_BYTES + 1` of a longer one; the failure names it. `-` is standard
+/// input.
 ///
 /// No more is needed: a source text of so many bytes is refused as too long, and an image ends earlier, since each of
 /// its 65,536 instructions has at most 11 bytes.
 pub fn bytes_of<'a, R: Files + AllocGlobal>(rt: &R, name: &'a str) -> Result<Vec<u8>, Failure<'a>>
     ensures { IfOk result (λ v. IsOfFile R.File.remaining (MOST_BYTES + 1) v.items) }
 {
-    let file = fs::open(rt, name).map_err(|error| Failure::of_read(name, &error))?;
+    let file = fs::open(rt, path_of(name)).map_err(|error| Failure::of_read(name, &error))?;
     match read_source(rt.alloc(), &mut Counted::new(file)) {
         Ok(bytes) => Ok(bytes),
         Err(fault) => Err(Failure::of_source(name, fault)),
