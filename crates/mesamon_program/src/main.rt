@@ -1,6 +1,12 @@
-//! The program mesamon: it hands its words to `mesamon::perform_with_hints`, on a thread with a large stack.
+//! The program mesamon: it hands its words to `mesamon::perform_with_hints`, where its text wants it on a thread with a
+//! larger stack.
 #![tactic(auto)]
 
+mod piped;
+mod stack;
+
+use crate::piped::Piped;
+use crate::stack::stack_for;
 use mesamon::{Counted, Progress, ProgressLines, Status, perform_with_hints};
 use std::io::Write;
 use std::process::ExitCode;
@@ -9,21 +15,23 @@ use std::sync::Wait;
 use std::thread::{Builder, Threads};
 use std::{env, io};
 
-// The stack of the thread that does the job, of which memory is taken as it is used. An expression is a tree as deep as
-// it has operators in a row, for which a text has room for half a million, and what goes over a tree calls itself.
-const STACK: usize = 1 << 30;
-
 // For how many states that a search keeps it tells once how far it has come.
 const STATES: usize = 100_000;
 
+// The status where nobody reads what is written: the one that a shell gives for a program that the signal PIPE has ended,
+// which the standard library has this one ignore.
+const PIPE: u8 = 141;
+
 fn main(rt: HostRuntime) -> ExitCode {
-    let started = Builder::new().stack_size(STACK).spawn(
+    let Some(stack) = stack_for(&rt) else {
+        return ExitCode::from(do_job(&rt, rt.stdout(), rt.stderr(), rt.stderr()));
+    };
+    let started = Builder::new().stack_size(stack).spawn(
         &rt,
         move || do_job(&rt, rt.stdout(), rt.stderr(), rt.stderr()),
     );
     ExitCode::from(match started {
         Ok(thread) => thread.join(&rt),
-        // Most texts need no more than the stack that there is.
         Err(_) => do_job(&rt, rt.stdout(), rt.stderr(), rt.stderr()),
     })
 }
@@ -35,12 +43,18 @@ fn do_job<
     O: Write + Drop,
     E: Write + Drop,
 >(rt: &R, output: O, errors: E, progress: E) -> u8 {
-    let mut output = Counted::new(output);
-    let mut errors = Counted::new(errors);
+    let mut output = Counted::new(Piped::new(output));
+    let mut errors = Counted::new(Piped::new(errors));
     let mut progress = ProgressLines::new(progress, STATES);
-    match perform_words(rt, &mut output, &mut errors, &mut progress) {
+    let status = match perform_words(rt, &mut output, &mut errors, &mut progress) {
         Ok(status) => status,
         Err(error) => refuse(rt, &error).code(),
+    };
+    let left = output.into_inner().is_left() || errors.into_inner().is_left();
+    if left && status == Status::Failed.code() {
+        PIPE
+    } else {
+        status
     }
 }
 
