@@ -7,14 +7,15 @@ _mesamon_words() {
         check) echo FILE --hints ;;
         compile) echo FILE OUT --workers=N --image=N --hints ;;
         list) echo IMAGE --source=FILE --hints ;;
-        run) echo FILE --steps=N --in-order --seed=N --strays=N --kills=N --trace --log=OUT --hints ;;
+        run) echo FILE --steps=N --in-order --seed=N --strays=N --kills=N --trace --log=OUT --page=OUT --hints ;;
         exec) echo IMAGE --steps=N --in-order --seed=N --strays=N --kills=N --trace --log=OUT ;;
-        replay) echo FILE SCHEDULE --trace --log=LOG --hints ;;
+        replay) echo FILE SCHEDULE --trace --log=LOG --page=OUT --hints ;;
         explain)
             echo FILE --steps=N --seed=N --strays=N --kills=N --schedule=SCHEDULE --log=LOG
-            echo --chart=OUT --from=N --to=N --timeline=OUT --places --hints ;;
+            echo --chart=OUT --from=N --to=N --timeline=OUT --page=OUT --places --hints ;;
         emit) echo FILE OUT --hints ;;
-        explore) echo FILE --states=N --strays --kills=N --chart=OUT --from=N --to=N --timeline=OUT --hints ;;
+        explore)
+            echo FILE --states=N --strays --kills=N --chart=OUT --from=N --to=N --timeline=OUT --page=OUT --hints ;;
         help) echo COMMAND ;;
     esac
 }

@@ -39,6 +39,7 @@ complete -c mesamon -n '__fish_seen_subcommand_from explore' -l chart -r -F -d '
 complete -c mesamon -n '__fish_seen_subcommand_from explain explore' -l from -x -d 'Beside --chart: the number of the first action that is drawn'
 complete -c mesamon -n '__fish_seen_subcommand_from explain explore' -l to -x -d 'Beside --chart: the number of the last action that is drawn'
 complete -c mesamon -n '__fish_seen_subcommand_from explain explore' -l timeline -r -F -d "Where its trace events are written, for Perfetto or Chrome's tracing"
+complete -c mesamon -n '__fish_seen_subcommand_from run replay explain explore' -l page -r -F -d 'Where the run is written as a page for a browser'
 complete -c mesamon -n '__fish_seen_subcommand_from explain' -l places -d 'Shows where in the text each action was done, and what it did'
 complete -c mesamon -n '__fish_seen_subcommand_from explore' -l states -x -d 'The most states that are kept'
 complete -c mesamon -n '__fish_seen_subcommand_from explore' -l strays -d 'Searches the runs with stray wakes too'

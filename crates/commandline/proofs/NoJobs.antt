@@ -35,8 +35,8 @@ no_list rows other none h = h
 
 pub no_run : (rows : List Row) (job : Job)
     → (first_of (codes "FILE") rows ≡ None) ⊎ ((o : RunOptions) → ReadsOptions rows o → ⊥) → AsksForRun rows job → ⊥
-no_run rows (Run file options hints) (inl none) h = no_value _ _ none h.0
-no_run rows (Run file options hints) (inr none) h = none options h.1
+no_run rows (Run file options page hints) (inl none) h = no_value _ _ none h.0
+no_run rows (Run file options page hints) (inr none) h = none options h.1
 no_run rows other missing h = h
 
 pub no_exec : (rows : List Row) (job : Job)
@@ -49,16 +49,16 @@ no_exec rows other missing h = h
 pub no_replay : (rows : List Row) (job : Job)
     → (first_of (codes "FILE") rows ≡ None) ⊎ ((r : ReplayedBy) → IsReplayedBy rows r → ⊥) → AsksForReplay rows job
     → ⊥
-no_replay rows (Replay file by trace hints) (inl none) h = no_value _ _ none h.0
-no_replay rows (Replay file by trace hints) (inr none) h = none by h.1
+no_replay rows (Replay file by trace page hints) (inl none) h = no_value _ _ none h.0
+no_replay rows (Replay file by trace page hints) (inr none) h = none by h.1
 no_replay rows other missing h = h
 
 pub no_explain : (rows : List Row) (job : Job)
     → (first_of (codes "FILE") rows ≡ None) ⊎ (((e : ExplainedBy) → IsExplainedBy rows e → ⊥)
     ⊎ ((c : Option ChartOptions) → ReadsChart rows c → ⊥)) → IsExplainOf rows job → ⊥
-no_explain rows (Explain file by chart timeline places hints) (inl none) h = no_value _ _ none h.0
-no_explain rows (Explain file by chart timeline places hints) (inr (inl none)) h = none by h.1
-no_explain rows (Explain file by chart timeline places hints) (inr (inr none)) h = none chart h.2
+no_explain rows (Explain file by chart timeline page places hints) (inl none) h = no_value _ _ none h.0
+no_explain rows (Explain file by chart timeline page places hints) (inr (inl none)) h = none by h.1
+no_explain rows (Explain file by chart timeline page places hints) (inr (inr none)) h = none chart h.2
 no_explain rows other missing h = h
 
 pub no_emit : (rows : List Row) (job : Job)
@@ -71,8 +71,8 @@ pub no_explore : (rows : List Row) (job : Job)
     → (first_of (codes "FILE") rows ≡ None) ⊎ (((n : ℕ) → ReadsStates rows n → ⊥)
     ⊎ (((n : ℕ) → ReadsKills rows n → ⊥) ⊎ ((c : Option ChartOptions) → ReadsChart rows c → ⊥)))
     → IsExploreOf rows job → ⊥
-no_explore rows (Explore file states strays kills chart timeline hints) (inl none) h = no_value _ _ none h.0
-no_explore rows (Explore file states strays kills chart timeline hints) (inr (inl none)) h = none states h.1
-no_explore rows (Explore file states strays kills chart timeline hints) (inr (inr (inl none))) h = none kills h.3
-no_explore rows (Explore file states strays kills chart timeline hints) (inr (inr (inr none))) h = none chart h.4
+no_explore rows (Explore file states strays kills chart timeline page hints) (inl none) h = no_value _ _ none h.0
+no_explore rows (Explore file states strays kills chart timeline page hints) (inr (inl none)) h = none states h.1
+no_explore rows (Explore file states strays kills chart timeline page hints) (inr (inr (inl none))) h = none kills h.3
+no_explore rows (Explore file states strays kills chart timeline page hints) (inr (inr (inr none))) h = none chart h.4
 no_explore rows other missing h = h

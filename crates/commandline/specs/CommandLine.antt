@@ -146,20 +146,22 @@ list_command =
     with_rule (with_rule (with_rule (new_app (codes "list")) (positional (codes "IMAGE"))) (valued (codes "source")))
     (flag (codes "hints"))
 
--- `run FILE [--steps N] [--in-order | --seed N [--strays N] [--kills N]] [--trace] [--log OUT] [--hints]`
+-- `run FILE [--steps N] [--in-order | --seed N [--strays N] [--kills N]] [--trace] [--log OUT] [--page OUT] [--hints]`
 abbrev pub run_command : App
 run_command =
-    with_rule (with_run_options (with_rule (new_app (codes "run")) (positional (codes "FILE")))) (flag (codes "hints"))
+    with_rule (with_rule (with_run_options (with_rule (new_app (codes "run")) (positional (codes "FILE"))))
+    (valued (codes "page"))) (flag (codes "hints"))
 
 -- `exec IMAGE [--steps N] [--in-order | --seed N [--strays N] [--kills N]] [--trace] [--log OUT]`
 abbrev pub exec_command : App
 exec_command = with_run_options (with_rule (new_app (codes "exec")) (positional (codes "IMAGE")))
 
--- `replay FILE (SCHEDULE [--log OUT] | --log LOG) [--trace] [--hints]`
+-- `replay FILE (SCHEDULE [--log OUT] | --log LOG) [--trace] [--page OUT] [--hints]`
 abbrev pub replay_command : App
 replay_command =
-    with_rule (with_rule (with_rule (with_rule (with_rule (new_app (codes "replay")) (positional (codes "FILE")))
-    (new_rule (codes "SCHEDULE"))) (flag (codes "trace"))) (valued (codes "log"))) (flag (codes "hints"))
+    with_rule (with_rule (with_rule (with_rule (with_rule (with_rule (new_app (codes "replay"))
+    (positional (codes "FILE"))) (new_rule (codes "SCHEDULE"))) (flag (codes "trace"))) (valued (codes "log")))
+    (valued (codes "page"))) (flag (codes "hints"))
 
 -- `[--chart OUT [--from N] [--to N]]`
 abbrev pub with_chart_options : App → App
@@ -168,20 +170,21 @@ with_chart_options app =
     (action_option (codes "to"))
 
 -- `explain FILE [[--steps N] [--seed N [--strays N] [--kills N]] | --schedule SCHEDULE | --log LOG]
--- [--chart OUT [--from N] [--to N]] [--timeline OUT] [--places] [--hints]`
+-- [--chart OUT [--from N] [--to N]] [--timeline OUT] [--page OUT] [--places] [--hints]`
 abbrev pub explain_command : App
 explain_command =
-    with_rule (with_rule (with_rule (with_chart_options (with_rule (with_rule (with_rule (with_rule (with_rule
-    (with_rule (with_rule (new_app (codes "explain")) (positional (codes "FILE"))) steps_option) seed_option)
+    with_rule (with_rule (with_rule (with_rule (with_chart_options (with_rule (with_rule (with_rule (with_rule
+    (with_rule (with_rule (with_rule (new_app (codes "explain")) (positional (codes "FILE"))) steps_option) seed_option)
     strays_option) kills_option) (valued (codes "schedule"))) (valued (codes "log")))) (valued (codes "timeline")))
-    (flag (codes "places"))) (flag (codes "hints"))
+    (valued (codes "page"))) (flag (codes "places"))) (flag (codes "hints"))
 
--- `explore FILE [--states N] [--strays] [--kills N] [--chart OUT [--from N] [--to N]] [--timeline OUT] [--hints]`
+-- `explore FILE [--states N] [--strays] [--kills N] [--chart OUT [--from N] [--to N]] [--timeline OUT] [--page OUT]
+-- [--hints]`
 abbrev pub explore_command : App
 explore_command =
-    with_rule (with_rule (with_chart_options (with_rule (with_rule (with_rule (with_rule (new_app (codes "explore"))
-    (positional (codes "FILE"))) states_option) (flag (codes "strays"))) kills_option)) (valued (codes "timeline")))
-    (flag (codes "hints"))
+    with_rule (with_rule (with_rule (with_chart_options (with_rule (with_rule (with_rule (with_rule
+    (new_app (codes "explore")) (positional (codes "FILE"))) states_option) (flag (codes "strays"))) kills_option))
+    (valued (codes "timeline"))) (valued (codes "page"))) (flag (codes "hints"))
 
 -- an option that takes these numbers
 abbrev pub with_numbers : Rule → Numbers → Rule
@@ -368,8 +371,9 @@ IsListOf rows other = ⊥
 
 -- a job of running a source text
 abbrev pub AsksForRun : List Row → Job → Type 0
-AsksForRun rows (Run file options hints) =
-    (first_of (codes "FILE") rows ≡ Some file.now) × ReadsOptions rows options × ReadsFlag (codes "hints") rows hints
+AsksForRun rows (Run file options page hints) =
+    (first_of (codes "FILE") rows ≡ Some file.now) × ReadsOptions rows options
+    × (first_of (codes "page") rows ≡ option_map (λ out. out.now) page) × ReadsFlag (codes "hints") rows hints
 AsksForRun rows other = ⊥
 
 -- a job of running an image
@@ -379,17 +383,18 @@ AsksForExec rows other = ⊥
 
 -- a job of running again
 abbrev pub AsksForReplay : List Row → Job → Type 0
-AsksForReplay rows (Replay file by trace hints) =
+AsksForReplay rows (Replay file by trace page hints) =
     (first_of (codes "FILE") rows ≡ Some file.now) × IsReplayedBy rows by × ReadsFlag (codes "trace") rows trace
-    × ReadsFlag (codes "hints") rows hints
+    × (first_of (codes "page") rows ≡ option_map (λ out. out.now) page) × ReadsFlag (codes "hints") rows hints
 AsksForReplay rows other = ⊥
 
 -- a job of explaining
 abbrev pub IsExplainOf : List Row → Job → Type 0
-IsExplainOf rows (Explain file by chart timeline places hints) =
+IsExplainOf rows (Explain file by chart timeline page places hints) =
     (first_of (codes "FILE") rows ≡ Some file.now) × IsExplainedBy rows by × ReadsChart rows chart
     × (first_of (codes "timeline") rows ≡ option_map (λ out. out.now) timeline)
-    × ReadsFlag (codes "places") rows places × ReadsFlag (codes "hints") rows hints
+    × (first_of (codes "page") rows ≡ option_map (λ out. out.now) page) × ReadsFlag (codes "places") rows places
+    × ReadsFlag (codes "hints") rows hints
 IsExplainOf rows other = ⊥
 
 -- a job of writing C
@@ -401,10 +406,11 @@ IsEmitOf rows other = ⊥
 
 -- a job of searching all runs
 abbrev pub IsExploreOf : List Row → Job → Type 0
-IsExploreOf rows (Explore file states strays kills chart timeline hints) =
+IsExploreOf rows (Explore file states strays kills chart timeline page hints) =
     (first_of (codes "FILE") rows ≡ Some file.now) × ReadsStates rows states × ReadsFlag (codes "strays") rows strays
     × ReadsKills rows kills × ReadsChart rows chart
-    × (first_of (codes "timeline") rows ≡ option_map (λ out. out.now) timeline) × ReadsFlag (codes "hints") rows hints
+    × (first_of (codes "timeline") rows ≡ option_map (λ out. out.now) timeline)
+    × (first_of (codes "page") rows ≡ option_map (λ out. out.now) page) × ReadsFlag (codes "hints") rows hints
 IsExploreOf rows other = ⊥
 
 -- the job that the command of a name asks for, with these values of its arguments

@@ -55,6 +55,8 @@ pub enum Job<'a> {
         file: &'a str,
         /// How it goes.
         options: RunOptions<'a>,
+        /// The name of the page's file, where one is wanted.
+        page: Option<&'a str>,
         /// Whether hints stand behind what is told.
         hints: bool,
     },
@@ -74,6 +76,8 @@ pub enum Job<'a> {
         by: ReplayedBy<'a>,
         /// Whether the log is shown.
         trace: bool,
+        /// The name of the page's file, where one is wanted.
+        page: Option<&'a str>,
         /// Whether hints stand behind what is told.
         hints: bool,
     },
@@ -87,6 +91,8 @@ pub enum Job<'a> {
         chart: Option<ChartOptions<'a>>,
         /// The name of the timeline's file, where one is wanted.
         timeline: Option<&'a str>,
+        /// The name of the page's file, where one is wanted.
+        page: Option<&'a str>,
         /// Whether each action goes on with its place.
         places: bool,
         /// Whether hints stand behind what is told.
@@ -116,6 +122,8 @@ pub enum Job<'a> {
         chart: Option<ChartOptions<'a>>,
         /// The name of the timeline's file, where one is wanted.
         timeline: Option<&'a str>,
+        /// The name of the page's file, where one is wanted.
+        page: Option<&'a str>,
         /// Whether hints stand behind a refusal of the source text.
         hints: bool,
     },
@@ -236,10 +244,12 @@ fn run_of<'a>(matches: &ArgMatches<'a>) -> Option<Job<'a>>
 {
     let file = matches.get_str("FILE")?;
     let options = options_of(matches)?;
+    let page = matches.get_str("page");
     let hints = matches.get_flag("hints");
     Some(Job::Run {
         file,
         options,
+        page,
         hints,
     })
 }
@@ -262,11 +272,13 @@ fn replay_of<'a>(matches: &ArgMatches<'a>) -> Option<Job<'a>>
     let file = matches.get_str("FILE")?;
     let by = replayed_by(matches)?;
     let trace = matches.get_flag("trace");
+    let page = matches.get_str("page");
     let hints = matches.get_flag("hints");
     Some(Job::Replay {
         file,
         by,
         trace,
+        page,
         hints,
     })
 }
@@ -280,6 +292,7 @@ fn explain_of<'a>(matches: &ArgMatches<'a>) -> Option<Job<'a>>
     let by = explained_by(matches)?;
     let chart = chart_of(matches)?;
     let timeline = matches.get_str("timeline");
+    let page = matches.get_str("page");
     let places = matches.get_flag("places");
     let hints = matches.get_flag("hints");
     Some(Job::Explain {
@@ -287,6 +300,7 @@ fn explain_of<'a>(matches: &ArgMatches<'a>) -> Option<Job<'a>>
         by,
         chart,
         timeline,
+        page,
         places,
         hints,
     })
@@ -314,6 +328,7 @@ fn explore_of<'a>(matches: &ArgMatches<'a>) -> Option<Job<'a>>
     let kills = kills_of(matches)?;
     let chart = chart_of(matches)?;
     let timeline = matches.get_str("timeline");
+    let page = matches.get_str("page");
     let hints = matches.get_flag("hints");
     Some(Job::Explore {
         file,
@@ -322,6 +337,7 @@ fn explore_of<'a>(matches: &ArgMatches<'a>) -> Option<Job<'a>>
         kills,
         chart,
         timeline,
+        page,
         hints,
     })
 }

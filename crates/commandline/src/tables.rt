@@ -87,6 +87,13 @@ const TIMELINE: Argument = Argument {
     help: "Where its trace events are written, for Perfetto or Chrome's tracing",
 };
 
+// Where a page is written.
+const PAGE: Argument = Argument {
+    name: "page",
+    kind: Kind::Valued("OUT"),
+    help: "Where the run is written as a page for a browser",
+};
+
 // The number of an action.
 const ACTION: Kind = Kind::Number(Numbers {
     least: 1,
@@ -172,7 +179,7 @@ pub(crate) const RUN: Subcommand = Subcommand {
     name: "run",
     about: "Runs a source text and prints its output",
     arguments: &[
-        FILE, STEPS, IN_ORDER, SEED, STRAYS, KILLS, TRACE, RUN_LOG, HINTS,
+        FILE, STEPS, IN_ORDER, SEED, STRAYS, KILLS, TRACE, RUN_LOG, PAGE, HINTS,
     ],
 };
 
@@ -200,6 +207,7 @@ pub(crate) const REPLAY: Subcommand = Subcommand {
             kind: Kind::Valued("LOG"),
             help: "Beside SCHEDULE, where the log is written; without it, the log that is followed",
         },
+        PAGE,
         HINTS,
     ],
 };
@@ -232,6 +240,7 @@ pub(crate) const EXPLAIN: Subcommand = Subcommand {
         FROM,
         TO,
         TIMELINE,
+        PAGE,
         Argument {
             name: "places",
             kind: Kind::Flag,
@@ -288,6 +297,7 @@ pub(crate) const EXPLORE: Subcommand = Subcommand {
         FROM,
         TO,
         TIMELINE,
+        PAGE,
         HINTS,
     ],
 };

@@ -40,12 +40,12 @@ has_workers ws (Check file hints) asks = tt
 has_workers ws (Compile file out workers version hints) asks =
     compiling_workers ws (Compile file out workers version hints) file out workers version hints asks refl
 has_workers ws (ListImage image source hints) asks = tt
-has_workers ws (Run file options hints) asks = tt
+has_workers ws (Run file options page hints) asks = tt
 has_workers ws (Exec image options) asks = tt
-has_workers ws (Replay file by trace hints) asks = tt
-has_workers ws (Explain file by chart timeline places hints) asks = tt
+has_workers ws (Replay file by trace page hints) asks = tt
+has_workers ws (Explain file by chart timeline page places hints) asks = tt
 has_workers ws (Emit file out hints) asks = tt
-has_workers ws (Explore file states strays kills chart timeline hints) asks = tt
+has_workers ws (Explore file states strays kills chart timeline page hints) asks = tt
 
 -- a status with which a job that was done ends
 abbrev IsEnd : Status → Type 0
@@ -74,13 +74,13 @@ ends : (job : Job) (bytes second : List ℕ) (a : Answer) → HasDone job bytes 
 ends (Check file hints) bytes second a h = end_as a.status Done h.tells.ended tt
 ends (Compile file out workers version hints) bytes second a h = end_as a.status Done h.tells.ended tt
 ends (ListImage image source hints) bytes second a h = end_as a.status Done h.tells.ended tt
-ends (Run file options hints) bytes second a h = end_as a.status _ h.tells.ended (verdict_end h.report.verdict)
+ends (Run file options page hints) bytes second a h = end_as a.status _ h.tells.ended (verdict_end h.report.verdict)
 ends (Exec image options) bytes second a h = end_as a.status _ h.runs.tells.ended (verdict_end h.runs.report.verdict)
-ends (Replay file by trace hints) bytes second a h = end_as a.status _ h.tells.ended (verdict_end h.report.verdict)
-ends (Explain file by chart timeline places hints) bytes second a h =
+ends (Replay file by trace page hints) bytes second a h = end_as a.status _ h.tells.ended (verdict_end h.report.verdict)
+ends (Explain file by chart timeline page places hints) bytes second a h =
     end_as a.status _ h.tells.ended (verdict_end h.explained_run.report.verdict)
 ends (Emit file out hints) bytes second a h = end_as a.status Done h.tells.1.ended tt
-ends (Explore file states strays kills chart timeline hints) bytes second a h =
+ends (Explore file states strays kills chart timeline page hints) bytes second a h =
     let e = h.explored_text.exploration in
     end_as a.status _ h.tells.ended (found_end (is_some e.stuck) e.complete)
 

@@ -41,9 +41,9 @@ refused_so (Err n) P Q on h = refusal_so P Q n on h
 
 -- the file that is made alone is this one
 pub are_puts : (made files : OutFiles) (out : Option OutFile) (put : Option Put) → files ≡ made → made.out ≡ out
-    → made.timeline ≡ None → put_of out ≡ put → ArePuts put files
-are_puts made files out put is has none same =
-    subst (ArePuts put) (sym is) (ap put_of has ∙ same, ap name_of none)
+    → made.timeline ≡ None → made.page ≡ None → put_of out ≡ put → ArePuts put files
+are_puts made files out put is has none no_page same =
+    subst (ArePuts put) (sym is) (ap put_of has ∙ same, ap name_of none, ap name_of no_page)
 
 -- that a failure was named, where another device may have failed too
 pub told_failed_by : (Told : List ℕ → Type 0) (F G : Type 0) (s : Status) → (F → G) → IsToldFailed Told F s

@@ -33,11 +33,16 @@ name_of (Some file) = Some file.name
 
 -- this file is written, or none, and no other one
 abbrev pub ArePuts : Option Put → OutFiles → Type 0
-ArePuts put files = (put_of files.out ≡ put) × (name_of files.timeline ≡ None)
+ArePuts put files = (put_of files.out ≡ put) × (name_of files.timeline ≡ None) × (name_of files.page ≡ None)
 
--- a picture and a timeline are written to the files of these names, as far as there are any
-abbrev pub AreDrawn : Option ChartOptions → Option (Bor (List ℕ)) → OutFiles → Type 0
-AreDrawn chart timeline files = (name_of files.out ≡ out_of chart) × (name_of files.timeline ≡ timeline)
+-- this file is written, or none, and a page to the file of this name, where there is one
+abbrev pub ArePutBeside : Option Put → (page : Option (Bor (List ℕ))) → OutFiles → Type 0
+ArePutBeside put page files = (put_of files.out ≡ put) × (name_of files.timeline ≡ None) × (name_of files.page ≡ page)
+
+-- a picture, a timeline and a page are written to the files of these names, as far as there are any
+abbrev pub AreDrawn : Option ChartOptions → (timeline page : Option (Bor (List ℕ))) → OutFiles → Type 0
+AreDrawn chart timeline page files =
+    (name_of files.out ≡ out_of chart) × (name_of files.timeline ≡ timeline) × (name_of files.page ≡ page)
 
 -- the command is done, tells these bytes alone, and writes this file, or none
 pub record TellsAlone (lines : List ℕ) (put : Option Put) (a : Answer) : Type 0 where
@@ -58,16 +63,18 @@ log_put None log = None
 log_put (Some name) log = Some (name, log_lines log)
 
 -- a run with this report is told: its output, and its account with its log or without; its log is written to the file of
--- this name, where one is named
-pub record TellsReport (report : Report) (trace : Bool) (log : Option (Bor (List ℕ))) (a : Answer) : Type 0 where
+-- this name, where one is named, and a page to that one
+pub record TellsReport (report : Report) (trace : Bool) (log page : Option (Bor (List ℕ))) (a : Answer) : Type 0 where
   pub ended : a.status ≡ status_of_verdict report.verdict
   pub output : a.output.items ≡ output_lines report.output.items
   pub account : a.account.items ≡ account report trace
-  pub files : ArePuts (log_put log report.log.items) a.files
+  pub files : ArePutBeside (log_put log report.log.items) page a.files
 
 -- each file that is to be written has got its bytes
 abbrev pub ArePut : (Got : List ℕ → Type 0) → OutFiles → Type 0
-ArePut Got files = IfSome (put_of files.out) (λ p. Got p.1) × IfSome (put_of files.timeline) (λ p. Got p.1)
+ArePut Got files =
+    IfSome (put_of files.out) (λ p. Got p.1) × IfSome (put_of files.timeline) (λ p. Got p.1)
+    × IfSome (put_of files.page) (λ p. Got p.1)
 
 -- a call of the device has failed
 abbrev pub HasMetFailure : {X : Type 0} → Counted X → Type 0

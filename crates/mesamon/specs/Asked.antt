@@ -33,12 +33,12 @@ abbrev pub asks_for_hints : Job → Bool
 asks_for_hints (Check file hints) = hints
 asks_for_hints (Compile file out workers version hints) = hints
 asks_for_hints (ListImage image source hints) = hints
-asks_for_hints (Run file options hints) = hints
+asks_for_hints (Run file options page hints) = hints
 asks_for_hints (Exec image options) = false
-asks_for_hints (Replay file by trace hints) = hints
-asks_for_hints (Explain file by chart timeline places hints) = hints
+asks_for_hints (Replay file by trace page hints) = hints
+asks_for_hints (Explain file by chart timeline page places hints) = hints
 asks_for_hints (Emit file out hints) = hints
-asks_for_hints (Explore file states strays kills chart timeline hints) = hints
+asks_for_hints (Explore file states strays kills chart timeline page hints) = hints
 
 -- the run that is made of a text, as the options say
 abbrev pub IsRunAs : RunOptions → List ℕ → Report → Type 0
@@ -84,14 +84,14 @@ read_of_explained (Log name) = Some (2 ^ 62)
 
 abbrev pub read_second : Job → Option ℕ
 read_second (ListImage image source hints) = read_of_source source
-read_second (Replay file by trace hints) = read_of_replay by
-read_second (Explain file by chart timeline places hints) = read_of_explained by
+read_second (Replay file by trace page hints) = read_of_replay by
+read_second (Explain file by chart timeline page places hints) = read_of_explained by
 read_second (Check file hints) = None
 read_second (Compile file out workers version hints) = None
-read_second (Run file options hints) = None
+read_second (Run file options page hints) = None
 read_second (Exec image options) = None
 read_second (Emit file out hints) = None
-read_second (Explore file states strays kills chart timeline hints) = None
+read_second (Explore file states strays kills chart timeline page hints) = None
 
 -- of this one
 abbrev pub most_of : Second → Option ℕ

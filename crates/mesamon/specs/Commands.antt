@@ -84,19 +84,20 @@ pub record HasListed (more : Bool) (bytes : List ℕ) (a : Answer) : Type 0 wher
   pub is : spelling image ≡ bytes
   pub tells : TellsLines more (lines 0 image.code) a
 
--- the text was run so, and that was told and logged
-pub record HasRun (IsRun : List ℕ → Report → Type 0) (trace : Bool) (log : Option (Bor (List ℕ))) (text : List ℕ) (a : Answer)
+-- the text was run so, and that was told and logged, and shown on a page where that is wanted
+pub record HasRun (IsRun : List ℕ → Report → Type 0) (trace : Bool) (log page : Option (Bor (List ℕ))) (text : List ℕ)
+    (a : Answer)
     : Type 0
   where
     pub report : Report
     pub run : IsRun text report
-    pub tells : TellsReport report trace log a
+    pub tells : TellsReport report trace log page a
 
 -- the image was run as the options say, and that was told and logged
 pub record RunsImage (options : RunOptions) (image : Program) (a : Answer) : Type 0 where
   pub report : Report
   pub run : IsReport image (outside_by options.order) options.steps report
-  pub tells : TellsReport report options.trace options.log a
+  pub tells : TellsReport report options.trace options.log None a
 
 -- the bytes spell an image that was run so
 pub record HasExecuted (options : RunOptions) (bytes : List ℕ) (a : Answer) : Type 0 where
@@ -110,24 +111,24 @@ abbrev pub explained_lines : ExplainedRun → List ℕ
 explained_lines r = flat_map (line r.checked.names) (map action_of r.actions.items)
 
 -- the lines of the actions of an explained run are told alone, with their places where those are asked for, and the run is
--- drawn and timed to the files of these names
-pub record TellsRun (places : Bool) (chart : Option ChartOptions) (timeline : Option (Bor (List ℕ))) (r : ExplainedRun)
-    (a : Answer)
+-- drawn, timed and shown on a page, to the files of these names
+pub record TellsRun (places : Bool) (chart : Option ChartOptions) (timeline page : Option (Bor (List ℕ)))
+    (r : ExplainedRun) (a : Answer)
     : Type 0
   where
     pub ended : a.status ≡ status_of_verdict r.report.verdict
     pub are_told : AreTold places (explained_lines r) a.output.items
     pub account : a.account.items ≡ []
-    pub files : AreDrawn chart timeline a.files
+    pub files : AreDrawn chart timeline page a.files
 
 -- the text was run as was asked for and its run explained, or a log of it, and that was told
 pub record HasExplained (by : ExplainedBy) (second : List ℕ) (places : Bool) (chart : Option ChartOptions)
-    (timeline : Option (Bor (List ℕ))) (text : List ℕ) (a : Answer)
+    (timeline page : Option (Bor (List ℕ))) (text : List ℕ) (a : Answer)
     : Type 0
   where
     pub explained_run : ExplainedRun
     pub explained : IsExplainedAs by second text explained_run
-    pub tells : TellsRun places chart timeline explained_run a
+    pub tells : TellsRun places chart timeline page explained_run a
 
 -- the job was done, with these bytes in the file that it is about, and in the second one that it names: what it asks for is
 -- what is told, and what its files get
@@ -135,14 +136,14 @@ abbrev pub HasDone : Job → (bytes second : List ℕ) → Answer → Type 0
 HasDone (Check file hints) bytes second a = HasChecked bytes a
 HasDone (Compile file out workers version hints) bytes second a = HasCompiled version out bytes a
 HasDone (ListImage image source hints) bytes second a = HasListed (is_some source) bytes a
-HasDone (Run file options hints) bytes second a = HasRun (IsRunAs options) options.trace options.log bytes a
+HasDone (Run file options page hints) bytes second a = HasRun (IsRunAs options) options.trace options.log page bytes a
 HasDone (Exec image options) bytes second a = HasExecuted options bytes a
-HasDone (Replay file by trace hints) bytes second a = HasRun (IsReplayedAs by second) trace (log_beside by) bytes a
-HasDone (Explain file by chart timeline places hints) bytes second a =
-    HasExplained by second places chart timeline bytes a
+HasDone (Replay file by trace page hints) bytes second a = HasRun (IsReplayedAs by second) trace (log_beside by) page bytes a
+HasDone (Explain file by chart timeline page places hints) bytes second a =
+    HasExplained by second places chart timeline page bytes a
 HasDone (Emit file out hints) bytes second a = HasEmitted out bytes a
-HasDone (Explore file states strays kills chart timeline hints) bytes second a =
-    HasExplored (record { strays = strays; kills = kills }) states chart timeline bytes a
+HasDone (Explore file states strays kills chart timeline page hints) bytes second a =
+    HasExplored (record { strays = strays; kills = kills }) states chart timeline page bytes a
 
 -- this is the refusal of the source beside an image, where one is named, for an image of the version of that one
 pub record RefusesBeside (bytes second : List ℕ) (e : Refusal) : Type 0 where
@@ -157,11 +158,11 @@ RefusesJob (Check file hints) bytes second e = RefusesProgram bytes e
 RefusesJob (Compile file out workers version hints) bytes second e = RefusesTextAs version bytes e
 RefusesJob (ListImage image source hints) bytes second e = RefusesBeside bytes second e
 RefusesJob (Exec image options) bytes second e = ⊥
-RefusesJob (Run file options hints) bytes second e = RefusesText bytes e
-RefusesJob (Replay file by trace hints) bytes second e = RefusesText bytes e
-RefusesJob (Explain file by chart timeline places hints) bytes second e = RefusesText bytes e
+RefusesJob (Run file options page hints) bytes second e = RefusesText bytes e
+RefusesJob (Replay file by trace page hints) bytes second e = RefusesText bytes e
+RefusesJob (Explain file by chart timeline page places hints) bytes second e = RefusesText bytes e
 RefusesJob (Emit file out hints) bytes second e = RefusesText bytes e
-RefusesJob (Explore file states strays kills chart timeline hints) bytes second e = RefusesText bytes e
+RefusesJob (Explore file states strays kills chart timeline page hints) bytes second e = RefusesText bytes e
 
 -- the job was done on bytes that were read of its files
 pub record HasDoneSome (IsOf : (most : ℕ) → List ℕ → Type 0) (job : Job) (a : Answer) : Type 0 where

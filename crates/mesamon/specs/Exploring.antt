@@ -105,27 +105,28 @@ explored_status e = found_status (is_some e.stuck) e.complete
 abbrev pub is_found : Exploration → Bool
 is_found e = is_some e.stuck || is_some e.aborted
 
--- the run that was found is drawn and timed to the files of these names; where none was, no file is written
-abbrev pub AreDrawnIf : Bool → Option ChartOptions → Option (Bor (List ℕ)) → OutFiles → Type 0
-AreDrawnIf true chart timeline files = AreDrawn chart timeline files
-AreDrawnIf false chart timeline files = ArePuts None files
+-- the run that was found is drawn, timed and shown on a page, to the files of these names; where none was, no file is
+-- written
+abbrev pub AreDrawnIf : Bool → Option ChartOptions → (timeline page : Option (Bor (List ℕ))) → OutFiles → Type 0
+AreDrawnIf true chart timeline page files = AreDrawn chart timeline page files
+AreDrawnIf false chart timeline page files = ArePuts None files
 
 -- what was found is told alone
-pub record TellsFound (may : Outside) (chart : Option ChartOptions) (timeline : Option (Bor (List ℕ))) (r : ExploredText)
-    (a : Answer)
+pub record TellsFound (may : Outside) (chart : Option ChartOptions) (timeline page : Option (Bor (List ℕ)))
+    (r : ExploredText) (a : Answer)
     : Type 0
   where
     pub ended : a.status ≡ explored_status r.exploration
     pub output : a.output.items ≡ explored_lines may r
     pub account : a.account.items ≡ []
-    pub files : AreDrawnIf (is_found r.exploration) chart timeline a.files
+    pub files : AreDrawnIf (is_found r.exploration) chart timeline page a.files
 
 -- all runs of the text's program were searched, with as much from outside as may be and keeping so many states at most, and
 -- what was found was told
-pub record HasExplored (may : Outside) (most : ℕ) (chart : Option ChartOptions) (timeline : Option (Bor (List ℕ))) (text : List ℕ)
-    (a : Answer)
+pub record HasExplored (may : Outside) (most : ℕ) (chart : Option ChartOptions) (timeline page : Option (Bor (List ℕ)))
+    (text : List ℕ) (a : Answer)
     : Type 0
   where
     pub explored_text : ExploredText
     pub explored : IsExploredText text may most explored_text
-    pub tells : TellsFound may chart timeline explored_text a
+    pub tells : TellsFound may chart timeline page explored_text a

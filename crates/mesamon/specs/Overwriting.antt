@@ -21,6 +21,11 @@ is_twice read also_read written also_written =
     is_same written also_written || is_same written read || is_same written also_read || is_same also_written read
     || is_same also_written also_read
 
+-- the same of three files that are written
+abbrev pub draws_over : (read also_read chart timeline page : Option (Bor (List ℕ))) → Bool
+draws_over read also_read chart timeline page =
+    is_twice read also_read chart timeline || is_twice read also_read chart page || is_same timeline page
+
 -- the file of a picture
 abbrev pub out_of : Option ChartOptions → Option (Bor (List ℕ))
 out_of None = None
@@ -33,17 +38,18 @@ read_by (Seed steps seed strays kills) = None
 read_by (Schedule name) = Some name
 read_by (Log name) = Some name
 
-abbrev pub replay_overwrites : Bor (List ℕ) → ReplayedBy → Bool
-replay_overwrites file (BySchedule schedule log) = is_twice (Some file) (Some schedule) log None
-replay_overwrites file (ByLog log) = false
+abbrev pub replay_overwrites : Bor (List ℕ) → ReplayedBy → Option (Bor (List ℕ)) → Bool
+replay_overwrites file (BySchedule schedule log) page = is_twice (Some file) (Some schedule) log page
+replay_overwrites file (ByLog log) page = is_twice (Some file) (Some log) page None
 
 abbrev pub overwrites : Job → Bool
 overwrites (Check file hints) = false
 overwrites (ListImage image source hints) = false
 overwrites (Compile file out workers version hints) = is_twice (Some file) None (Some out) None
 overwrites (Emit file out hints) = is_twice (Some file) None (Some out) None
-overwrites (Run file options hints) = is_twice (Some file) None options.log None
+overwrites (Run file options page hints) = is_twice (Some file) None options.log page
 overwrites (Exec image options) = is_twice (Some image) None options.log None
-overwrites (Replay file by trace hints) = replay_overwrites file by
-overwrites (Explain file by chart timeline places hints) = is_twice (Some file) (read_by by) (out_of chart) timeline
-overwrites (Explore file states strays kills chart timeline hints) = is_twice (Some file) None (out_of chart) timeline
+overwrites (Replay file by trace page hints) = replay_overwrites file by page
+overwrites (Explain file by chart timeline page places hints) = draws_over (Some file) (read_by by) (out_of chart) timeline page
+overwrites (Explore file states strays kills chart timeline page hints) =
+    draws_over (Some file) None (out_of chart) timeline page

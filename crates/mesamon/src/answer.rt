@@ -2,7 +2,7 @@ ghost use Rattle.std.specs.Prelude.{◌≡◌, ◌++◌, ◌⊎◌, None, [], If
 ghost use Rattle.account_text.specs.Accounts.{account, output_lines};
 ghost use Rattle.devices.specs.Writing.{HasAll};
 ghost use Rattle.log_text.specs.LogLines.{log_lines};
-ghost use Rattle.mesamon.specs.Answers.{HasMetFailure, TellsReport, log_put, put_of, status_of_verdict};
+ghost use Rattle.mesamon.specs.Answers.{HasMetFailure, TellsReport, log_put, name_of, put_of, status_of_verdict};
 ghost use Rattle.mesamon.specs.Failures.{HasNoMemory};
 
 use crate::failure::NoAnswer;
@@ -32,6 +32,8 @@ pub struct OutFiles<'a> {
     pub out: Option<OutFile<'a>>,
     /// That of the timeline.
     pub timeline: Option<OutFile<'a>>,
+    /// That of the page.
+    pub page: Option<OutFile<'a>>,
 }
 
 impl<'a> OutFiles<'a> {
@@ -39,10 +41,12 @@ impl<'a> OutFiles<'a> {
     pub fn only(out: Option<OutFile<'a>>) -> OutFiles<'a>
         ensures out { result.out ≡ out.entry }
         ensures timeline { result.timeline ≡ None }
+        ensures page { result.page ≡ None }
     {
         OutFiles {
             out,
             timeline: None,
+            page: None,
         }
     }
 }
@@ -77,14 +81,15 @@ impl<'a> Answer<'a> {
     }
 
     /// That of a run with this report, with its log on standard error or without, and in the file of this name, where one is
-    /// named.
+    /// named; and with this page, where there is one.
     pub fn of_report(
         alloc: Global,
         report: &Report,
         trace: bool,
         log: Option<&'a str>,
+        page: Option<OutFile<'a>>,
     ) -> Result<Answer<'a>, NoAnswer<'a>>
-        ensures told { IfOk result (TellsReport report.now trace log.entry) }
+        ensures told { IfOk result (TellsReport report.now trace log.entry (name_of page.entry)) }
         ensures failed { IfErr result HasNoMemory }
     {
         let output = output_of(alloc, report)?;
@@ -94,7 +99,11 @@ impl<'a> Answer<'a> {
             status: status_of(report.verdict),
             output,
             account,
-            files: OutFiles::only(out),
+            files: OutFiles {
+                out,
+                timeline: None,
+                page,
+            },
         })
     }
 

@@ -6,6 +6,7 @@ use crate::answer::{OutFile, OutFiles};
 use chart::{Picture, chart};
 use commandline::ChartOptions;
 use packed_log::PackedLog;
+use page::{PagedRun, page};
 use places::{Places, places_of};
 use program::Checked;
 use source_states::Action;
@@ -19,11 +20,15 @@ pub struct Drawings<'a> {
     pub chart: Option<ChartOptions<'a>>,
     /// That of its timeline.
     pub timeline: Option<&'a str>,
+    /// That of its page.
+    pub page: Option<&'a str>,
 }
 
 /// A run of a source text's program.
 #[derive(Clone, Copy)]
 pub struct ShownRun<'r, 'n> {
+    /// The name of the text's file.
+    pub file: &'r str,
     /// The bytes of the text.
     pub text: &'r [u8],
     /// Its program.
@@ -39,11 +44,16 @@ pub struct ShownRun<'r, 'n> {
 impl<'a> Drawings<'a> {
     /// Makes them for a run.
     pub fn drawn(&self, alloc: Global, run: &ShownRun<'_, '_>) -> Result<OutFiles<'a>, AllocError>
-        ensures { IfOk result (AreDrawn self.now.chart self.now.timeline) }
+        ensures { IfOk result (AreDrawn self.now.chart self.now.timeline self.now.page) }
     {
         let out = picture_file(alloc, run, self.chart)?;
         let timeline = timeline_file(alloc, run, self.timeline)?;
-        Ok(OutFiles { out, timeline })
+        let page = page_file(alloc, run, self.page)?;
+        Ok(OutFiles {
+            out,
+            timeline,
+            page,
+        })
     }
 }
 
@@ -78,6 +88,34 @@ fn timeline_file<'a>(
     };
     let bytes = timeline(alloc, run.checked, run.actions)?;
     Ok(Some(OutFile { name, bytes }))
+}
+
+/// The file of the page of a run, where one is wanted.
+pub fn page_file<'a>(
+    alloc: Global,
+    run: &ShownRun<'_, '_>,
+    wanted: Option<&'a str>,
+) -> Result<Option<OutFile<'a>>, AllocError>
+    ensures { IfOk result (λ file. name_of file ≡ wanted.entry) }
+{
+    let Some(name) = wanted else {
+        return Ok(None);
+    };
+    let bytes = page_of(alloc, run)?;
+    Ok(Some(OutFile { name, bytes }))
+}
+
+// The page of a run.
+fn page_of(alloc: Global, run: &ShownRun<'_, '_>) -> Result<Vec<u8>, AllocError> {
+    let run = PagedRun {
+        file: run.file,
+        text: run.text,
+        checked: run.checked,
+        actions: run.actions,
+        log: run.log,
+        title: run.title,
+    };
+    Ok(page(alloc, &run)?.into_bytes())
 }
 
 // The names of the pieces of a program, by their numbers.

@@ -36,7 +36,7 @@ pub fn answer_explain<'a>(
     told: &mut String,
 ) -> Result<Answer<'a>, NoAnswer<'a>>
     ensures done { IfOk result (HasExplained by.entry second.now places drawings.entry.chart
-        drawings.entry.timeline text.now.bytes.now) }
+        drawings.entry.timeline drawings.entry.page text.now.bytes.now) }
     ensures refused { IfErr result (IsRefusalBy (RefusesText text.now.bytes.now)) }
 {
     let run = explain_by(alloc, text, second, by, told)?;
@@ -54,7 +54,8 @@ fn run_answer<'a>(
     drawings: Drawings<'a>,
     places: bool,
 ) -> Result<Answer<'a>, NoAnswer<'a>>
-    ensures told { IfOk result (TellsRun places drawings.entry.chart drawings.entry.timeline run.now) }
+    ensures told { IfOk result (TellsRun places drawings.entry.chart drawings.entry.timeline
+        drawings.entry.page run.now) }
     ensures failed { IfErr result HasNoMemory }
 {
     let lines = run_lines(alloc, text, run, places)?;
@@ -70,10 +71,11 @@ fn drawn_run<'a>(
     run: &ExplainedRun<'_>,
     by: ExplainedBy<'a>,
 ) -> Result<OutFiles<'a>, AllocError>
-    ensures { IfOk result (AreDrawn drawings.entry.chart drawings.entry.timeline) }
+    ensures { IfOk result (AreDrawn drawings.entry.chart drawings.entry.timeline drawings.entry.page) }
 {
     let title = title_of(alloc, text.file, by, run.report.verdict)?;
     let shown = ShownRun {
+        file: text.file,
         text: text.bytes,
         checked: &run.checked,
         actions: run.actions.as_slice(),

@@ -92,7 +92,7 @@ pub fn answer_explore<'a, P: Progress>(
     progress: &mut P,
 ) -> Result<Answer<'a>, NoAnswer<'a>>
     ensures done { IfOk result (HasExplored outside most_states drawings.entry.chart drawings.entry.timeline
-        text.now.bytes.now) }
+        drawings.entry.page text.now.bytes.now) }
     ensures refused { IfErr result (IsRefusalBy (RefusesText text.now.bytes.now)) }
 {
     let explored = explore_source(alloc, text.bytes, most_states as usize, outside, progress)?;
@@ -110,7 +110,7 @@ fn found_answer<'a>(
     drawings: Drawings<'a>,
 ) -> Result<Answer<'a>, NoAnswer<'a>>
     ensures told { IfOk result (TellsFound outside drawings.entry.chart drawings.entry.timeline
-        explored.now) }
+        drawings.entry.page explored.now) }
     ensures failed { IfErr result HasNoMemory }
 {
     let lines = lines_of(alloc, explored, outside)?;
@@ -127,7 +127,7 @@ fn drawn_found<'a>(
     explored: &ExploredText<'_>,
 ) -> Result<OutFiles<'a>, AllocError>
     ensures { IfOk result (AreDrawnIf (is_found explored.now.exploration) drawings.entry.chart
-        drawings.entry.timeline) }
+        drawings.entry.timeline drawings.entry.page) }
 {
     let Some(actions) = shown(&explored.exploration) else {
         return Ok(OutFiles::only(None));
@@ -136,6 +136,7 @@ fn drawn_found<'a>(
     let title = title_of_found(alloc, text.file, is_stuck)?;
     let log = PackedLog::new(alloc);
     let run = ShownRun {
+        file: text.file,
         text: text.bytes,
         checked: &explored.checked,
         actions,

@@ -49,8 +49,7 @@ pub fn whole_bytes_of<'a, R: Files + AllocGlobal>(
     }
 }
 
-/// Writes the files of a command, where it has any, the first before the other; the failure names the one that isn't
-/// written.
+/// Writes the files of a command, where it has any, in their order; the failure names the one that isn't written.
 pub fn put_files<'a, R: Files + AllocGlobal>(
     rt: &R,
     files: &OutFiles<'a>,
@@ -58,7 +57,8 @@ pub fn put_files<'a, R: Files + AllocGlobal>(
     ensures { OnOk result (ArePut (IsPut R.File.contents) files.now) }
 {
     put_wanted(rt, &files.out)?;
-    put_wanted(rt, &files.timeline)
+    put_wanted(rt, &files.timeline)?;
+    put_wanted(rt, &files.page)
 }
 
 // Writes a file, where there is one, in place of what it held, as `put_file` does; the failure names it.

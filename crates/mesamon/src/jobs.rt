@@ -207,17 +207,27 @@ fn answer_of<'a, R: AllocGlobal + Threads + Wait + Sync, P: Progress>(
         Job::List { source, hints, .. } => {
             answer_list(alloc, text.bytes, source, second, hints, told)
         }
-        Job::Run { options, .. } => answer_run(rt, text, options, told),
+        Job::Run { options, page, .. } => answer_run(rt, text, options, page, told),
         Job::Exec { options, .. } => answer_exec(rt, text.bytes, options),
-        Job::Replay { by, trace, .. } => answer_replay(alloc, text, second, by, trace, told),
+        Job::Replay {
+            by,
+            trace,
+            page,
+            ..
+        } => answer_replay(alloc, text, second, by, trace, page, told),
         Job::Explain {
             by,
             chart,
             timeline,
+            page,
             places,
             ..
         } => {
-            let drawings = Drawings { chart, timeline };
+            let drawings = Drawings {
+                chart,
+                timeline,
+                page,
+            };
             answer_explain(alloc, text, second, by, drawings, places, told)
         }
         Job::Emit { out, .. } => answer_emit(alloc, text, out),
@@ -227,9 +237,14 @@ fn answer_of<'a, R: AllocGlobal + Threads + Wait + Sync, P: Progress>(
             kills,
             chart,
             timeline,
+            page,
             ..
         } => {
-            let drawings = Drawings { chart, timeline };
+            let drawings = Drawings {
+                chart,
+                timeline,
+                page,
+            };
             let outside = Outside { strays, kills };
             answer_explore(alloc, text, states, outside, drawings, told, progress)
         }

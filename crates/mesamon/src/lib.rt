@@ -15,6 +15,7 @@ mod jobs;
 mod lines;
 mod listing;
 mod overwriting;
+mod paging;
 mod progress;
 mod replaying;
 mod run_ends;

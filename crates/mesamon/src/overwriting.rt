@@ -1,5 +1,5 @@
 ghost use Rattle.std.specs.Prelude.{◌≡◌};
-ghost use Rattle.mesamon.specs.Overwriting.{is_same, is_twice, out_of, overwrites, read_by, replay_overwrites};
+ghost use Rattle.mesamon.specs.Overwriting.{draws_over, is_same, is_twice, out_of, overwrites, read_by, replay_overwrites};
 
 use commandline::{ChartOptions, ExplainedBy, Job, ReplayedBy};
 
@@ -27,6 +27,22 @@ fn is_twice(
         || is_same(written, also_read)
         || is_same(also_written, read)
         || is_same(also_written, also_read)
+}
+
+// The same of three files that are written.
+fn draws_over(
+    read: Option<&str>,
+    also_read: Option<&str>,
+    chart: Option<&str>,
+    timeline: Option<&str>,
+    page: Option<&str>,
+) -> bool
+    ensures { result
+        ≡ draws_over read.entry also_read.entry chart.entry timeline.entry page.entry }
+{
+    is_twice(read, also_read, chart, timeline)
+        || is_twice(read, also_read, chart, page)
+        || is_same(timeline, page)
 }
 
 // The file of a picture.
@@ -57,31 +73,38 @@ pub fn overwrites(job: &Job<'_>) -> bool
         Job::Check { .. } | Job::List { .. } => false,
         Job::Compile { file, out, .. } => is_twice(Some(file), None, Some(out), None),
         Job::Emit { file, out, .. } => is_twice(Some(file), None, Some(out), None),
-        Job::Run { file, options, .. } => is_twice(Some(file), None, options.log, None),
+        Job::Run {
+            file,
+            options,
+            page,
+            ..
+        } => is_twice(Some(file), None, options.log, page),
         Job::Exec { image, options } => is_twice(Some(image), None, options.log, None),
-        Job::Replay { file, by, .. } => replay_overwrites(file, by),
+        Job::Replay { file, by, page, .. } => replay_overwrites(file, by, page),
         Job::Explain {
             file,
             by,
             chart,
             timeline,
+            page,
             ..
-        } => is_twice(Some(file), read_by(by), out_of(chart), timeline),
+        } => draws_over(Some(file), read_by(by), out_of(chart), timeline, page),
         Job::Explore {
             file,
             chart,
             timeline,
+            page,
             ..
-        } => is_twice(Some(file), None, out_of(chart), timeline),
+        } => draws_over(Some(file), None, out_of(chart), timeline, page),
     }
 }
 
 // The same of a replay.
-fn replay_overwrites(file: &str, by: ReplayedBy<'_>) -> bool
-    ensures { result ≡ replay_overwrites file.entry by.entry }
+fn replay_overwrites(file: &str, by: ReplayedBy<'_>, page: Option<&str>) -> bool
+    ensures { result ≡ replay_overwrites file.entry by.entry page.entry }
 {
     match by {
-        ReplayedBy::Schedule { schedule, log } => is_twice(Some(file), Some(schedule), log, None),
-        ReplayedBy::Log(_) => false,
+        ReplayedBy::Schedule { schedule, log } => is_twice(Some(file), Some(schedule), log, page),
+        ReplayedBy::Log(log) => is_twice(Some(file), Some(log), page, None),
     }
 }

@@ -13,6 +13,7 @@ use crate::answer::Answer;
 use crate::failure::{Failure, NoAnswer};
 use crate::files::image_of;
 use crate::hinting::SourceText;
+use crate::paging::{Kept, report_answer};
 use crate::replaying::replay;
 use crate::schedule::schedule_of;
 use crate::source_log::replay_log_text;
@@ -28,20 +29,26 @@ use std::thread::Threads;
 use words::OpenGate;
 use workers::Calls;
 
-/// Runs a source text.
+/// Runs a source text, and shows the run on a page where that is named.
 pub fn answer_run<'a, R: AllocGlobal + Threads + Wait + Sync>(
     rt: &R,
     text: &SourceText<'_>,
     options: RunOptions<'a>,
+    page: Option<&'a str>,
     told: &mut String,
 ) -> Result<Answer<'a>, NoAnswer<'a>>
     ensures done { IfOk result (HasRun (IsRunAs options.entry) options.entry.trace options.entry.log
-        text.now.bytes.now) }
+        page.entry text.now.bytes.now) }
     ensures refused { IfErr result (IsRefusalBy (RefusesText text.now.bytes.now)) }
 {
     let report = run_by(rt, text.bytes, options.steps, options.order)?;
     tell_run(rt.alloc(), told, text, &report, way_of(options));
-    Answer::of_report(rt.alloc(), &report, options.trace, options.log)
+    let kept = Kept {
+        trace: options.trace,
+        log: options.log,
+        page,
+    };
+    report_answer(rt.alloc(), text, &report, way_of(options), kept)
 }
 
 // How a run by these options is made. One with kills is looked at by its log, as one on real threads.
@@ -106,7 +113,7 @@ fn exec_image<'a, R: AllocGlobal + Threads + Wait + Sync>(
     ensures refused { IfErr result IsNoRefusal }
 {
     match run_image(rt, image, options.steps, options.order) {
-        Ok(report) => Answer::of_report(rt.alloc(), &report, options.trace, options.log),
+        Ok(report) => Answer::of_report(rt.alloc(), &report, options.trace, options.log, None),
         Err(fault) => Err(NoAnswer::Failed(Failure::from(fault))),
     }
 }
@@ -140,22 +147,26 @@ fn run_image<R: AllocGlobal + Threads + Wait + Sync>(
     }
 }
 
-/// Runs a source text by a schedule or a log, of which these are the bytes.
+/// Runs a source text by a schedule or a log, of which these are the bytes, and shows the run on a page where that is
+/// named.
 pub fn answer_replay<'a>(
     alloc: Global,
     text: &SourceText<'_>,
     second: &[u8],
     by: ReplayedBy<'a>,
     trace: bool,
+    page: Option<&'a str>,
     told: &mut String,
 ) -> Result<Answer<'a>, NoAnswer<'a>>
     ensures done { IfOk result (HasRun (IsReplayedAs by.entry second.now) trace (log_beside by.entry)
-        text.now.bytes.now) }
+        page.entry text.now.bytes.now) }
     ensures refused { IfErr result (IsRefusalBy (RefusesText text.now.bytes.now)) }
 {
     let report = replay_by(alloc, text, second, by, told)?;
     tell_run(alloc, told, text, &report, way_by(by));
-    Answer::of_report(alloc, &report, trace, log_beside(by))
+    let log = log_beside(by);
+    let kept = Kept { trace, log, page };
+    report_answer(alloc, text, &report, way_by(by), kept)
 }
 
 // How a replay is made.

@@ -1,6 +1,7 @@
 // What stands above the picture of a run: the file, which run it is, and how it ended.
 
 use commandline::ExplainedBy;
+use run_hints::Way;
 use runner::Verdict;
 use std::alloc::{AllocError, Global};
 
@@ -59,6 +60,36 @@ pub fn title_of(
     let mut title = String::new(alloc);
     write!(title, "{file}: ")?;
     append_way(&mut title, by)?;
+    title.push_str(", ")?;
+    title.push_str(end_of(verdict))?;
+    Ok(title)
+}
+
+// Appends which run was made.
+fn append_run_way(out: &mut String, way: Way<'_>) -> Result<(), AllocError> {
+    match way {
+        Way::Workers(_) => out.push_str("a run"),
+        Way::InOrder => out.push_str("in order"),
+        Way::Seed(seed, strays) => append_seed(out, seed, strays, 0),
+        Way::Schedule(name) => write!(out, "schedule {name}"),
+        Way::Log(name) => write!(out, "log {name}"),
+    }
+}
+
+/// The title of a run that was made.
+///
+/// # Errors
+///
+/// Where memory runs out, and for nothing else.
+pub fn title_of_run(
+    alloc: Global,
+    file: &str,
+    way: Way<'_>,
+    verdict: Verdict,
+) -> Result<String, AllocError> {
+    let mut title = String::new(alloc);
+    write!(title, "{file}: ")?;
+    append_run_way(&mut title, way)?;
     title.push_str(", ")?;
     title.push_str(end_of(verdict))?;
     Ok(title)

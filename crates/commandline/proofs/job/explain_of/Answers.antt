@@ -23,12 +23,14 @@ returns-clause-job c =
     let found = found_of c.args.matches.now in
     let file = first_value-rows found (codes "FILE") in
     let timeline = first_value-rows found (codes "timeline") in
+    let page = first_value-rows found (codes "page") in
     let places = one_text-rows found (codes "places") in
     let hints = one_text-rows found (codes "hints") in (
       search rules,
       c.in_ok-by.ensures.by,
       c.in_ok-chart.ensures.chart,
       sym timeline ∙ sym c.get_str-timeline.ensures,
+      sym page ∙ sym c.get_str-page.ensures,
       (search rules, search rules),
       (search rules, search rules),
     )

@@ -28,6 +28,7 @@ returns-clause-job c =
     let file = first_value-rows found (codes "FILE") in
     let strays = one_text-rows found (codes "strays") in
     let timeline = first_value-rows found (codes "timeline") in
+    let page = first_value-rows found (codes "page") in
     let hints = one_text-rows found (codes "hints") in (
       search rules,
       c.in_ok-states.ensures.number,
@@ -35,5 +36,6 @@ returns-clause-job c =
       c.in_ok-kills.ensures.number,
       c.in_ok-chart.ensures.chart,
       sym timeline ∙ sym c.get_str-timeline.ensures,
+      sym page ∙ sym c.get_str-page.ensures,
       (search rules, search rules),
     )

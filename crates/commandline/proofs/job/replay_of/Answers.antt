@@ -1,4 +1,4 @@
-use Rattle.std.proofs.Common.{rules, codes, inl, inr, refl}
+use Rattle.std.proofs.Common.{rules, codes, inl, inr, refl, sym, ◌∙◌}
 use Rattle.clap.proofs.WalkLemmas.{first_value-rows, one_text-rows}
 use Rattle.clap.specs.Words.{found_of}
 use Rattle.clap.specs.Walk.{rows_of}
@@ -19,5 +19,11 @@ returns-clause-job c =
     let found = found_of c.args.matches.now in
     let file = first_value-rows found (codes "FILE") in
     let trace = one_text-rows found (codes "trace") in
-    let hints = one_text-rows found (codes "hints") in
-    (search rules, c.in_ok-by.ensures.by, (search rules, search rules), (search rules, search rules))
+    let page = first_value-rows found (codes "page") in
+    let hints = one_text-rows found (codes "hints") in (
+      search rules,
+      c.in_ok-by.ensures.by,
+      (search rules, search rules),
+      sym page ∙ sym c.get_str-page.ensures,
+      (search rules, search rules),
+    )

@@ -1,4 +1,4 @@
-use Rattle.std.proofs.Common.{rules, codes, inl, inr}
+use Rattle.std.proofs.Common.{rules, codes, inl, inr, sym, ◌∙◌}
 use Rattle.clap.proofs.WalkLemmas.{first_value-rows, one_text-rows}
 use Rattle.clap.specs.Words.{found_of}
 use Rattle.clap.specs.Walk.{rows_of}
@@ -18,5 +18,10 @@ pub returns-clause-job : goal.returns-clause-job
 returns-clause-job c =
     let found = found_of c.args.matches.now in
     let name = first_value-rows found (codes "FILE") in
-    let hints = one_text-rows found (codes "hints") in
-    (search rules, c.in_ok-options.ensures.options, (search rules, search rules))
+    let page = first_value-rows found (codes "page") in
+    let hints = one_text-rows found (codes "hints") in (
+      search rules,
+      c.in_ok-options.ensures.options,
+      sym page ∙ sym c.get_str-page.ensures,
+      (search rules, search rules),
+    )

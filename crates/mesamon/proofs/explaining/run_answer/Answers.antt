@@ -9,6 +9,6 @@ returns-clause-told c = record {
   are_told = subst (λ (xs : List ℕ). AreTold c.args.places (explained_lines c.args.run.now) xs) (sym c.quiet.ensures.output)
       c.in_ok-lines.ensures;
   account = c.quiet.ensures.account;
-  files = subst (AreDrawn c.args.drawings.chart c.args.drawings.timeline) (sym c.quiet.ensures.files)
+  files = subst (AreDrawn c.args.drawings.chart c.args.drawings.timeline c.args.drawings.page) (sym c.quiet.ensures.files)
       c.in_ok-files.ensures;
 }

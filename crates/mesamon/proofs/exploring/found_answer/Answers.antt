@@ -8,6 +8,7 @@ returns-clause-told c = record {
   output = c.quiet.ensures.output ∙ c.in_ok-lines.ensures;
   account = c.quiet.ensures.account;
   files = subst
-      (AreDrawnIf (is_found c.args.explored.now.exploration) c.args.drawings.chart c.args.drawings.timeline)
+      (AreDrawnIf (is_found c.args.explored.now.exploration) c.args.drawings.chart c.args.drawings.timeline
+      c.args.drawings.page)
       (sym c.quiet.ensures.files) c.in_ok-files.ensures;
 }

@@ -10,13 +10,13 @@ returns-in_err-report-clause-refused c =
 
 pub returns-clause-done : goal.returns-clause-done
 returns-clause-done c =
-    ok_so c.of_report.result _ _
+    ok_so c.report_answer.result _ _
     (λ a tells. record {
       report = c.in_ok-report.report;
       run = c.in_ok-report.ensures.report;
-      tells = subst (λ (log : Option (Bor (List ℕ))). TellsReport c.in_ok-report.report c.args.trace log a)
-          c.log_beside.ensures tells;
-    }) c.of_report.ensures.told
+      tells = subst (λ (log : Option (Bor (List ℕ))). TellsReport c.in_ok-report.report c.args.trace log c.args.page a)
+          c.log_beside-log.ensures tells;
+    }) c.report_answer.ensures.told
 
 pub returns-clause-refused : goal.returns-clause-refused
-returns-clause-refused c = no_memory _ _ c.of_report.ensures.failed
+returns-clause-refused c = no_memory _ _ c.report_answer.ensures.failed

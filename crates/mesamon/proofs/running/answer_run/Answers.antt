@@ -10,9 +10,9 @@ returns-in_err-report-clause-refused g c =
 
 pub returns-clause-done : goal.returns-clause-done
 returns-clause-done g c =
-    ok_so c.of_report.result _ _
+    ok_so c.report_answer.result _ _
     (λ a tells. record { report = c.in_ok-report.report; run = c.in_ok-report.ensures.report; tells = tells })
-    c.of_report.ensures.told
+    c.report_answer.ensures.told
 
 pub returns-clause-refused : goal.returns-clause-refused
-returns-clause-refused g c = no_memory _ _ c.of_report.ensures.failed
+returns-clause-refused g c = no_memory _ _ c.report_answer.ensures.failed

@@ -1,5 +1,5 @@
-use Rattle.std.proofs.Common.{◌∙◌, ap}
-use Rattle.mesamon.specs.Answers.{log_put, name_of, put_of}
+use Rattle.std.proofs.Common.{◌∙◌, ap, refl}
+use Rattle.mesamon.specs.Answers.{log_put}
 use Rattle.mesamon.proofs.answer.Answer.of_report.Goals as goal
 
 pub returns-clause-told : goal.returns-clause-told
@@ -7,8 +7,5 @@ returns-clause-told c = record {
   ended = c.status_of.ensures;
   output = c.in_ok-output.ensures;
   account = c.in_ok-account.ensures;
-  files = (
-    ap put_of c.only.ensures.out ∙ c.in_ok-out.ensures ∙ ap (log_put c.args.log) c.iter.ensures,
-    ap name_of c.only.ensures.timeline,
-  );
+  files = (c.in_ok-out.ensures ∙ ap (log_put c.args.log) c.iter.ensures, refl, refl);
 }
