@@ -14,6 +14,7 @@ _mesamon_words() {
             echo FILE --steps=N --seed=N --strays=N --kills=N --schedule=SCHEDULE --log=LOG
             echo --chart=OUT --from=N --to=N --timeline=OUT --page=OUT --places --hints ;;
         emit) echo FILE OUT --hints ;;
+        assemble) echo FILE OUT --hints ;;
         explore)
             echo FILE --states=N --strays --kills=N --chart=OUT --from=N --to=N --timeline=OUT --page=OUT --hints ;;
         help) echo COMMAND ;;
@@ -30,7 +31,7 @@ _mesamon_offer() {
         LOG) ending=.log ;;
         OUT) ;;
         COMMAND)
-            mapfile -t COMPREPLY < <(compgen -W "check compile list run exec replay explain emit explore help" -- "$2")
+            mapfile -t COMPREPLY < <(compgen -W "check compile list run exec replay explain emit explore assemble help" -- "$2")
             return ;;
         *) return ;;
     esac

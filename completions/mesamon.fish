@@ -3,7 +3,7 @@
 complete -c mesamon -f
 complete -c mesamon -s h -l help -d 'Print help'
 
-set -l commands check compile list run exec replay explain emit explore help
+set -l commands check compile list run exec replay explain emit explore assemble help
 complete -c mesamon -n __fish_use_subcommand -a check -d 'Checks a source text'
 complete -c mesamon -n __fish_use_subcommand -a compile -d 'Writes the image of a source text'
 complete -c mesamon -n __fish_use_subcommand -a list -d 'Prints the instructions of an image'
@@ -13,14 +13,16 @@ complete -c mesamon -n __fish_use_subcommand -a replay -d 'Runs a source text by
 complete -c mesamon -n __fish_use_subcommand -a explain -d 'Runs a source text and prints what its processes do'
 complete -c mesamon -n __fish_use_subcommand -a emit -d 'Writes a source text as a program in C'
 complete -c mesamon -n __fish_use_subcommand -a explore -d 'Searches all runs of a source text for one that gets stuck or aborts'
+complete -c mesamon -n __fish_use_subcommand -a assemble -d 'Writes the image of an assembly text'
 complete -c mesamon -n __fish_use_subcommand -a help -d 'Print this message or the help of the given subcommand(s)'
 complete -c mesamon -n '__fish_seen_subcommand_from help' -a "$commands"
 
 # Files: those of the usual ending stand first.
 complete -c mesamon -n '__fish_seen_subcommand_from check compile run replay explain emit explore' -k -a '(__fish_complete_suffix .mesa)'
 complete -c mesamon -n '__fish_seen_subcommand_from list exec' -k -a '(__fish_complete_suffix .image)'
+complete -c mesamon -n '__fish_seen_subcommand_from assemble' -k -a '(__fish_complete_suffix .asm)'
 
-complete -c mesamon -n '__fish_seen_subcommand_from check compile list run replay explain emit explore' -l hints -d 'Shows hints behind a refusal, a failure or the end of a run'
+complete -c mesamon -n '__fish_seen_subcommand_from check compile list run replay explain emit explore assemble' -l hints -d 'Shows hints behind a refusal, a failure or the end of a run'
 complete -c mesamon -n '__fish_seen_subcommand_from compile' -l workers -x -d 'How many workers make the code'
 complete -c mesamon -n '__fish_seen_subcommand_from compile' -l image -x -a '1 2' -d 'The version of the image: 1 is for 64 processes, 2 for 1000'
 complete -c mesamon -n '__fish_seen_subcommand_from list' -l source -x -k -a '(__fish_complete_suffix .mesa)' -d 'The source text of the image, whose lines stand between the instructions'

@@ -2,7 +2,7 @@
 use Rattle.std.proofs.Common.{◌≡◌, ◌⊎◌, inl, inr, ℕ, List, Option, None, codes}
 use Rattle.clap.specs.Words.{Row, first_of}
 use Rattle.commandline.specs.CommandLine.{IsCheckOf, IsCompileOf, IsEmitOf, IsExplainOf, IsListOf, AsksForExec}
-use Rattle.commandline.specs.CommandLine.{IsExploreOf, ReadsChart, ReadsKills, ReadsStates}
+use Rattle.commandline.specs.CommandLine.{IsAssembleOf, IsExploreOf, ReadsChart, ReadsKills, ReadsStates}
 use Rattle.commandline.specs.declared.options.ChartOptions.{ChartOptions}
 use Rattle.commandline.specs.CommandLine.{AsksForReplay, AsksForRun, IsExplainedBy, IsReplayedBy, ReadsOptions}
 use Rattle.commandline.specs.CommandLine.{ReadsVersion, ReadsWorkers}
@@ -12,7 +12,7 @@ use Rattle.commandline.specs.declared.options.ReplayedBy.{ReplayedBy}
 use Rattle.commandline.specs.declared.options.RunOptions.{RunOptions}
 use Rattle.commandline.specs.declared.job.Job.{Job}
 use Rattle.commandline.specs.declared.job.Job.TheVariants.{Check, Compile, List as List', Run, Exec, Replay, Explain}
-use Rattle.commandline.specs.declared.job.Job.TheVariants.{Emit, Explore}
+use Rattle.commandline.specs.declared.job.Job.TheVariants.{Emit, Explore, Assemble}
 use Rattle.commandline.proofs.Numbers.{no_value}
 
 pub no_check : (rows : List Row) (job : Job) → first_of (codes "FILE") rows ≡ None → IsCheckOf rows job → ⊥
@@ -76,3 +76,9 @@ no_explore rows (Explore file states strays kills chart timeline page hints) (in
 no_explore rows (Explore file states strays kills chart timeline page hints) (inr (inr (inl none))) h = none kills h.3
 no_explore rows (Explore file states strays kills chart timeline page hints) (inr (inr (inr none))) h = none chart h.4
 no_explore rows other missing h = h
+
+pub no_assemble : (rows : List Row) (job : Job)
+    → (first_of (codes "FILE") rows ≡ None) ⊎ (first_of (codes "OUT") rows ≡ None) → IsAssembleOf rows job → ⊥
+no_assemble rows (Assemble file out hints) (inl none) h = no_value _ _ none h.0
+no_assemble rows (Assemble file out hints) (inr none) h = no_value _ _ none h.1
+no_assemble rows other missing h = h

@@ -35,7 +35,7 @@ use Rattle.commandline.specs.declared.options.ChartOptions.{ChartOptions}
 use Rattle.commandline.specs.declared.options.RunOptions.{RunOptions}
 use Rattle.commandline.specs.declared.job.Job.{Job}
 use Rattle.commandline.specs.declared.job.Job.TheVariants.{Check, Compile, List as List', Run, Exec, Replay}
-use Rattle.commandline.specs.declared.job.Job.TheVariants.{Explain, Emit, Explore}
+use Rattle.commandline.specs.declared.job.Job.TheVariants.{Explain, Emit, Explore, Assemble}
 
 -- an argument that has to stand, told by its position
 abbrev pub positional : Text → Rule
@@ -186,6 +186,12 @@ explore_command =
     (new_app (codes "explore")) (positional (codes "FILE"))) states_option) (flag (codes "strays"))) kills_option))
     (valued (codes "timeline"))) (valued (codes "page"))) (flag (codes "hints"))
 
+-- `assemble FILE OUT [--hints]`
+abbrev pub assemble_command : App
+assemble_command =
+    with_rule (with_rule (with_rule (new_app (codes "assemble")) (positional (codes "FILE"))) (positional (codes "OUT")))
+    (flag (codes "hints"))
+
 -- an option that takes these numbers
 abbrev pub with_numbers : Rule → Numbers → Rule
 with_numbers rule numbers =
@@ -299,13 +305,13 @@ top_command =
     let named = new_app (codes "mesamon") in
     record named { top = record named.top { no_binary_name = true; subcommand_required = true } }
 
--- `mesamon` with its nine commands
+-- `mesamon` with its ten commands
 abbrev pub command_line : App
 command_line =
     with_subcommand (with_subcommand (with_subcommand (with_subcommand (with_subcommand (with_subcommand
-    (with_subcommand (with_subcommand (with_subcommand top_command check_command.top) compile_command.top)
-    list_command.top) run_command.top) exec_command.top) replay_command.top) explain_command.top) emit_command.top)
-    explore_command.top
+    (with_subcommand (with_subcommand (with_subcommand (with_subcommand top_command check_command.top)
+    compile_command.top) list_command.top) run_command.top) exec_command.top) replay_command.top) explain_command.top)
+    emit_command.top) explore_command.top) assemble_command.top
 
 -- who moves the threads of a run: a worker for each, or one worker in a fixed order or in that of a seed, beside which
 -- alone stray wakes and kills may be asked for
@@ -413,6 +419,13 @@ IsExploreOf rows (Explore file states strays kills chart timeline page hints) =
     × (first_of (codes "page") rows ≡ option_map (λ out. out.now) page) × ReadsFlag (codes "hints") rows hints
 IsExploreOf rows other = ⊥
 
+-- a job of assembling
+abbrev pub IsAssembleOf : List Row → Job → Type 0
+IsAssembleOf rows (Assemble file out hints) =
+    (first_of (codes "FILE") rows ≡ Some file.now) × (first_of (codes "OUT") rows ≡ Some out.now)
+    × ReadsFlag (codes "hints") rows hints
+IsAssembleOf rows other = ⊥
+
 -- the job that the command of a name asks for, with these values of its arguments
 abbrev pub IsAskedBy : Option (Text × List Row) → Job → Type 0
 IsAskedBy None job = ⊥
@@ -421,7 +434,8 @@ IsAskedBy (Some (name, rows)) job =
     ⊎ (((name ≡ codes "list") × IsListOf rows job) ⊎ (((name ≡ codes "run") × AsksForRun rows job)
     ⊎ (((name ≡ codes "exec") × AsksForExec rows job) ⊎ (((name ≡ codes "replay") × AsksForReplay rows job)
     ⊎ (((name ≡ codes "explain") × IsExplainOf rows job) ⊎ (((name ≡ codes "emit") × IsEmitOf rows job)
-    ⊎ ((name ≡ codes "explore") × IsExploreOf rows job))))))))
+    ⊎ (((name ≡ codes "explore") × IsExploreOf rows job)
+    ⊎ ((name ≡ codes "assemble") × IsAssembleOf rows job)))))))))
 
 -- the parser finds nothing wrong with the words: they are those of one of the commands, each option at most once, each
 -- number within its bounds, and nothing is missing

@@ -3,7 +3,7 @@ ghost use Rattle.clap.specs.Words.{app_of, found_of, kind_of, subcommand_rows_of
 ghost use Rattle.clap.specs.Walk.{rows_of};
 ghost use Rattle.clap.specs.declared.error.kind.ErrorKind.TheVariants.{OutOfMemory};
 ghost use Rattle.commandline.specs.CommandLine.{AreInOrder, AsksFor, IsAskedBy, IsCheckOf, IsCompileOf, IsEmitOf, IsExplainOf, IsListOf};
-ghost use Rattle.commandline.specs.CommandLine.{IsExploreOf};
+ghost use Rattle.commandline.specs.CommandLine.{IsAssembleOf, IsExploreOf};
 ghost use Rattle.commandline.specs.CommandLine.{AsksForExec, AsksForReplay, AsksForRun, command_line};
 ghost use Rattle.commandline.specs.declared.job.Job.{Job as JobOf};
 
@@ -127,6 +127,15 @@ pub enum Job<'a> {
         /// Whether hints stand behind a refusal of the source text.
         hints: bool,
     },
+    /// Assemble the text of a file, and write the image to another.
+    Assemble {
+        /// The name of the assembly text's file.
+        file: &'a str,
+        /// The name of the image's file.
+        out: &'a str,
+        /// Whether hints stand behind a refusal of the text.
+        hints: bool,
+    },
 }
 
 /// The job that the words of a command line ask for, those after the program's name.
@@ -189,6 +198,7 @@ fn job_of<'a>(matches: &ArgMatches<'a>) -> Option<Job<'a>>
         "explain" => explain_of(inner),
         "emit" => emit_of(inner),
         "explore" => explore_of(inner),
+        "assemble" => assemble_of(inner),
         _ => None,
     }
 }
@@ -340,4 +350,15 @@ fn explore_of<'a>(matches: &ArgMatches<'a>) -> Option<Job<'a>>
         page,
         hints,
     })
+}
+
+fn assemble_of<'a>(matches: &ArgMatches<'a>) -> Option<Job<'a>>
+    ensures job { IfSome result (IsAssembleOf (rows_of (found_of matches.now))) }
+    ensures none { result ≡ None → (job : JobOf) → IsAssembleOf (rows_of (found_of matches.now)) job
+        → ⊥ }
+{
+    let file = matches.get_str("FILE")?;
+    let out = matches.get_str("OUT")?;
+    let hints = matches.get_flag("hints");
+    Some(Job::Assemble { file, out, hints })
 }

@@ -302,7 +302,21 @@ pub(crate) const EXPLORE: Subcommand = Subcommand {
     ],
 };
 
+const ASSEMBLE: Subcommand = Subcommand {
+    name: "assemble",
+    about: "Writes the image of an assembly text",
+    arguments: &[
+        FILE,
+        Argument {
+            name: "OUT",
+            kind: Kind::Positional,
+            help: "Where the image is written",
+        },
+        HINTS,
+    ],
+};
+
 /// The commands below `mesamon`.
 pub(crate) const SUBCOMMANDS: &[Subcommand] = &[
-    CHECK, COMPILE, LIST, RUN, EXEC, REPLAY, EXPLAIN, EMIT, EXPLORE,
+    CHECK, COMPILE, LIST, RUN, EXEC, REPLAY, EXPLAIN, EMIT, EXPLORE, ASSEMBLE,
 ];

@@ -1,11 +1,15 @@
 -- How the program ends, by what it told.
 use Rattle.std.proofs.Common.{◌≡◌, ◌++◌, ◌⊎◌, ℕ, Bool, true, false, List, [], Result, Ok, Err, IfOk, IfErr, inl, inr, refl, codes}
-use Rattle.std.proofs.Common.{◌∙◌, is_some, sym, subst}
+use Rattle.std.proofs.Common.{◌∙◌, Bor, is_some, sym, subst}
 use Rattle.commandline.specs.CommandLine.{AsksFor}
 use Rattle.commandline.specs.declared.job.Job.{Job}
 use Rattle.commandline.specs.declared.job.Job.TheVariants.{Check, Compile, List as ListImage, Run, Exec, Replay, Explain, Emit, Explore}
+use Rattle.commandline.specs.declared.job.Job.TheVariants.{Assemble}
 use Rattle.commandline.proofs.Workers.{compiling_workers}
 use Rattle.log_text.specs.LogLines.{line_feed}
+use Rattle.assembler.specs.Listings.{RefusesText as RefusesAssembly}
+use Rattle.assembler.specs.Refusals.{refusal_text as assembly_refusal_text}
+use Rattle.assembler.specs.declared.refusal.AssemblyRefusal.{AssemblyRefusal}
 use Rattle.scanner.specs.Refusals.{refusal_text}
 use Rattle.scanner.specs.declared.refusal.Refusal.{Refusal}
 use Rattle.runner.specs.declared.report.Verdict.{Verdict}
@@ -13,9 +17,9 @@ use Rattle.runner.specs.declared.report.Verdict.TheVariants as verdict
 use Rattle.mesamon.specs.Answers.{IsTold, IsToldOrMemory, status_of_verdict}
 use Rattle.mesamon.specs.Asked.{HasWorkers, asks_for_hints}
 use Rattle.mesamon.specs.Commands.{Devices, EndsSo, FinishesSo, HasAnswered, HasDone, HasDoneSome, IsNoCommand, IsToldFailed}
-use Rattle.mesamon.specs.Commands.{IsToldLeft, RefusesJob, RefusesSome}
+use Rattle.mesamon.specs.Commands.{IsToldLeft, RefusesJob, RefusesSome, UnassemblesJob, UnassemblesSome}
 use Rattle.mesamon.specs.Exploring.{found_status}
-use Rattle.mesamon.specs.Failures.{IsRefusalBy}
+use Rattle.mesamon.specs.Failures.{IsLeftBy, IsRefusalBy}
 use Rattle.mesamon.specs.Overwriting.{overwrites}
 use Rattle.mesamon.specs.declared.answer.Answer.{Answer}
 use Rattle.mesamon.specs.declared.failure.NoAnswer.{NoAnswer}
@@ -28,11 +32,46 @@ pub done_as : {E : Type 0} (r : Result Answer E) (job same : Job) (bytes second 
     → IfOk r (HasDone same bytes second) → IfOk r (HasDone job bytes second)
 done_as r job same bytes second is h = subst (λ (j : Job). IfOk r (HasDone j bytes second)) (sym is) h
 
+is_left : (n : NoAnswer) (job : Job) (bytes second : List ℕ) → IsRefusalBy (RefusesJob job bytes second) n
+    → IsLeftBy (RefusesJob job bytes second) (UnassemblesJob job bytes) n
+is_left (left.Refused e) job bytes second h = h
+is_left (left.Unassembled e) job bytes second h = absurd h
+is_left (left.Failed f) job bytes second h = tt
+
+all_left : {T : Type 0} (r : Result T NoAnswer) (job : Job) (bytes second : List ℕ)
+    → IfErr r (IsRefusalBy (RefusesJob job bytes second))
+    → IfErr r (IsLeftBy (RefusesJob job bytes second) (UnassemblesJob job bytes))
+all_left (Ok x) job bytes second h = tt
+all_left (Err n) job bytes second h = is_left n job bytes second h
+
 -- and why it has no answer
 pub refused_as : {T : Type 0} (r : Result T NoAnswer) (job same : Job) (bytes second : List ℕ) → job ≡ same
-    → IfErr r (IsRefusalBy (RefusesJob same bytes second)) → IfErr r (IsRefusalBy (RefusesJob job bytes second))
+    → IfErr r (IsRefusalBy (RefusesJob same bytes second))
+    → IfErr r (IsLeftBy (RefusesJob job bytes second) (UnassemblesJob job bytes))
 refused_as r job same bytes second is h =
-    subst (λ (j : Job). IfErr r (IsRefusalBy (RefusesJob j bytes second))) (sym is) h
+    subst (λ (j : Job). IfErr r (IsLeftBy (RefusesJob j bytes second) (UnassemblesJob j bytes))) (sym is)
+    (all_left r same bytes second h)
+
+-- the same of an assembly text
+unassembled : (file out : Bor (List ℕ)) (hints : Bool) (n : NoAnswer) (bytes second : List ℕ)
+    → IsLeftBy (λ e. ⊥) (RefusesAssembly bytes) n
+    → IsLeftBy (RefusesJob (Assemble file out hints) bytes second) (UnassemblesJob (Assemble file out hints) bytes) n
+unassembled file out hints (left.Refused e) bytes second h = h
+unassembled file out hints (left.Unassembled e) bytes second h = h
+unassembled file out hints (left.Failed f) bytes second h = tt
+
+all_unassembled : {T : Type 0} (r : Result T NoAnswer) (file out : Bor (List ℕ)) (hints : Bool) (bytes second : List ℕ)
+    → IfErr r (IsLeftBy (λ e. ⊥) (RefusesAssembly bytes))
+    → IfErr r (IsLeftBy (RefusesJob (Assemble file out hints) bytes second) (UnassemblesJob (Assemble file out hints) bytes))
+all_unassembled (Ok x) file out hints bytes second h = tt
+all_unassembled (Err n) file out hints bytes second h = unassembled file out hints n bytes second h
+
+pub unassembled_as : {T : Type 0} (r : Result T NoAnswer) (job : Job) (file out : Bor (List ℕ)) (hints : Bool)
+    (bytes second : List ℕ) → job ≡ Assemble file out hints → IfErr r (IsLeftBy (λ e. ⊥) (RefusesAssembly bytes))
+    → IfErr r (IsLeftBy (RefusesJob job bytes second) (UnassemblesJob job bytes))
+unassembled_as r job file out hints bytes second is h =
+    subst (λ (j : Job). IfErr r (IsLeftBy (RefusesJob j bytes second) (UnassemblesJob j bytes))) (sym is)
+    (all_unassembled r file out hints bytes second h)
 
 -- a job that words ask for has a number of workers that may be
 pub has_workers : (ws : List (List ℕ)) (job : Job) → AsksFor ws job → HasWorkers job
@@ -46,6 +85,7 @@ has_workers ws (Replay file by trace page hints) asks = tt
 has_workers ws (Explain file by chart timeline page places hints) asks = tt
 has_workers ws (Emit file out hints) asks = tt
 has_workers ws (Explore file states strays kills chart timeline page hints) asks = tt
+has_workers ws (Assemble file out hints) asks = tt
 
 -- a status with which a job that was done ends
 abbrev IsEnd : Status → Type 0
@@ -83,6 +123,7 @@ ends (Emit file out hints) bytes second a h = end_as a.status Done h.tells.1.end
 ends (Explore file states strays kills chart timeline page hints) bytes second a h =
     let e = h.explored_text.exploration in
     end_as a.status _ h.tells.ended (found_end (is_some e.stuck) e.complete)
+ends (Assemble file out hints) bytes second a h = end_as a.status Done h.tells.ended tt
 
 -- by what is known of the devices; F says that one of them failed
 module _ (ws : List (List ℕ)) (on : Devices) where
@@ -148,7 +189,7 @@ module _ (ws : List (List ℕ)) (on : Devices) where
       → IsToldOrMemory on.Told (on.Told ((refusal_text e ++ line_feed) ++ hints)) F Refused s → Ends s
   told_refusal F job e hints s by none asks refuses unasked (inl (inl (is, told))) =
       subst Ends (sym is)
-      (record {
+      (inl (record {
         job = job;
         asks = asks;
         refusal = e;
@@ -157,14 +198,36 @@ module _ (ws : List (List ℕ)) (on : Devices) where
         unasked = unasked;
         wrote = none;
         told = told;
-      })
+      }))
   told_refusal F job e hints s by none asks refuses unasked (inl (inr (is, fails))) = failed s is (by fails)
   told_refusal F job e hints s by none asks refuses unasked (inr memory) = told_memory F s by none memory
 
+  -- an assembly text that is refused
+  told_unassembled : (F : Type 0) (job : Job) (e : AssemblyRefusal) (hints : List ℕ) (s : Status) → (F → on.Fails)
+      → on.Wrote [] → AsksFor ws job → UnassemblesSome on.Had job e → (asks_for_hints job ≡ false → hints ≡ [])
+      → IsToldOrMemory on.Told (on.Told ((assembly_refusal_text e ++ line_feed) ++ hints)) F Refused s → Ends s
+  told_unassembled F job e hints s by none asks refuses unasked (inl (inl (is, told))) =
+      subst Ends (sym is)
+      (inr (record {
+        job = job;
+        asks = asks;
+        refusal = e;
+        refuses = refuses;
+        hints = hints;
+        unasked = unasked;
+        wrote = none;
+        told = told;
+      }))
+  told_unassembled F job e hints s by none asks refuses unasked (inl (inr (is, fails))) = failed s is (by fails)
+  told_unassembled F job e hints s by none asks refuses unasked (inr memory) = told_memory F s by none memory
+
   -- a job without an answer
   pub told_left : (F : Type 0) (job : Job) (n : NoAnswer) (hints : List ℕ) (s : Status) → (F → on.Fails) → on.Wrote []
-      → AsksFor ws job → IsRefusalBy (RefusesSome on.Had job) n → (asks_for_hints job ≡ false → hints ≡ [])
+      → AsksFor ws job → IsLeftBy (RefusesSome on.Had job) (UnassemblesSome on.Had job) n
+      → (asks_for_hints job ≡ false → hints ≡ [])
       → IsToldLeft on.Told F hints n s → Ends s
   told_left F job (left.Refused e) hints s by none asks refuses unasked told =
       told_refusal F job e hints s by none asks refuses unasked told
+  told_left F job (left.Unassembled e) hints s by none asks refuses unasked told =
+      told_unassembled F job e hints s by none asks refuses unasked told
   told_left F job (left.Failed f) hints s by none asks refuses unasked told = told_failure F s by none told

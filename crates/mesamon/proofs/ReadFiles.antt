@@ -2,14 +2,14 @@
 use Rattle.std.proofs.Common.{◌≡◌, ℕ, List, Option, IfSome, IfOk, Result, sym, subst}
 use Rattle.commandline.specs.declared.job.Job.{Job}
 use Rattle.devices.specs.Files.{IsOfFile}
-use Rattle.mesamon.specs.Asked.{AreRead, most_of, most_read, read_second}
+use Rattle.mesamon.specs.Asked.{AreRead, first_most, most_of, read_second}
 use Rattle.mesamon.specs.declared.jobs.Second.{Second}
 
 pub are_read : {F : Type 0} (remaining : F → Option (List ℕ)) (job : Job) (most : Option ℕ) (bytes first second other : List ℕ)
-    → bytes ≡ first → second ≡ other → most ≡ read_second job → IsOfFile remaining most_read first
+    → bytes ≡ first → second ≡ other → most ≡ read_second job → IsOfFile remaining (first_most job) first
     → IfSome most (λ m. IsOfFile remaining m other) → AreRead (IsOfFile remaining) job bytes second
 are_read remaining job most bytes first second other same also is one two = record {
-  first = subst (IsOfFile remaining most_read) (sym same) one;
+  first = subst (IsOfFile remaining (first_most job)) (sym same) one;
   other = subst (λ (xs : List ℕ). IfSome (read_second job) (λ m. IsOfFile remaining m xs)) (sym also)
       (subst (λ (o : Option ℕ). IfSome o (λ m. IsOfFile remaining m other)) is two);
 }

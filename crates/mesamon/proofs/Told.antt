@@ -1,5 +1,6 @@
 -- What is told of a job, by what is told of what it made.
 use Rattle.std.proofs.Common.{◌≡◌, ◌⊎◌, ◌∙◌, ℕ, List, Option, None, Result, Ok, Err, IfOk, IfErr, inl, inr, ap, sym, subst}
+use Rattle.assembler.specs.declared.refusal.AssemblyRefusal.{AssemblyRefusal}
 use Rattle.scanner.specs.declared.refusal.Refusal.{Refusal}
 use Rattle.commandline.specs.declared.options.ExplainedBy.{ExplainedBy}
 use Rattle.commandline.specs.declared.options.ReplayedBy.{ReplayedBy}
@@ -7,12 +8,12 @@ use Rattle.runner.specs.declared.report.Report.{Report}
 use Rattle.mesamon.specs.Answers.{ArePuts, Put, name_of, put_of}
 use Rattle.mesamon.specs.Asked.{IsExplainedAs, IsReplayedAs}
 use Rattle.mesamon.specs.Commands.{IsToldFailed}
-use Rattle.mesamon.specs.Failures.{HasNoMemory, IsRefusalBy}
+use Rattle.mesamon.specs.Failures.{HasNoMemory, IsLeftBy, IsRefusalBy}
 use Rattle.mesamon.specs.declared.answer.OutFile.{OutFile}
 use Rattle.mesamon.specs.declared.answer.OutFiles.{OutFiles}
 use Rattle.mesamon.specs.declared.explained_run.ExplainedRun.{ExplainedRun}
 use Rattle.mesamon.specs.declared.failure.NoAnswer.{NoAnswer}
-use Rattle.mesamon.specs.declared.failure.NoAnswer.TheVariants.{Refused, Failed}
+use Rattle.mesamon.specs.declared.failure.NoAnswer.TheVariants.{Refused, Unassembled, Failed}
 use Rattle.mesamon.specs.declared.status.Status.{Status}
 
 -- what is so of an answer is so in more words
@@ -32,12 +33,35 @@ no_memory (Err n) Refuses h = memory_is_none Refuses n h
 -- a refusal is one in more words
 refusal_so : (P Q : Refusal → Type 0) (n : NoAnswer) → ((e : Refusal) → P e → Q e) → IsRefusalBy P n → IsRefusalBy Q n
 refusal_so P Q (Refused e) on h = on e h
+refusal_so P Q (Unassembled e) on h = h
 refusal_so P Q (Failed f) on h = tt
 
 pub refused_so : {T : Type 0} (r : Result T NoAnswer) (P Q : Refusal → Type 0) → ((e : Refusal) → P e → Q e)
     → IfErr r (IsRefusalBy P) → IfErr r (IsRefusalBy Q)
 refused_so (Ok x) P Q on h = tt
 refused_so (Err n) P Q on h = refusal_so P Q n on h
+
+-- the same of a refusal of either kind
+left_so : (P Q : Refusal → Type 0) (U V : AssemblyRefusal → Type 0) (n : NoAnswer) → ((e : Refusal) → P e → Q e)
+    → ((e : AssemblyRefusal) → U e → V e) → IsLeftBy P U n → IsLeftBy Q V n
+left_so P Q U V (Refused e) on by h = on e h
+left_so P Q U V (Unassembled e) on by h = by e h
+left_so P Q U V (Failed f) on by h = tt
+
+pub lefts_so : {T : Type 0} (r : Result T NoAnswer) (P Q : Refusal → Type 0) (U V : AssemblyRefusal → Type 0)
+    → ((e : Refusal) → P e → Q e) → ((e : AssemblyRefusal) → U e → V e) → IfErr r (IsLeftBy P U)
+    → IfErr r (IsLeftBy Q V)
+lefts_so (Ok x) P Q U V on by h = tt
+lefts_so (Err n) P Q U V on by h = left_so P Q U V n on by h
+
+-- want of memory is no refusal of either kind
+memory_leaves : (P : Refusal → Type 0) (U : AssemblyRefusal → Type 0) (n : NoAnswer) → HasNoMemory n → IsLeftBy P U n
+memory_leaves P U n is = subst (IsLeftBy P U) (sym is) tt
+
+pub no_memory_left : {T : Type 0} (r : Result T NoAnswer) (P : Refusal → Type 0) (U : AssemblyRefusal → Type 0)
+    → IfErr r HasNoMemory → IfErr r (IsLeftBy P U)
+no_memory_left (Ok x) P U h = tt
+no_memory_left (Err n) P U h = memory_leaves P U n h
 
 -- the file that is made alone is this one
 pub are_puts : (made files : OutFiles) (out : Option OutFile) (put : Option Put) → files ≡ made → made.out ≡ out

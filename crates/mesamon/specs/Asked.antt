@@ -8,6 +8,7 @@ use Rattle.commandline.specs.declared.options.Order.{Order as OrderOf}
 use Rattle.commandline.specs.declared.options.Order.TheVariants.{Workers, InOrder, Seed as InSeed}
 use Rattle.commandline.specs.declared.job.Job.{Job}
 use Rattle.commandline.specs.declared.job.Job.TheVariants.{Check, Compile, List as ListImage, Run, Exec, Replay, Explain, Emit, Explore}
+use Rattle.commandline.specs.declared.job.Job.TheVariants.{Assemble}
 use Rattle.commandline.specs.declared.options.RunOptions.{RunOptions}
 use Rattle.commandline.specs.declared.options.ReplayedBy.{ReplayedBy}
 use Rattle.commandline.specs.declared.options.ReplayedBy.TheVariants.{Schedule as BySchedule, Log as ByLog}
@@ -39,6 +40,7 @@ asks_for_hints (Replay file by trace page hints) = hints
 asks_for_hints (Explain file by chart timeline page places hints) = hints
 asks_for_hints (Emit file out hints) = hints
 asks_for_hints (Explore file states strays kills chart timeline page hints) = hints
+asks_for_hints (Assemble file out hints) = hints
 
 -- the run that is made of a text, as the options say
 abbrev pub IsRunAs : RunOptions → List ℕ → Report → Type 0
@@ -92,6 +94,7 @@ read_second (Run file options page hints) = None
 read_second (Exec image options) = None
 read_second (Emit file out hints) = None
 read_second (Explore file states strays kills chart timeline page hints) = None
+read_second (Assemble file out hints) = None
 
 -- of this one
 abbrev pub most_of : Second → Option ℕ
@@ -99,9 +102,22 @@ most_of also.None = None
 most_of (also.Text name) = Some most_read
 most_of (also.Log name) = Some (2 ^ 62)
 
+-- how many bytes are read of the file that a job is about, at most: of an assembly text all
+abbrev pub first_most : Job → ℕ
+first_most (Check file hints) = most_read
+first_most (Compile file out workers version hints) = most_read
+first_most (ListImage image source hints) = most_read
+first_most (Run file options page hints) = most_read
+first_most (Exec image options) = most_read
+first_most (Replay file by trace page hints) = most_read
+first_most (Explain file by chart timeline page places hints) = most_read
+first_most (Emit file out hints) = most_read
+first_most (Explore file states strays kills chart timeline page hints) = most_read
+first_most (Assemble file out hints) = 2 ^ 62
+
 -- these bytes were read of the two files of a job; where it has no second one, they are any
 pub record AreRead (IsOf : (most : ℕ) → List ℕ → Type 0) (job : Job) (bytes second : List ℕ) : Type 0 where
-  pub first : IsOf most_read bytes
+  pub first : IsOf (first_most job) bytes
   pub other : IfSome (read_second job) (λ most. IsOf most second)
 
 -- a number of compiling workers that may be

@@ -9,6 +9,10 @@ use Rattle.isa.specs.Spelling.{IsSpelled, spelling}
 use Rattle.isa.specs.Lines.{lines}
 use Rattle.scanner.specs.declared.refusal.Refusal.{Refusal}
 use Rattle.scanner.specs.Refusals.{refusal_text}
+use Rattle.assembler.specs.Listings.{IsAssembled}
+use Rattle.assembler.specs.Listings.{RefusesText as RefusesAssembly}
+use Rattle.assembler.specs.Refusals.{refusal_text as assembly_refusal_text}
+use Rattle.assembler.specs.declared.refusal.AssemblyRefusal.{AssemblyRefusal}
 use Rattle.log_text.specs.LogLines.{line_feed}
 use Rattle.runner.specs.declared.report.Report.{Report}
 use Rattle.runner.specs.Reports.{IsReport}
@@ -20,6 +24,7 @@ use Rattle.backend.specs.Refusals.{CodeFits}
 use Rattle.commandline.specs.CommandLine.{AsksFor, command_line}
 use Rattle.commandline.specs.declared.job.Job.{Job}
 use Rattle.commandline.specs.declared.job.Job.TheVariants.{Check, Compile, List as ListImage, Run, Exec, Replay, Explain, Emit, Explore}
+use Rattle.commandline.specs.declared.job.Job.TheVariants.{Assemble}
 use Rattle.commandline.specs.declared.options.ChartOptions.{ChartOptions}
 use Rattle.commandline.specs.declared.options.ExplainedBy.{ExplainedBy}
 use Rattle.commandline.specs.declared.options.RunOptions.{RunOptions}
@@ -62,6 +67,12 @@ pub record HasEmitted (out : Bor (List ℕ)) (text : List ℕ) (a : Answer) : Ty
 pub record HasCompiled (version : ImageVersion) (out : Bor (List ℕ)) (text : List ℕ) (a : Answer) : Type 0 where
   pub image : Program
   pub compiled : IsCompiledAs version text image
+  pub tells : TellsAlone (image_line (length image.code)) (Some (out, spelling image)) a
+
+-- an image of the assembly text is written to the file of this name, and its line was told
+pub record HasAssembled (out : Bor (List ℕ)) (text : List ℕ) (a : Answer) : Type 0 where
+  pub image : Program
+  pub assembled : IsAssembled text image
   pub tells : TellsAlone (image_line (length image.code)) (Some (out, spelling image)) a
 
 -- lines are told as they are; where more is asked for, with something before the first of them and before each one's
@@ -144,6 +155,7 @@ HasDone (Explain file by chart timeline page places hints) bytes second a =
 HasDone (Emit file out hints) bytes second a = HasEmitted out bytes a
 HasDone (Explore file states strays kills chart timeline page hints) bytes second a =
     HasExplored (record { strays = strays; kills = kills }) states chart timeline page bytes a
+HasDone (Assemble file out hints) bytes second a = HasAssembled out bytes a
 
 -- this is the refusal of the source beside an image, where one is named, for an image of the version of that one
 pub record RefusesBeside (bytes second : List ℕ) (e : Refusal) : Type 0 where
@@ -163,6 +175,20 @@ RefusesJob (Replay file by trace page hints) bytes second e = RefusesText bytes 
 RefusesJob (Explain file by chart timeline page places hints) bytes second e = RefusesText bytes e
 RefusesJob (Emit file out hints) bytes second e = RefusesText bytes e
 RefusesJob (Explore file states strays kills chart timeline page hints) bytes second e = RefusesText bytes e
+RefusesJob (Assemble file out hints) bytes second e = ⊥
+
+-- this is the refusal of the assembly text that the job is about
+abbrev pub UnassemblesJob : Job → (bytes : List ℕ) → AssemblyRefusal → Type 0
+UnassemblesJob (Check file hints) bytes e = ⊥
+UnassemblesJob (Compile file out workers version hints) bytes e = ⊥
+UnassemblesJob (ListImage image source hints) bytes e = ⊥
+UnassemblesJob (Exec image options) bytes e = ⊥
+UnassemblesJob (Run file options page hints) bytes e = ⊥
+UnassemblesJob (Replay file by trace page hints) bytes e = ⊥
+UnassemblesJob (Explain file by chart timeline page places hints) bytes e = ⊥
+UnassemblesJob (Emit file out hints) bytes e = ⊥
+UnassemblesJob (Explore file states strays kills chart timeline page hints) bytes e = ⊥
+UnassemblesJob (Assemble file out hints) bytes e = RefusesAssembly bytes e
 
 -- the job was done on bytes that were read of its files
 pub record HasDoneSome (IsOf : (most : ℕ) → List ℕ → Type 0) (job : Job) (a : Answer) : Type 0 where
@@ -177,6 +203,13 @@ pub record RefusesSome (IsOf : (most : ℕ) → List ℕ → Type 0) (job : Job)
   pub second : List ℕ
   pub read : AreRead IsOf job bytes second
   pub refuses : RefusesJob job bytes second e
+
+-- the same of an assembly text
+pub record UnassemblesSome (IsOf : (most : ℕ) → List ℕ → Type 0) (job : Job) (e : AssemblyRefusal) : Type 0 where
+  pub bytes : List ℕ
+  pub second : List ℕ
+  pub read : AreRead IsOf job bytes second
+  pub refuses : UnassemblesJob job bytes e
 
 -- what is known of the devices of a program: that its files had bytes, of so many at most; that a file has got bytes; that
 -- standard output, or standard error, has got bytes and no others; and that a call of one of those two failed
@@ -225,6 +258,17 @@ pub record IsRefused (words : List (List ℕ)) (on : Devices) : Type 0 where
   pub wrote : on.Wrote []
   pub told : on.Told ((refusal_text refusal ++ line_feed) ++ hints)
 
+-- the same of an assembly text
+pub record IsUnassembled (words : List (List ℕ)) (on : Devices) : Type 0 where
+  pub job : Job
+  pub asks : AsksFor words job
+  pub refusal : AssemblyRefusal
+  pub refuses : UnassemblesSome on.Had job refusal
+  pub hints : List ℕ
+  pub unasked : asks_for_hints job ≡ false → hints ≡ []
+  pub wrote : on.Wrote []
+  pub told : on.Told ((assembly_refusal_text refusal ++ line_feed) ++ hints)
+
 -- the words ask for no job, or for one that would write a file that it reads, or one file twice
 abbrev pub IsNoCommand : List (List ℕ) → Type 0
 IsNoCommand words =
@@ -240,6 +284,8 @@ IsToldFailed Told Fails status =
 abbrev pub IsToldLeft : (Told : List ℕ → Type 0) (Fails : Type 0) (hints : List ℕ) → NoAnswer → Status → Type 0
 IsToldLeft Told Fails hints (left.Refused e) status =
     IsToldOrMemory Told (Told ((refusal_text e ++ line_feed) ++ hints)) Fails Refused status
+IsToldLeft Told Fails hints (left.Unassembled e) status =
+    IsToldOrMemory Told (Told ((assembly_refusal_text e ++ line_feed) ++ hints)) Fails Refused status
 IsToldLeft Told Fails hints (left.Failed f) status = IsToldFailed Told Fails status
 
 -- a failure was named to standard error, and nothing was written to standard output
@@ -262,7 +308,7 @@ abbrev pub EndsSo : (words : List (List ℕ)) (on : Devices) → Status → Type
 EndsSo words on Done = HasAnswered words on Done
 EndsSo words on Stuck = HasAnswered words on Stuck
 EndsSo words on Limit = HasAnswered words on Limit
-EndsSo words on Refused = IsRefused words on
+EndsSo words on Refused = IsRefused words on ⊎ IsUnassembled words on
 EndsSo words on Usage = IsNoCommand words × on.Wrote []
 EndsSo words on Memory = on.Wrote [] × on.Told (codes "memory\n")
 EndsSo words on Failed = on.Fails ⊎ IsNamed on

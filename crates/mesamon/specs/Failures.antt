@@ -6,6 +6,8 @@ use Rattle.devices.specs.declared.reading.ReadFault.{ReadFault}
 use Rattle.devices.specs.declared.reading.ReadFault.TheVariants as read
 use Rattle.isa.specs.declared.fault.DecodeFault.{DecodeFault}
 use Rattle.isa.specs.declared.fault.DecodeFault.TheVariants as image
+use Rattle.assembler.specs.declared.refusal.AssemblyRefusal.{AssemblyRefusal}
+use Rattle.assembler.specs.declared.refusal.AssemblyFault.TheVariants as assembly
 use Rattle.scanner.specs.declared.refusal.Refusal.{Refusal}
 use Rattle.scanner.specs.declared.refusal.RefusalKind.TheVariants as kind
 use Rattle.runner.specs.declared.fault.RunFault.{RunFault}
@@ -21,7 +23,7 @@ use Rattle.mesamon.specs.declared.source_log.SourceLogFault.TheVariants as log
 use Rattle.mesamon.specs.declared.failure.Failure.{Failure}
 use Rattle.mesamon.specs.declared.failure.Failure.TheVariants.{Image, Run, Schedule, LogLine, LogEntry, Memory}
 use Rattle.mesamon.specs.declared.failure.NoAnswer.{NoAnswer}
-use Rattle.mesamon.specs.declared.failure.NoAnswer.TheVariants.{Refused, Failed}
+use Rattle.mesamon.specs.declared.failure.NoAnswer.TheVariants.{Refused, Unassembled, Failed}
 
 -- an error of input or output is this failure, but for want of memory that of memory
 abbrev pub OfIo : ErrorKind → Failure → Failure → Type 0
@@ -46,6 +48,11 @@ OfFault e f = f ≡ Run e
 abbrev pub OfRefusal : Refusal → NoAnswer → Type 0
 OfRefusal e n =
     ((e.kind ≡ kind.Memory) × (n ≡ Failed Memory)) ⊎ ((e.kind ≢ kind.Memory) × (n ≡ Refused e))
+
+-- the same of an assembly text
+abbrev pub OfAssembly : AssemblyRefusal → NoAnswer → Type 0
+OfAssembly e n =
+    ((e.fault ≡ assembly.Memory) × (n ≡ Failed Memory)) ⊎ ((e.fault ≢ assembly.Memory) × (n ≡ Unassembled e))
 
 -- what comes of a fault of `run`
 abbrev pub OfRun : RunSourceFault → NoAnswer → Type 0
@@ -73,7 +80,14 @@ OfSourceLog log.Memory n = n ≡ Failed Memory
 -- where it is a refusal, it is one of this kind
 abbrev pub IsRefusalBy : (Refusal → Type 0) → NoAnswer → Type 0
 IsRefusalBy Refuses (Refused e) = Refuses e
+IsRefusalBy Refuses (Unassembled e) = ⊥
 IsRefusalBy Refuses (Failed f) = Unit {0}
+
+-- where it is a refusal of a source text, or of an assembly text, it is one of this kind
+abbrev pub IsLeftBy : (Refusal → Type 0) → (AssemblyRefusal → Type 0) → NoAnswer → Type 0
+IsLeftBy Refuses Unassembles (Refused e) = Refuses e
+IsLeftBy Refuses Unassembles (Unassembled e) = Unassembles e
+IsLeftBy Refuses Unassembles (Failed f) = Unit {0}
 
 -- it is want of memory
 abbrev pub HasNoMemory : NoAnswer → Type 0

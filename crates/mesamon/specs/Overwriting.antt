@@ -3,6 +3,7 @@ use Rattle.std.proofs.Common.{Bor}
 use Rattle.std.specs.Prelude.{ℕ, Bool, false, List, Option, Some, None, ◌||◌, bytes_eq}
 use Rattle.commandline.specs.declared.job.Job.{Job}
 use Rattle.commandline.specs.declared.job.Job.TheVariants.{Check, Compile, List as ListImage, Run, Exec, Replay, Explain, Emit, Explore}
+use Rattle.commandline.specs.declared.job.Job.TheVariants.{Assemble}
 use Rattle.commandline.specs.declared.options.ChartOptions.{ChartOptions}
 use Rattle.commandline.specs.declared.options.ExplainedBy.{ExplainedBy}
 use Rattle.commandline.specs.declared.options.ExplainedBy.TheVariants.{Order, Seed, Schedule, Log}
@@ -48,6 +49,7 @@ overwrites (ListImage image source hints) = false
 overwrites (Compile file out workers version hints) = is_twice (Some file) None (Some out) None
 overwrites (Emit file out hints) = is_twice (Some file) None (Some out) None
 overwrites (Run file options page hints) = is_twice (Some file) None options.log page
+overwrites (Assemble file out hints) = is_twice (Some file) None (Some out) None
 overwrites (Exec image options) = is_twice (Some image) None options.log None
 overwrites (Replay file by trace page hints) = replay_overwrites file by page
 overwrites (Explain file by chart timeline page places hints) = draws_over (Some file) (read_by by) (out_of chart) timeline page

@@ -3,6 +3,7 @@ ghost use Rattle.commandline.specs.CommandLine.{AsksFor};
 ghost use Rattle.devices.specs.Writing.{HasAll};
 ghost use Rattle.log_text.specs.LogLines.{line_feed};
 ghost use Rattle.scanner.specs.Refusals.{refusal_text};
+ghost use Rattle.assembler.specs.Refusals.{refusal_text as assembly_refusal_text};
 ghost use Rattle.mesamon.specs.Answers.{HasMetFailure, IsTold, IsToldOrMemory};
 ghost use Rattle.mesamon.specs.Commands.{EndsSo, FinishesSo, IsToldFailed, IsToldLeft, devices_by};
 ghost use Rattle.mesamon.specs.Statuses.{status_code};
@@ -16,6 +17,7 @@ use crate::lines::write_text;
 use crate::overwriting::overwrites;
 use crate::status::Status;
 use crate::telling::tell_more;
+use assembler::AssemblyRefusal;
 use commandline::{Job, WordsFault, line};
 use devices::Counted;
 use scanner::Refusal;
@@ -185,6 +187,7 @@ fn tell_left<E: Write>(
 {
     match left {
         NoAnswer::Refused(refusal) => tell_refusal(alloc, refusal, hints, errors),
+        NoAnswer::Unassembled(refusal) => tell_unassembled(alloc, refusal, hints, errors),
         NoAnswer::Failed(failure) => tell_failed(alloc, failure, hints, errors),
     }
 }
@@ -201,6 +204,23 @@ fn tell_refusal<E: Write>(
         (HasMetFailure errors.new) Status.Refused result }
 {
     match refusal_lines(alloc, refusal, hints) {
+        Ok(lines) => tell(errors, lines.as_str(), Status::Refused),
+        Err(_) => tell(errors, MEMORY, Status::Memory),
+    }
+}
+
+// Writes the line of the refusal of an assembly text, and hints behind it, at once.
+fn tell_unassembled<E: Write>(
+    alloc: Global,
+    refusal: AssemblyRefusal,
+    hints: &str,
+    errors: &mut Counted<E>,
+) -> Status
+    ensures { IsToldOrMemory (HasAll E.contents errors.old errors.new)
+        (HasAll E.contents errors.old errors.new ((assembly_refusal_text refusal ++ line_feed) ++ hints.now))
+        (HasMetFailure errors.new) Status.Refused result }
+{
+    match assembly_lines(alloc, refusal, hints) {
         Ok(lines) => tell(errors, lines.as_str(), Status::Refused),
         Err(_) => tell(errors, MEMORY, Status::Memory),
     }
@@ -227,6 +247,20 @@ fn tell_failed<E: Write>(
 // The line of a refusal, and hints.
 fn refusal_lines(alloc: Global, refusal: Refusal, hints: &str) -> Result<String, AllocError>
     ensures { IfOk result (λ s. string_bytes s ≡ (refusal_text refusal ++ line_feed) ++ hints.now) }
+{
+    let mut lines = String::new(alloc);
+    writeln!(lines, "{refusal}")?;
+    lines.push_str(hints)?;
+    Ok(lines)
+}
+
+// The line of the refusal of an assembly text, and hints.
+fn assembly_lines(
+    alloc: Global,
+    refusal: AssemblyRefusal,
+    hints: &str,
+) -> Result<String, AllocError>
+    ensures { IfOk result (λ s. string_bytes s ≡ (assembly_refusal_text refusal ++ line_feed) ++ hints.now) }
 {
     let mut lines = String::new(alloc);
     writeln!(lines, "{refusal}")?;

@@ -2,8 +2,9 @@ ghost use Rattle.std.specs.Prelude.{◌≤◌, ◌++◌, IfOk, IfErr, None, Some
 ghost use Rattle.compiler.specs.Accepts.{RefusesProgram, RefusesText, RefusesTextAs};
 ghost use Rattle.isa.specs.Spelling.{spelling};
 ghost use Rattle.mesamon.specs.Answers.{TellsAlone, put_of};
-ghost use Rattle.mesamon.specs.Commands.{HasChecked, HasCompiled, HasEmitted, TellsEmitted};
-ghost use Rattle.mesamon.specs.Failures.{HasNoMemory, IsRefusalBy};
+ghost use Rattle.assembler.specs.Listings.{RefusesText as RefusesAssembly};
+ghost use Rattle.mesamon.specs.Commands.{HasAssembled, HasChecked, HasCompiled, HasEmitted, TellsEmitted};
+ghost use Rattle.mesamon.specs.Failures.{HasNoMemory, IsLeftBy, IsRefusalBy};
 ghost use Rattle.mesamon.specs.ImageLine.{image_line};
 
 use crate::answer::{Answer, OutFile, OutFiles};
@@ -11,6 +12,7 @@ use crate::failure::NoAnswer;
 use crate::hinting::SourceText;
 use crate::lines::line_of_image;
 use crate::status::Status;
+use assembler::assemble;
 use compiler::{check_text, compile_checked, compile_with_as};
 use emit::emit;
 use isa::{Image, encode};
@@ -52,6 +54,19 @@ pub fn answer_compile<'a, R: AllocGlobal + Threads + Wait + Sync>(
 {
     let image = compile_with_as(rt, rt.alloc(), text.bytes, version, workers, &OpenGate)?;
     image_answer(rt.alloc(), &image, out)
+}
+
+/// Assembles a text to an image, for the file of this name.
+pub fn answer_assemble<'a>(
+    alloc: Global,
+    text: &SourceText<'_>,
+    out: &'a str,
+) -> Result<Answer<'a>, NoAnswer<'a>>
+    ensures done { IfOk result (HasAssembled out.entry text.now.bytes.now) }
+    ensures refused { IfErr result (IsLeftBy (λ e. ⊥) (RefusesAssembly text.now.bytes.now)) }
+{
+    let assembled = assemble(alloc, text.bytes)?;
+    image_answer(alloc, &assembled.image, out)
 }
 
 // That an image is made, and its bytes for the file of this name.

@@ -2,13 +2,14 @@ ghost use Rattle.std.specs.Prelude.{◌≡◌, Some, None};
 ghost use Rattle.std.specs.IoError.{error_kind};
 ghost use Rattle.mesamon.specs.declared.failure.Failure.TheVariants.{Memory as memory};
 ghost use Rattle.mesamon.specs.declared.failure.NoAnswer.TheVariants.{Failed as failed};
-ghost use Rattle.mesamon.specs.Failures.{OfExplain, OfFault, OfImage, OfIo, OfRefusal};
+ghost use Rattle.mesamon.specs.Failures.{OfAssembly, OfExplain, OfFault, OfImage, OfIo, OfRefusal};
 ghost use Rattle.mesamon.specs.Failures.{OfReplay, OfRun, OfSource, OfSourceLog};
 
 use crate::explained_run::ExplainSourceFault;
 use crate::replaying::ReplayFault;
 use crate::source_log::SourceLogFault;
 use crate::source_run::RunSourceFault;
+use assembler::{AssemblyFault, AssemblyRefusal};
 use devices::ReadFault;
 use isa::DecodeFault;
 use runner::RunFault;
@@ -139,6 +140,8 @@ impl From<RunFault> for Failure<'_> {
 pub enum NoAnswer<'a> {
     /// The source text is refused.
     Refused(Refusal),
+    /// The assembly text is refused.
+    Unassembled(AssemblyRefusal),
     /// Something failed.
     Failed(Failure<'a>),
 }
@@ -167,6 +170,18 @@ impl From<Refusal> for NoAnswer<'_> {
             NoAnswer::Failed(Failure::Memory)
         } else {
             NoAnswer::Refused(refusal)
+        }
+    }
+}
+
+impl From<AssemblyRefusal> for NoAnswer<'_> {
+    ghost from_gives = { OfAssembly };
+
+    fn from(refusal: AssemblyRefusal) -> Self {
+        if refusal.fault == AssemblyFault::Memory {
+            NoAnswer::Failed(Failure::Memory)
+        } else {
+            NoAnswer::Unassembled(refusal)
         }
     }
 }

@@ -1,12 +1,13 @@
-ghost use Rattle.std.specs.Prelude.{◌≡◌, IfOk, IfErr, IfSome};
+ghost use Rattle.std.specs.Prelude.{◌≡◌, ◌^◌, if◌then◌else◌, IfOk, IfErr, IfSome};
 ghost use Rattle.devices.specs.Files.{IsOfFile};
-ghost use Rattle.mesamon.specs.Asked.{HasWorkers, asks_for_hints, most_of};
+ghost use Rattle.mesamon.specs.Asked.{HasWorkers, asks_for_hints, first_most, most_of, most_read};
 ghost use Rattle.mesamon.specs.Asked.{read_of_explained, read_of_replay, read_of_source, read_second};
 ghost use Rattle.mesamon.specs.Commands.{HasDone, HasDoneSome, RefusesJob, RefusesSome};
-ghost use Rattle.mesamon.specs.Failures.{IsRefusalBy};
+ghost use Rattle.mesamon.specs.Commands.{UnassemblesJob, UnassemblesSome};
+ghost use Rattle.mesamon.specs.Failures.{IsLeftBy};
 
 use crate::answer::Answer;
-use crate::compiling::{answer_check, answer_compile, answer_emit};
+use crate::compiling::{answer_assemble, answer_check, answer_compile, answer_emit};
 use crate::drawing::Drawings;
 use crate::explaining::answer_explain;
 use crate::exploring::answer_explore;
@@ -33,7 +34,8 @@ pub fn asks_for_hints(job: &Job<'_>) -> bool
         | Job::Replay { hints, .. }
         | Job::Explain { hints, .. }
         | Job::Emit { hints, .. }
-        | Job::Explore { hints, .. } => hints,
+        | Job::Explore { hints, .. }
+        | Job::Assemble { hints, .. } => hints,
         Job::Exec { .. } => false,
     }
 }
@@ -47,7 +49,8 @@ fn file_of<'a>(job: Job<'a>) -> &'a str {
         | Job::Replay { file, .. }
         | Job::Explain { file, .. }
         | Job::Emit { file, .. }
-        | Job::Explore { file, .. } => file,
+        | Job::Explore { file, .. }
+        | Job::Assemble { file, .. } => file,
         Job::List { image, .. } | Job::Exec { image, .. } => image,
     }
 }
@@ -112,7 +115,37 @@ fn second_of<'a>(job: Job<'a>) -> Second<'a>
         | Job::Run { .. }
         | Job::Exec { .. }
         | Job::Emit { .. }
-        | Job::Explore { .. } => Second::None,
+        | Job::Explore { .. }
+        | Job::Assemble { .. } => Second::None,
+    }
+}
+
+// Whether all bytes of the file that a job is about are read: a listing may be longer than a source text.
+fn reads_all(job: Job<'_>) -> bool
+    ensures { first_most job.entry ≡ (if result then 2 ^ 62 else most_read) }
+{
+    match job {
+        Job::Assemble { .. } => true,
+        Job::Check { .. }
+        | Job::Compile { .. }
+        | Job::List { .. }
+        | Job::Run { .. }
+        | Job::Exec { .. }
+        | Job::Replay { .. }
+        | Job::Explain { .. }
+        | Job::Emit { .. }
+        | Job::Explore { .. } => false,
+    }
+}
+
+// The bytes of the file that a job is about.
+fn first_bytes<'a, R: Files + AllocGlobal>(rt: &R, job: Job<'a>) -> Result<Vec<u8>, Failure<'a>>
+    ensures { IfOk result (λ v. IsOfFile R.File.remaining (first_most job.entry) v.items) }
+{
+    if reads_all(job) {
+        whole_bytes_of(rt, file_of(job))
+    } else {
+        bytes_of(rt, file_of(job))
     }
 }
 
@@ -139,9 +172,10 @@ pub fn do_job<'a, R: Files + AllocGlobal + Threads + Wait + Sync, P: Progress>(
 ) -> Result<Answer<'a>, NoAnswer<'a>>
     requires { HasWorkers job }
     ensures done { IfOk result (HasDoneSome (IsOfFile R.File.remaining) job.entry) }
-    ensures refused { IfErr result (IsRefusalBy (RefusesSome (IsOfFile R.File.remaining) job.entry)) }
+    ensures refused { IfErr result (IsLeftBy (RefusesSome (IsOfFile R.File.remaining) job.entry)
+        (UnassemblesSome (IsOfFile R.File.remaining) job.entry)) }
 {
-    let bytes = bytes_of(rt, file_of(job))?;
+    let bytes = first_bytes(rt, job)?;
     let second = second_bytes(rt, second_of(job))?;
     answer_job(rt, job, bytes.as_slice(), second.as_slice(), told, progress)
 }
@@ -168,7 +202,8 @@ pub fn answer_job<'a, R: AllocGlobal + Threads + Wait + Sync, P: Progress>(
 ) -> Result<Answer<'a>, NoAnswer<'a>>
     requires { HasWorkers job }
     ensures done { IfOk result (HasDone job.entry bytes.now second.now) }
-    ensures refused { IfErr result (IsRefusalBy (RefusesJob job.entry bytes.now second.now)) }
+    ensures refused { IfErr result (IsLeftBy (RefusesJob job.entry bytes.now second.now)
+        (UnassemblesJob job.entry bytes.now)) }
 {
     let text = SourceText {
         file: file_of(job),
@@ -193,7 +228,8 @@ fn answer_of<'a, R: AllocGlobal + Threads + Wait + Sync, P: Progress>(
 ) -> Result<Answer<'a>, NoAnswer<'a>>
     requires { HasWorkers job }
     ensures done { IfOk result (HasDone job.entry text.now.bytes.now second.now) }
-    ensures refused { IfErr result (IsRefusalBy (RefusesJob job.entry text.now.bytes.now second.now)) }
+    ensures refused { IfErr result (IsLeftBy (RefusesJob job.entry text.now.bytes.now second.now)
+        (UnassemblesJob job.entry text.now.bytes.now)) }
 {
     let alloc = rt.alloc();
     match job {
@@ -231,6 +267,7 @@ fn answer_of<'a, R: AllocGlobal + Threads + Wait + Sync, P: Progress>(
             answer_explain(alloc, text, second, by, drawings, places, told)
         }
         Job::Emit { out, .. } => answer_emit(alloc, text, out),
+        Job::Assemble { out, .. } => answer_assemble(alloc, text, out),
         Job::Explore {
             states,
             strays,

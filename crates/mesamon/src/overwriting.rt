@@ -79,6 +79,7 @@ pub fn overwrites(job: &Job<'_>) -> bool
             page,
             ..
         } => is_twice(Some(file), None, options.log, page),
+        Job::Assemble { file, out, .. } => is_twice(Some(file), None, Some(out), None),
         Job::Exec { image, options } => is_twice(Some(image), None, options.log, None),
         Job::Replay { file, by, page, .. } => replay_overwrites(file, by, page),
         Job::Explain {

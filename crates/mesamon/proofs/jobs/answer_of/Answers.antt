@@ -1,6 +1,6 @@
 use Rattle.std.proofs.Common.{subst}
 use Rattle.mesamon.specs.Asked.{HasWorkers}
-use Rattle.mesamon.proofs.Answered.{done_as, refused_as}
+use Rattle.mesamon.proofs.Answered.{done_as, refused_as, unassembled_as}
 use Rattle.mesamon.proofs.jobs.answer_of.Goals as goal
 
 pub answer_compile-requires-after_bounds : goal.answer_compile-requires-after_bounds
@@ -59,3 +59,10 @@ returns-in-Explore-clause-done g c = done_as _ _ _ _ _ c.in-Explore.is c.answer_
 
 pub returns-in-Explore-clause-refused : goal.returns-in-Explore-clause-refused
 returns-in-Explore-clause-refused g c = refused_as _ _ _ _ _ c.in-Explore.is c.answer_explore.ensures.refused
+
+pub returns-in-Assemble-clause-done : goal.returns-in-Assemble-clause-done
+returns-in-Assemble-clause-done g c = done_as _ _ _ _ _ c.in-Assemble.is c.answer_assemble.ensures.done
+
+pub returns-in-Assemble-clause-refused : goal.returns-in-Assemble-clause-refused
+returns-in-Assemble-clause-refused g c =
+    unassembled_as _ _ _ _ _ _ _ c.in-Assemble.is c.answer_assemble.ensures.refused

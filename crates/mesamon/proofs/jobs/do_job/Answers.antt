@@ -1,5 +1,5 @@
 use Rattle.mesamon.proofs.ReadFiles.{are_read}
-use Rattle.mesamon.proofs.Told.{ok_so, refused_so}
+use Rattle.mesamon.proofs.Told.{lefts_so, ok_so}
 use Rattle.mesamon.proofs.jobs.do_job.Goals as goal
 
 pub returns-clause-done : goal.returns-clause-done
@@ -15,7 +15,14 @@ returns-clause-done g c =
 
 pub returns-clause-refused : goal.returns-clause-refused
 returns-clause-refused g c =
-    refused_so c.answer_job.result _ _
+    lefts_so c.answer_job.result _ _ _ _
+    (λ e refuses. record {
+      bytes = c.as_slice.result.now;
+      second = c.as_slice-2.result.now;
+      read = are_read _ _ _ _ _ _ _ c.as_slice.ensures.value c.as_slice-2.ensures.value c.second_of.ensures
+          c.in_ok-bytes.ensures c.in_ok-second.ensures;
+      refuses = refuses;
+    })
     (λ e refuses. record {
       bytes = c.as_slice.result.now;
       second = c.as_slice-2.result.now;
