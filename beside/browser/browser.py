@@ -42,7 +42,7 @@ class Browser:
         os.close(to_write)
         self.left = b""
         self.session = None
-        target = self.call("Target.createTarget", url="about:blank", width=wide, height=high)["targetId"]
+        target = self.call("Target.createTarget", url="about:blank")["targetId"]
         self.session = self.call("Target.attachToTarget", targetId=target, flatten=True)["sessionId"]
         for domain in ("Page", "Runtime", "Log"):
             self.call(f"{domain}.enable")

@@ -15,13 +15,13 @@
  * kernel finds 1's word at 2's pending entry and wakes nobody. 1 gives the lock up, finds no bit, and calls nobody: the
  * word is 0, and 3 sleeps for ever. Here 2 leaves the bit in the free word, so that 1 has to take it with the bit, and
  * owes the wake in its turn. Nobody may clear the bit afterwards, not even where a wake found nobody: another thread can
- * take the lock and get a sleeper between that wake and the clearing (lost_wake.c shows both). It costs a call of the
- * kernel for each release, once a lock has had a waiter.
+ * take the lock and get a sleeper between that wake and the clearing (beside/kernel/lost_wake.c shows both). It costs a
+ * call of the kernel for each release, once a lock has had a waiter.
  *
  * Which kernels. Linux 6.2 and newer, and 6.1 from 6.1.183 on: their exits wake a sleeper at a pending lock word without
  * an owner, whatever else the word has. Older kernels (5.5 to 6.1.182, as far as changelogs tell) wake only where the
- * word is 0, and there a kill can lose a wake with this release. docs/linux.md has the three rules; linux/check tries
- * which one the kernel at hand has.
+ * word is 0, and there a kill can lose a wake with this release. docs/linux.md has the three rules; beside/kernel/check
+ * tries which one the kernel at hand has.
  */
 #ifndef MESA_MONITORS_H
 #define MESA_MONITORS_H

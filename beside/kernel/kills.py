@@ -1,4 +1,4 @@
-"""Judges the runs in which linux/kills.h killed a process at one of its shared instructions.
+"""Judges the runs in which kills.h killed a process at one of its shared instructions.
 
 What is behind the kill has to be what the machine's kill leaves, but for what KEPT says; and what the others do has to be
 what they do in some run of the source in which that process is killed at that place, with nobody left asleep on a lock
@@ -11,8 +11,8 @@ from collections import Counter, namedtuple
 
 import source
 
-HERE = os.path.dirname(os.path.abspath(__file__))
-with open(os.path.join(HERE, "mesa_monitors.h")) as header:
+ROOT = os.path.dirname(os.path.dirname(os.path.dirname(os.path.abspath(__file__))))
+with open(os.path.join(ROOT, "include/mesa_monitors.h")) as header:
     POINTS = re.findall(r"\w+", re.search(r"enum mesa_point \{(.*?)\}", header.read(), re.S)[1].replace("MESA_", ""))
 ENDED, KILLED = 16, 9
 

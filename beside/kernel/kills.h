@@ -7,7 +7,7 @@
  * while all others stand before an instruction or sleep, and what it leaves is seen before anybody goes on. A process
  * that stands before an instruction dies by exit(2), which does for its robust list, its pending entry and its id word
  * what any death of a thread does; one that sleeps is called out of its sleep by a signal, and dies so in the handler.
- * Of each run a line of JSON is printed behind what the program printed; linux/kills.py judges it.
+ * Of each run a line of JSON is printed behind what the program printed; kills.py judges it.
  */
 struct mesa_process;
 static void kills_point(struct mesa_process *self, int point);

@@ -1,7 +1,7 @@
 /*
  * Does on the kernel at hand what rows of crates/test_layers do on the machine: waits, wakes, requeues and exits over 512
  * words by threads that have numbers. It reads the rows on standard input, and prints each and what came of it, as the
- * program of test_layers does; linux/check compares the two. An exit's steps can't be counted here.
+ * program of test_layers does; check compares the two. An exit's steps can't be counted here.
  *
  * A word of the machine is the lock word of an entry here, whose link points where the word before it says: so the
  * entry of the machine at e is the link beside word e + 1. Thread 5's number stands for the kernel thread that exits

@@ -1,5 +1,5 @@
 /*
- * What the programs of linux/speed_programs do, by pthreads' mutex and condition variables: WORK KIND, where KIND is
+ * What the programs of emitted_programs do, by pthreads' mutex and condition variables: WORK KIND, where KIND is
  * `plain` or `robust`, the kind of the mutex. Sums are checked for overflow, as those of the programs are.
  */
 #include <pthread.h>
