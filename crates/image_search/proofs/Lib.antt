@@ -1,0 +1,4 @@
+pub mod Turning
+pub mod Keeping
+pub mod Searched
+pub mod Failing

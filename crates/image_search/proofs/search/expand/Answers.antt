@@ -1,0 +1,19 @@
+use Rattle.std.proofs.Common.{◌≡◌, Some, slice_get, subst}
+use Rattle.image_states.specs.Nexts.{AreNexts, may_of}
+use Rattle.image_states.specs.declared.packed.Packed.{Packed as PackedOf}
+use Rattle.image_search.proofs.Searched.{expanded_at, match_none}
+use Rattle.image_search.proofs.search.expand.Goals as goal
+
+pub returns-clause-expanded : goal.returns-clause-expanded
+returns-clause-expanded c =
+    match_none _ _ _ c.in_ok-bound.bound (λ all.
+    let p = c.args.image.now in
+    let may = may_of c.args.outside in
+    let mid = c.nexts_at.new.parts in
+    let found = c.nexts_at.new.found.items in
+    let at : (x : PackedOf) × (slice_get c.args.kept.now.states.items c.args.place ≡ Some x) × AreNexts p may mid x found =
+    subst (λ xs. (x : PackedOf) × (slice_get xs c.args.place ≡ Some x) × AreNexts p may mid x found) c.as_slice.ensures.value
+    (c.in_ok-why.ensures.nexts c.in_default.is) in
+    expanded_at p may c.args.kept.now c.keep_all.new.self c.args.place at.0 mid found c.requires.sound at.1
+    c.in_ok-why.ensures.grown at.2 c.in_ok-bound.ensures.more.parts c.in_ok-bound.ensures.more.states all)
+    c.in_ok-bound.ensures.kept

@@ -1,0 +1,4 @@
+pub mod Never
+pub mod Found
+pub mod Kept
+pub mod Ends

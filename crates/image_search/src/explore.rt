@@ -1,0 +1,109 @@
+ghost use Rattle.std.specs.Prelude.{◌≡◌, ℕ, IfOk, MatchOption, OnOk};
+ghost use Rattle.machine.specs.States.{opening_state};
+ghost use Rattle.proof_image_search.specs.Searching.{IsCovered};
+ghost use Rattle.image_states.specs.Nexts.{may_of};
+ghost use Rattle.image_search.specs.Ends.{HasSearched};
+ghost use Rattle.image_search.specs.Kept.{IsMetBy, IsSound, states_of};
+ghost use Rattle.image_search.specs.Never.{NeverBreaks, NeverFails, NeverStuck};
+ghost use Rattle.image_search.specs.declared.ending.Ending.TheVariants.{Complete};
+
+use crate::ending::{Bound, Ending, ImageExploration};
+use crate::kept::{KeptStates, Way};
+use crate::progress::Progress;
+use crate::search::search;
+use image_states::{Doing, Outside, Scratch};
+use isa::Image;
+use std::alloc::{AllocError, Global};
+
+// How the first state was come to.
+const BEGIN: Way = Way {
+    before: 0,
+    thread: 1,
+    doing: Doing::Own,
+};
+
+// Keeps the state in which an image begins; else answers why it can't be.
+fn keep_opening(
+    alloc: Global,
+    image: &Image,
+    kept: &mut KeptStates,
+    scratch: &mut Scratch,
+) -> Result<Option<Bound>, AllocError>
+    requires sound { IsSound kept.old }
+    ensures sound { OnOk result (IsSound kept.new) }
+    ensures most { OnOk result (kept.new.most ≡ kept.old.most) }
+    ensures opens { IfOk result (λ o. MatchOption o
+        ((m : ℕ) × IsCovered image.now (states_of image.now kept.new) m (opening_state image.now) 0)
+        (IsMetBy kept.new)) }
+{
+    let Some(packed) = kept.parts.opening(alloc, image, scratch)? else {
+        return Ok(Some(Bound::Nexts(image_states::Bound::Parts)));
+    };
+    let bound = kept.keep_state(alloc, packed, BEGIN)?;
+    Ok(bound)
+}
+
+// What is found, where nothing is kept yet.
+fn explore_from<P: Progress>(
+    alloc: Global,
+    image: &Image,
+    kept: &mut KeptStates,
+    outside: Outside,
+    scratch: &mut Scratch,
+    progress: &mut P,
+) -> Result<ImageExploration, AllocError>
+    requires sound { IsSound kept.old }
+    ensures { IfOk result (HasSearched image.now (may_of outside) kept.old.most) }
+{
+    if let Some(bound) = keep_opening(alloc, image, kept, scratch)? {
+        return Ok(ImageExploration {
+            states: kept.states.len(),
+            ending: Ending::Bounded(bound),
+        });
+    }
+    let ending = search(alloc, image, kept, outside, scratch, progress)?;
+    Ok(ImageExploration {
+        states: kept.states.len(),
+        ending,
+    })
+}
+
+// The same, with room for what is tried.
+fn explore_with<P: Progress>(
+    alloc: Global,
+    image: &Image,
+    kept: &mut KeptStates,
+    outside: Outside,
+    progress: &mut P,
+) -> Result<ImageExploration, AllocError>
+    requires sound { IsSound kept.old }
+    ensures { IfOk result (HasSearched image.now (may_of outside) kept.old.most) }
+{
+    let mut scratch = Scratch::new();
+    explore_from(alloc, image, kept, outside, &mut scratch, progress)
+}
+
+/// Searches all schedules of an image, breadth first, keeping at most so many states: for one by which no thread can move
+/// and not all have ended, for one by which a thread dies of a fault, and for a step that may not be. Any thread may come
+/// next, and any sleepers may be woken or moved, with strays also though nobody called for it, and with kills so many
+/// threads may be killed in a run, wherever they stand. A futex call is one step, and local steps are taken at once; what is
+/// answered holds of runs in pieces, over any number of buckets.
+///
+/// The first end that is found, to which a schedule leads that `runner::follow` follows, ends the search, and the schedule is
+/// answered. Where all states were kept and none is such an end, there is no run to one. Else the bound that was met is
+/// named. How far the search has come is told as it goes.
+pub fn explore_image<P: Progress>(
+    alloc: Global,
+    image: &Image,
+    most_states: u32,
+    outside: Outside,
+    progress: &mut P,
+) -> Result<ImageExploration, AllocError>
+    ensures searched { IfOk result (HasSearched image.now (may_of outside) most_states) }
+    ensures never_stuck { IfOk result (λ e. e.ending ≡ Complete → NeverStuck image.now (may_of outside)) }
+    ensures never_fails { IfOk result (λ e. e.ending ≡ Complete → NeverFails image.now (may_of outside)) }
+    ensures never_breaks { IfOk result (λ e. e.ending ≡ Complete → NeverBreaks image.now (may_of outside)) }
+{
+    let mut kept = KeptStates::new(alloc, most_states);
+    explore_with(alloc, image, &mut kept, outside, progress)
+}

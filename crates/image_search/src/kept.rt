@@ -1,0 +1,167 @@
+ghost use Rattle.std.specs.Prelude.{◌≡◌, Contains, IfOk, MatchBool, MatchOption, OnOk, true};
+ghost use Rattle.image_states.specs.Packed.{IsWithin};
+ghost use Rattle.image_states.specs.declared.next.Next.{Next as NextOf};
+ghost use Rattle.image_search.specs.Kept.{HasKey};
+
+use crate::ending::Bound;
+use crate::numbers::Numbers;
+use image_states::{Doing, Next, Packed, Parts};
+use std::alloc::{AllocError, Global};
+
+/// How a kept state was come to: from which, by a step of which thread, and what step it was.
+#[derive(Clone, Copy)]
+pub(crate) struct Way {
+    /// The place of the state before.
+    pub before: u32,
+    /// The thread.
+    pub thread: u32,
+    /// The step.
+    pub doing: Doing,
+}
+
+// Of how many states of the same digest each is compared, at most.
+const TRIES: u32 = 1000;
+
+/// The states that a search keeps, in the order in which they were come to.
+#[derive(Drop)]
+pub(crate) struct KeptStates {
+    /// The states.
+    pub states: Vec<Packed>,
+    /// The parts of which they are made.
+    pub parts: Parts,
+    /// How each was come to; the first one wasn't.
+    pub ways: Vec<Way>,
+    // The place of each, by its digest.
+    places: Numbers,
+    /// How many states may be kept.
+    pub most: u32,
+}
+
+// Whether this state, of this digest, is kept.
+fn is_kept(states: &[Packed], places: &Numbers, digest: u64, packed: &Packed) -> bool
+    ensures { result ≡ true → HasKey states.now packed.now }
+{
+    let mut tried = 0;
+    for _ in 0..TRIES {
+        let Some(found) = places.next(digest, tried) else {
+            return false;
+        };
+        let Some(kept) = states.get(found.number as usize) else {
+            return false;
+        };
+        if kept.is_same(packed) {
+            return true;
+        }
+        tried = found.tries.wrapping_add(1);
+    }
+    false
+}
+
+impl KeptStates {
+    ghost use Rattle.image_search.specs.Kept.{IsFull, IsMetBy, IsMoreOf, IsSound};
+
+    /// No states yet, and how many may be kept.
+    pub fn new(alloc: Global, most: u32) -> KeptStates
+        ensures sound { IsSound result }
+        ensures most { result.most ≡ most }
+    {
+        KeptStates {
+            states: Vec::new(alloc),
+            parts: Parts::new(alloc),
+            ways: Vec::new(alloc),
+            places: Numbers::new(alloc),
+            most,
+        }
+    }
+
+    // Keeps a state of this digest that isn't kept; false where no more may be kept.
+    fn add(
+        &mut self,
+        alloc: Global,
+        packed: Packed,
+        digest: u64,
+        way: Way,
+    ) -> Result<bool, AllocError>
+        requires sound { IsSound self.old }
+        requires within { IsWithin self.old.parts packed }
+        ensures sound { OnOk result (IsSound self.new) }
+        ensures more { OnOk result (IsMoreOf self.old self.new) }
+        ensures kept { IfOk result (λ kept. MatchBool kept (HasKey self.new.states.items packed) (IsFull self.new)) }
+    {
+        let place = self.states.len();
+        if place >= self.most as usize {
+            return Ok(false);
+        }
+        self.places.note(alloc, digest, place as u32)?;
+        self.ways.push(way)?;
+        self.states.push(packed)?;
+        Ok(true)
+    }
+
+    // Keeps a state, unless it is kept; false where no more may be kept.
+    fn keep(&mut self, alloc: Global, packed: Packed, way: Way) -> Result<bool, AllocError>
+        requires sound { IsSound self.old }
+        requires within { IsWithin self.old.parts packed }
+        ensures sound { OnOk result (IsSound self.new) }
+        ensures more { OnOk result (IsMoreOf self.old self.new) }
+        ensures kept { IfOk result (λ kept. MatchBool kept (HasKey self.new.states.items packed) (IsFull self.new)) }
+    {
+        let digest = packed.digest();
+        if is_kept(self.states.as_slice(), &self.places, digest, &packed) {
+            return Ok(true);
+        }
+        self.add(alloc, packed, digest, way)
+    }
+
+    /// Keeps a state that was come to so, unless it is kept; else answers why it can't be.
+    pub fn keep_state(
+        &mut self,
+        alloc: Global,
+        packed: Packed,
+        way: Way,
+    ) -> Result<Option<Bound>, AllocError>
+        requires sound { IsSound self.old }
+        ensures sound { OnOk result (IsSound self.new) }
+        ensures more { OnOk result (IsMoreOf self.old self.new) }
+        ensures kept { IfOk result (λ o. MatchOption o (HasKey self.new.states.items packed) (IsMetBy self.new)) }
+    {
+        if !self.parts.is_within(&packed) {
+            return Ok(Some(Bound::Nexts(image_states::Bound::Foreign)));
+        }
+        if self.keep(alloc, packed, way)? {
+            return Ok(None);
+        }
+        Ok(Some(Bound::States))
+    }
+
+    /// Keeps all of these states, which come next of that at a place; else answers why they can't be.
+    pub fn keep_all(
+        &mut self,
+        alloc: Global,
+        nexts: &mut Vec<Next>,
+        before: u32,
+    ) -> Result<Option<Bound>, AllocError>
+        requires sound { IsSound self.old }
+        ensures sound { OnOk result (IsSound self.new) }
+        ensures more { OnOk result (IsMoreOf self.old self.new) }
+        ensures kept { IfOk result (λ o. MatchOption o ((next : NextOf) → Contains nexts.old.items next
+            → HasKey self.new.states.items next.state) (IsMetBy self.new)) }
+    {
+        while let Some(next) = nexts.pop() {
+            let Next {
+                state,
+                thread,
+                doing,
+            } = next;
+            let way = Way {
+                before,
+                thread,
+                doing,
+            };
+            if let Some(bound) = self.keep_state(alloc, state, way)? {
+                return Ok(Some(bound));
+            }
+        }
+        Ok(None)
+    }
+}

@@ -1,0 +1,182 @@
+ghost use Rattle.std.specs.Prelude.{◌≡◌, ◌<◌, All, IfOk, IfSome, List, MatchOption, None, OnOk, Some, ℕ};
+ghost use Rattle.std.specs.List.{slice_get};
+ghost use Rattle.machine.specs.States.{opening_state};
+ghost use Rattle.proof_image_search.specs.Searching.{IsCovered, Kept as KeptOf};
+ghost use Rattle.image_states.specs.Nexts.{AreNexts, may_of};
+ghost use Rattle.image_states.specs.Packed.{IsGrown, IsWithin};
+ghost use Rattle.image_states.specs.declared.packed.Packed.{Packed as PackedOf};
+ghost use Rattle.image_search.specs.Ends.{EndsSo, HasEnded};
+ghost use Rattle.image_search.specs.Kept.{IsExpandedAt, IsLookedAt, IsMetBy, IsMore, IsSound, IsToldAt, states_of};
+
+use crate::ending::{Bound, Ending};
+use crate::ends::{ends_of, shown};
+use crate::kept::KeptStates;
+use crate::progress::Progress;
+use image_states::{Next, Outside, Packed, Parts, Scratch};
+use isa::Image;
+use std::alloc::{AllocError, Global};
+
+// Of how many ends a schedule is tried that leads elsewhere, before none is tried any more.
+const MOST_TRIES: u32 = 64;
+
+// One more.
+fn one_more(passed: u32) -> u32
+    ensures { 0 < result }
+{
+    passed.saturating_add(1)
+}
+
+// How the search ends at the state that is kept at a place, where that is an end and a schedule that leads to it is found;
+// else it counts it, where it is one.
+fn look_at_ends(
+    alloc: Global,
+    image: &Image,
+    kept: &KeptStates,
+    place: u32,
+    outside: Outside,
+    passed: &mut u32,
+) -> Result<Option<Ending>, AllocError>
+    ensures ended { IfOk result (λ o. IfSome o (λ e. (most : ℕ) (states : List KeptOf)
+        → HasEnded image.now (may_of outside) most states e)) }
+    ensures told { IfOk result (λ o. o ≡ None
+        → IsToldAt image.now (states_of image.now kept.now) place passed.old passed.new) }
+{
+    let Some(packed) = kept.states.get(place as usize) else {
+        return Ok(Some(Ending::Bounded(Bound::Nexts(image_states::Bound::Foreign))));
+    };
+    let ends = ends_of(image, &kept.parts, packed);
+    if !ends.is_any() {
+        return Ok(None);
+    }
+    let tries = *passed < MOST_TRIES;
+    *passed = one_more(*passed);
+    if !tries {
+        return Ok(None);
+    }
+    let ending = shown(alloc, image, kept, place, outside, ends)?;
+    Ok(ending)
+}
+
+// What may come next of the state at a place; else why not all was found.
+fn nexts_at(
+    alloc: Global,
+    image: &Image,
+    parts: &mut Parts,
+    states: &[Packed],
+    place: u32,
+    outside: Outside,
+    scratch: &mut Scratch,
+    found: &mut Vec<Next>,
+) -> Result<Option<image_states::Bound>, AllocError>
+    requires { All (IsWithin parts.old) states.now }
+    ensures grown { OnOk result (IsGrown parts.old parts.new) }
+    ensures nexts { IfOk result (λ o. o ≡ None → (x : PackedOf) × (slice_get states.now place ≡ Some x)
+        × AreNexts image.now (may_of outside) parts.new x found.new.items) }
+{
+    let Some(packed) = states.get(place as usize) else {
+        return Ok(Some(image_states::Bound::Foreign));
+    };
+    parts.nexts(alloc, image, packed, outside, scratch, found)
+}
+
+// Keeps what may come next of the state that is kept at a place; else answers why not all is.
+fn expand(
+    alloc: Global,
+    image: &Image,
+    kept: &mut KeptStates,
+    place: u32,
+    outside: Outside,
+    scratch: &mut Scratch,
+) -> Result<Option<Bound>, AllocError>
+    requires sound { IsSound kept.old }
+    ensures sound { OnOk result (IsSound kept.new) }
+    ensures more { OnOk result (IsMore kept.old kept.new) }
+    ensures expanded { IfOk result (λ o. MatchOption o
+        (IsExpandedAt image.now (may_of outside) (states_of image.now kept.old) (states_of image.now kept.new) place)
+        (IsMetBy kept.new)) }
+{
+    let mut found = Vec::new(alloc);
+    let why = nexts_at(
+        alloc,
+        image,
+        &mut kept.parts,
+        kept.states.as_slice(),
+        place,
+        outside,
+        scratch,
+        &mut found,
+    )?;
+    if let Some(why) = why {
+        return Ok(Some(Bound::Nexts(why)));
+    }
+    let bound = kept.keep_all(alloc, &mut found, place)?;
+    Ok(bound)
+}
+
+// Looks at the state that is kept at a place, and keeps what may come next; or answers how the search ends there.
+fn look_at(
+    alloc: Global,
+    image: &Image,
+    kept: &mut KeptStates,
+    place: u32,
+    outside: Outside,
+    scratch: &mut Scratch,
+    passed: &mut u32,
+) -> Result<Option<Ending>, AllocError>
+    requires sound { IsSound kept.old }
+    ensures sound { OnOk result (IsSound kept.new) }
+    ensures more { OnOk result (IsMore kept.old kept.new) }
+    ensures looked { IfOk result (λ o. MatchOption o
+        (IsLookedAt image.now (may_of outside) (states_of image.now kept.old) (states_of image.now kept.new) place
+        passed.old passed.new)
+        (HasEnded image.now (may_of outside) kept.new.most (states_of image.now kept.new))) }
+{
+    if let Some(ending) = look_at_ends(alloc, image, kept, place, outside, passed)? {
+        return Ok(Some(ending));
+    }
+    match expand(alloc, image, kept, place, outside, scratch)? {
+        None => Ok(None),
+        Some(bound) => Ok(Some(Ending::Bounded(bound))),
+    }
+}
+
+// How a search ends that has looked at all states, of which so many ends were passed over.
+fn ending_of(passed: u32) -> Ending
+    ensures { EndsSo passed result }
+{
+    if passed == 0 {
+        return Ending::Complete;
+    }
+    Ending::Bounded(Bound::Choice)
+}
+
+/// Keeps all states that a schedule leads to, breadth first, as far as there is room and no end is found, and tells how far
+/// it has come.
+pub(crate) fn search<P: Progress>(
+    alloc: Global,
+    image: &Image,
+    kept: &mut KeptStates,
+    outside: Outside,
+    scratch: &mut Scratch,
+    progress: &mut P,
+) -> Result<Ending, AllocError>
+    requires sound { IsSound kept.old }
+    requires opens { (m : ℕ) × IsCovered image.now (states_of image.now kept.old) m (opening_state image.now) 0 }
+    ensures most { OnOk result (kept.new.most ≡ kept.old.most) }
+    ensures ended { IfOk result (HasEnded image.now (may_of outside) kept.old.most (states_of image.now kept.new)) }
+{
+    let mut passed = 0;
+    for place in 0..kept.most {
+        if place as usize >= kept.states.len() {
+            return Ok(ending_of(passed));
+        }
+        if let Some(ending) = look_at(alloc, image, kept, place, outside, scratch, &mut passed)? {
+            return Ok(ending);
+        }
+        progress.looked_at(kept.states.len(), place as usize + 1);
+    }
+    if kept.states.len() <= kept.most as usize {
+        return Ok(ending_of(passed));
+    }
+    Ok(Ending::Bounded(Bound::States))
+}

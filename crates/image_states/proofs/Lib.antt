@@ -1,0 +1,16 @@
+pub mod Subsets
+pub mod Growing
+pub mod Covering
+pub mod Served
+pub mod Choosing
+pub mod Planned
+pub mod Stepped
+pub mod Forked
+pub mod Begun
+pub mod Results
+pub mod Turned
+pub mod Found
+pub mod Sleeping
+pub mod Listing
+pub mod Marking
+pub mod Requeued

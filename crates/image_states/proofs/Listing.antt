@@ -1,0 +1,49 @@
+-- Lists of sleepers, as loops over them go on.
+use Rattle.std.proofs.Common.{◌≡◌, ◌<◌, ◌+◌, ◌++◌, ◌∙◌, ℕ, zero, suc, List, [], ◌∷◌, Option, Some, None, Bool, true, false, Contains}
+use Rattle.std.proofs.Common.{inl, inr, ap, arith, get_or, length, refl, subst, sym, take}
+use Rattle.std.specs.Prelude.{is_some, Vec}
+use Rattle.std.specs.Global.{Global}
+use Rattle.std.proofs.lemmas.List.{map_more}
+use Rattle.std.proofs.lemmas.List.Elements.{Contains-append_cases}
+use Rattle.image_states.specs.declared.next.Next.{Next as NextOf}
+use Rattle.image_states.specs.declared.packed.Packed.{Packed as PackedOf}
+use Rattle.image_states.specs.Choosing.{lists_in, HasPlaced}
+use Rattle.image_states.specs.Packed.{IsPrefix}
+use Rattle.image_states.proofs.Growing.{prefix_contains}
+
+pub is_none : {X : Type 0} (o : Option X) (b : Bool) → b ≡ is_some o → b ≡ false → o ≡ None
+is_none None b e f = refl
+is_none (Some x) b e f = absurd (let differ : true ≡ false = sym e ∙ f in cc)
+
+pub none_in : {X : Type 0} (x : X) → Contains [] x → ⊥
+none_in x (k, l, e) = omega (arith, l)
+
+pub none_listed : (lists : List (Vec ℕ Global)) (chosen : List ℕ) → Contains (lists_in (take 0 lists)) chosen → ⊥
+none_listed [] chosen has = none_in chosen has
+none_listed (l ∷ ls) chosen has = none_in chosen has
+
+only : {X : Type 0} (x y : X) → Contains (x ∷ []) y → x ≡ y
+only x y (zero, l, e) = e
+only x y (suc k, l, e) = absurd (omega (arith, l))
+
+pub one_more_list : (P : List ℕ → Type 0) (lists : List (Vec ℕ Global)) (i : ℕ) (list : Vec ℕ Global) → i < length lists
+    → list ≡ get_or lists i list → ((x : List ℕ) → Contains (lists_in (take i lists)) x → P x) → P list.items
+    → (x : List ℕ) → Contains (lists_in (take (i + 1) lists)) x → P x
+one_more_list P lists i list less is all one x has =
+    elim (Contains-append_cases (lists_in (take i lists)) (list.items ∷ []) x (subst (λ l. Contains l x) last has)) [
+      | inl c ↦ all x c
+      | inr c ↦ subst P (only list.items x c) one
+    ]
+  where
+    last : lists_in (take (i + 1) lists) ≡ lists_in (take i lists) ++ list.items ∷ []
+    last = map_more (λ (l : Vec ℕ Global). l.items) lists i list less
+        ∙ ap (λ (l : Vec ℕ Global). lists_in (take i lists) ++ l.items ∷ []) (sym is)
+
+pub placed_still : (x : PackedOf) (xs ys : List NextOf) (asleep : ℕ → Option ℕ) → IsPrefix xs ys → HasPlaced x xs asleep
+    → HasPlaced x ys asleep
+placed_still x xs ys asleep longer has = record {
+  next = has.next;
+  found = prefix_contains xs ys has.next longer has.found;
+  placed = has.placed;
+  killed = has.killed;
+}

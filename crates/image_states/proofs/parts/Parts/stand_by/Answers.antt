@@ -1,0 +1,18 @@
+use Rattle.std.proofs.Common.{subst, sym}
+use Rattle.std.proofs.lemmas.Result.{IfOk-weaker}
+use Rattle.image_states.specs.Exits.{WakesAt}
+use Rattle.image_states.specs.Nexts.{ReachesAt}
+use Rattle.image_states.specs.Packed.{asleep_at, words_in}
+use Rattle.image_states.proofs.parts.Parts.stand_by.Goals as goal
+
+pub returns-in-None-clause-reaches : goal.returns-in-None-clause-reaches
+returns-in-None-clause-reaches c = IfOk-weaker c.push_stand.result _ _ (λ o r none woken after wakes.
+    let nobody = subst (λ w. WakesAt w (asleep_at c.args.packed.now.places.items) woken after) c.in-None.is wakes in
+    subst (λ f. ReachesAt c.args.image.now c.push_stand.new.self c.args.packed.now c.push_stand.new.found.items c.args.t
+    (words_in c.push_stand.new.self.memories.items c.args.memory) f c.args.scratch.now.here) (sym nobody.1) (r none))
+    c.push_stand.ensures.reaches
+
+pub returns-in-Some-clause-reaches : goal.returns-in-Some-clause-reaches
+returns-in-Some-clause-reaches c = IfOk-weaker c.stand_one.result _ _ (λ o r none woken after wakes.
+    r none woken after (subst (λ w. WakesAt w (asleep_at c.args.packed.now.places.items) woken after) c.in-Some.is wakes))
+    c.stand_one.ensures.reaches

@@ -1,0 +1,10 @@
+pub mod Marks
+pub mod Packed
+pub mod Nexts
+pub mod Choosing
+pub mod Exits
+pub mod Accesses
+pub mod Ends
+pub mod Forking
+pub mod Opening
+pub mod Requeues

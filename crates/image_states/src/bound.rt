@@ -1,0 +1,10 @@
+/// Why not all that may come next of a state was found. A search that meets one isn't complete.
+#[derive(Clone, Copy)]
+pub enum Bound {
+    /// There are more local states or memories than numbers.
+    Parts,
+    /// More than twelve threads sleep on an address, of which some are woken or moved: there are too many sets of them.
+    Sleepers,
+    /// The state isn't one that a machine of this image comes to: a part is missing, or its memory is too small.
+    Foreign,
+}

@@ -1,0 +1,98 @@
+ghost use Rattle.std.specs.Prelude.{◌≡◌, ◌<◌, ◌^◌, ◌∷◌, [], Some, None, IfOk, IfSome, OnOk, length, replicate, slice_set, sum};
+ghost use Rattle.std.specs.List.{slice_get};
+ghost use Rattle.words.specs.Process.{process_word};
+ghost use Rattle.isa.specs.Programs.{memory_size};
+ghost use Rattle.machine.specs.States.{opening_state};
+ghost use Rattle.image_states.specs.Packed.{IsGrown, IsWithin};
+ghost use Rattle.image_states.specs.Nexts.{Covers};
+ghost use Rattle.image_states.specs.Opening.{IsAlone, IsOpening};
+
+use crate::packed::Packed;
+use crate::parts::Parts;
+use crate::running::Scratch;
+use isa::Image;
+use locals::opening_local;
+use std::alloc::{AllocError, Global};
+use words::{Mem, ProcessWord, block};
+
+fn total(numbers: &[u32]) -> u32
+    requires { sum numbers.now < 2 ^ 32 }
+    ensures { result ≡ sum numbers.now }
+{
+    numbers.iter().sum()
+}
+
+// How many words the memory of an image has.
+fn memory_len(image: &Image) -> usize
+    ensures { result ≡ memory_size image.now }
+{
+    let base = image.version().monitors_base() as usize;
+    base + 2 * image.monitors().len() + total(image.monitors()) as usize
+}
+
+// The words at the start of an image.
+fn opening_words(alloc: Global, image: &Image) -> Result<Mem, AllocError>
+    ensures { IfOk result (λ words. words ≡ slice_set (replicate (memory_size image.now) 0) 3 1) }
+{
+    let mut words = Mem::new(alloc, memory_len(image))?;
+    words.store(block(1, ProcessWord::Id), 1);
+    Ok(words)
+}
+
+// A state of one thread, which is awake.
+fn alone(alloc: Global, memory: u32, part: u32) -> Result<Packed, AllocError>
+    ensures { IfOk result (λ x. IsAlone x memory part) }
+{
+    let mut parts = Vec::new(alloc);
+    parts.push(part)?;
+    let mut places = Vec::new(alloc);
+    places.push(0)?;
+    Ok(Packed {
+        memory,
+        killed: 0,
+        parts,
+        places,
+    })
+}
+
+impl Parts {
+    /// The state in which an image begins, with thread 1 taken on by local steps; None where there are too many parts.
+    pub fn opening(
+        &mut self,
+        alloc: Global,
+        image: &Image,
+        scratch: &mut Scratch,
+    ) -> Result<Option<Packed>, AllocError>
+        ensures grown { OnOk result (IsGrown self.old self.new) }
+        ensures within { IfOk result (λ o. IfSome o (IsWithin self.new)) }
+        ensures covers { IfOk result (λ o. IfSome o
+            (λ x. Covers image.now self.new x (opening_state image.now) 0)) }
+    {
+        let words = opening_words(alloc, image)?;
+        match self.keep_memory(alloc, words, 0)? {
+            None => Ok(None),
+            Some(memory) => self.open(alloc, image, memory, scratch),
+        }
+    }
+
+    // The same with the memory of this number.
+    fn open(
+        &mut self,
+        alloc: Global,
+        image: &Image,
+        memory: u32,
+        scratch: &mut Scratch,
+    ) -> Result<Option<Packed>, AllocError>
+        requires { slice_get self.old.memories.items memory
+            ≡ Some (slice_set (replicate (memory_size image.now) 0) 3 1) }
+        ensures grown { OnOk result (IsGrown self.old self.new) }
+        ensures opens { IfOk result (λ o. IfSome o (IsOpening image.now self.new)) }
+    {
+        scratch.look_at(&opening_local(image.start(), &[]));
+        scratch.run_on(image, 1);
+        match self.local_number(alloc, image, 1, &scratch.here)? {
+            None => Ok(None),
+            Some(part) => Ok(Some(alone(alloc, memory, part)?)),
+        }
+    }
+}

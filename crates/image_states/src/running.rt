@@ -1,0 +1,52 @@
+ghost use Rattle.std.specs.Prelude.{◌≡◌, ℕ};
+ghost use Rattle.image_states.specs.Nexts.{RunsOn};
+
+use isa::Image;
+use locals::Local;
+use robustexit::ExitPhase;
+
+/// How many local steps a thread is taken on at once, at most.
+pub const MOST_AT_ONCE: u32 = 4096;
+
+/// Room for the local states that are tried, which a search has once.
+#[derive(Drop)]
+pub struct Scratch {
+    // The local state of the thread whose step is looked at.
+    pub(crate) here: Local,
+    // The same further on.
+    pub(crate) ahead: Local,
+}
+
+impl Scratch {
+    /// Room for them.
+    pub fn new() -> Scratch {
+        Scratch {
+            here: Local::exiting(ExitPhase::Ended),
+            ahead: Local::exiting(ExitPhase::Ended),
+        }
+    }
+
+    // The local state that is looked at is this one.
+    pub(crate) fn look_at(&mut self, local: &Local)
+        ensures { self.new.here ≡ local.now }
+    {
+        self.here.copy_from(local);
+    }
+
+    // Takes it on by local steps of thread `t`, by none of which it begins to die.
+    pub(crate) fn run_on(&mut self, image: &Image, t: u32)
+        ensures { (count : ℕ) × RunsOn image.now t count self.old.here self.new.here }
+    {
+        self.ahead.copy_from(&self.here);
+        let count = self.ahead.run(image, t, MOST_AT_ONCE);
+        if count == 0 {
+            return;
+        }
+        let dies = self.ahead.is_dying();
+        if dies {
+            self.here.run(image, t, count - 1);
+        } else {
+            self.here.copy_from(&self.ahead);
+        }
+    }
+}

@@ -1,0 +1,111 @@
+ghost use Rattle.std.specs.Prelude.{◌≡◌, ◌≤◌, ◌<◌, ℕ, List, None, Some, IfOk, IfSome, OnOk, length, true, Contains};
+ghost use Rattle.buckets.specs.Places.{names, with_place};
+ghost use Rattle.image_states.specs.Packed.{IsPrefix, asleep_at, place_of};
+ghost use Rattle.image_states.specs.Choosing.{AreChosen, AreSleepers, HasPlaced, chosen_of, lists_in};
+
+use crate::bound::Bound;
+use crate::each_set::sets;
+use crate::next::{Doing, Next};
+use crate::packed::{Packed, placed};
+use std::alloc::{AllocError, Global};
+
+// How many of so many sleepers are chosen, where so many may be.
+pub(crate) fn chosen_of(most: u32, sleepers: usize) -> usize
+    ensures { result ≡ chosen_of most sleepers }
+{
+    if most as usize <= sleepers {
+        most as usize
+    } else {
+        sleepers
+    }
+}
+
+// The state with these threads at a place comes next.
+pub(crate) fn push_placed(
+    alloc: Global,
+    packed: &Packed,
+    chosen: &[u32],
+    to: u32,
+    thread: u32,
+    found: &mut Vec<Next>,
+) -> Result<Option<Bound>, AllocError>
+    ensures longer { OnOk result (IsPrefix found.old.items found.new.items) }
+    ensures placed { IfOk result (λ o. o ≡ None → HasPlaced packed.now found.new.items
+        (with_place (asleep_at packed.now.places.items) chosen.now (place_of to))) }
+{
+    let Some(state) = placed(alloc, packed, chosen, to)? else {
+        return Ok(Some(Bound::Foreign));
+    };
+    found.push(Next {
+        state,
+        thread,
+        doing: Doing::Own,
+    })?;
+    Ok(None)
+}
+
+// The same where there are so many of these threads.
+fn push_set(
+    alloc: Global,
+    packed: &Packed,
+    chosen: &[u32],
+    size: usize,
+    to: u32,
+    thread: u32,
+    found: &mut Vec<Next>,
+) -> Result<Option<Bound>, AllocError>
+    ensures longer { OnOk result (IsPrefix found.old.items found.new.items) }
+    ensures placed { IfOk result (λ o. o ≡ None → length chosen.now ≡ size → HasPlaced packed.now found.new.items
+        (with_place (asleep_at packed.now.places.items) chosen.now (place_of to))) }
+{
+    if chosen.len() != size {
+        return Ok(None);
+    }
+    push_placed(alloc, packed, chosen, to, thread, found)
+}
+
+// The state with each of these sets of threads that has this size at a place comes next.
+fn push_sets(
+    alloc: Global,
+    packed: &Packed,
+    lists: &[Vec<u32>],
+    size: usize,
+    to: u32,
+    thread: u32,
+    found: &mut Vec<Next>,
+) -> Result<Option<Bound>, AllocError>
+    ensures longer { OnOk result (IsPrefix found.old.items found.new.items) }
+    ensures each { IfOk result (λ o. o ≡ None → (chosen : List ℕ) → Contains (lists_in lists.now) chosen
+        → length chosen ≡ size → HasPlaced packed.now found.new.items
+        (with_place (asleep_at packed.now.places.items) chosen (place_of to))) }
+{
+    for list in lists {
+        let bound = push_set(alloc, packed, list.as_slice(), size, to, thread, found)?;
+        if bound.is_some() {
+            return Ok(bound);
+        }
+    }
+    Ok(None)
+}
+
+// The state with each choice of so many of those that sleep at a place, which are these, at another comes next.
+pub(crate) fn push_choices(
+    alloc: Global,
+    packed: &Packed,
+    sleepers: &[u32],
+    size: usize,
+    to: u32,
+    thread: u32,
+    found: &mut Vec<Next>,
+) -> Result<Option<Bound>, AllocError>
+    ensures longer { OnOk result (IsPrefix found.old.items found.new.items) }
+    ensures each { IfOk result (λ o. o ≡ None → (place : ℕ) → AreSleepers packed.now.places.items place sleepers.now
+        → (chosen : List ℕ) → AreChosen packed.now.places.items place size chosen
+        → HasPlaced packed.now found.new.items
+        (with_place (asleep_at packed.now.places.items) chosen (place_of to))) }
+{
+    let Some(lists) = sets(alloc, sleepers)? else {
+        return Ok(Some(Bound::Sleepers));
+    };
+    push_sets(alloc, packed, lists.as_slice(), size, to, thread, found)
+}
