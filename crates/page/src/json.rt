@@ -1,8 +1,13 @@
+ghost use Rattle.page.specs.Json.{json_sign, json_string};
+ghost use Rattle.text_writer.specs.Writing.{IsWritten};
+
 use text_writer::TextWriter;
 
 // Writes a sign of a JSON string. Without `<` nothing in it ends the script that it stands in. Of other control signs it is
 // told that there is one.
-fn write_sign(out: &mut TextWriter, sign: char) {
+fn write_sign(out: &mut TextWriter, sign: char)
+    ensures { IsWritten out.old out.new (json_sign sign) }
+{
     match sign {
         '"' => out.text("\\\""),
         '\\' => out.text("\\\\"),
@@ -25,7 +30,9 @@ pub(crate) fn write_text(out: &mut TextWriter, text: &str) {
 }
 
 /// Writes bytes of ASCII as a JSON string.
-pub(crate) fn write_bytes(out: &mut TextWriter, bytes: &[u8]) {
+pub(crate) fn write_bytes(out: &mut TextWriter, bytes: &[u8])
+    ensures { IsWritten out.old out.new (json_string bytes.now) }
+{
     out.text("\"");
     for byte in bytes {
         write_sign(out, char::from(*byte));
