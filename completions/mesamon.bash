@@ -9,14 +9,16 @@ _mesamon_words() {
         list) echo IMAGE --source=FILE --hints ;;
         run) echo FILE --steps=N --in-order --seed=N --strays=N --kills=N --trace --log=OUT --page=OUT --hints ;;
         exec) echo IMAGE --steps=N --in-order --seed=N --strays=N --kills=N --trace --log=OUT ;;
-        replay) echo FILE SCHEDULE --trace --log=LOG --page=OUT --hints ;;
+        replay) echo FILE SCHEDULE --steps=N --trace --log=LOG --page=OUT --assembly --image --hints ;;
         explain)
             echo FILE --steps=N --seed=N --strays=N --kills=N --schedule=SCHEDULE --log=LOG
             echo --chart=OUT --from=N --to=N --timeline=OUT --page=OUT --places --hints ;;
         emit) echo FILE OUT --hints ;;
         assemble) echo FILE OUT --hints ;;
         explore)
-            echo FILE --states=N --strays --kills=N --chart=OUT --from=N --to=N --timeline=OUT --page=OUT --hints ;;
+            echo FILE --states=N --strays --kills=N --chart=OUT --from=N --to=N --timeline=OUT --page=OUT
+            echo --places --assembly --image --schedule=OUT --hints ;;
+        fmt) echo FILE --check --hints ;;
         help) echo COMMAND ;;
     esac
 }
@@ -31,7 +33,7 @@ _mesamon_offer() {
         LOG) ending=.log ;;
         OUT) ;;
         COMMAND)
-            mapfile -t COMPREPLY < <(compgen -W "check compile list run exec replay explain emit explore assemble help" -- "$2")
+            mapfile -t COMPREPLY < <(compgen -W "check compile list run exec replay explain emit explore assemble fmt help" -- "$2")
             return ;;
         *) return ;;
     esac

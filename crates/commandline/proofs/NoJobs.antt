@@ -1,5 +1,5 @@
 -- Where a value is missing, no job is asked for.
-use Rattle.std.proofs.Common.{◌≡◌, ◌⊎◌, inl, inr, ℕ, List, Option, None, codes}
+use Rattle.std.proofs.Common.{◌≡◌, ◌⊎◌, inl, inr, ℕ, Bool, true, false, List, [], ◌∷◌, Option, Some, None, codes}
 use Rattle.clap.specs.Words.{Row, first_of}
 use Rattle.commandline.specs.CommandLine.{IsCheckOf, IsCompileOf, IsEmitOf, IsExplainOf, IsListOf, AsksForExec}
 use Rattle.commandline.specs.CommandLine.{IsAssembleOf, IsExploreOf, ReadsChart, ReadsKills, ReadsStates}
@@ -12,7 +12,10 @@ use Rattle.commandline.specs.declared.options.ReplayedBy.{ReplayedBy}
 use Rattle.commandline.specs.declared.options.RunOptions.{RunOptions}
 use Rattle.commandline.specs.declared.job.Job.{Job}
 use Rattle.commandline.specs.declared.job.Job.TheVariants.{Check, Compile, List as List', Run, Exec, Replay, Explain}
-use Rattle.commandline.specs.declared.job.Job.TheVariants.{Emit, Explore, Assemble}
+use Rattle.commandline.specs.declared.job.Job.TheVariants.{Emit, Explore, Search, Follow, Assemble, Fmt}
+use Rattle.commandline.specs.declared.options.ImageForm.{ImageForm}
+use Rattle.commandline.specs.CommandLine.{IsFmtOf, ReadsForm, has_any, is_written, shows}
+use Rattle.commandline.proofs.NoSources.{clash, no_source}
 use Rattle.commandline.proofs.Numbers.{no_value}
 
 pub no_check : (rows : List Row) (job : Job) → first_of (codes "FILE") rows ≡ None → IsCheckOf rows job → ⊥
@@ -46,12 +49,29 @@ no_exec rows (Exec image options) (inl none) h = no_value _ _ none h.0
 no_exec rows (Exec image options) (inr none) h = none options h.1
 no_exec rows other missing h = h
 
-pub no_replay : (rows : List Row) (job : Job)
+pub no_replay : (rows : List Row) (job : Job) → ReadsForm rows None
     → (first_of (codes "FILE") rows ≡ None) ⊎ ((r : ReplayedBy) → IsReplayedBy rows r → ⊥) → AsksForReplay rows job
     → ⊥
-no_replay rows (Replay file by trace page hints) (inl none) h = no_value _ _ none h.0
-no_replay rows (Replay file by trace page hints) (inr none) h = none by h.1
-no_replay rows other missing h = h
+no_replay rows (Replay file by trace page hints) source (inl none) h = no_value _ _ none h.0
+no_replay rows (Replay file by trace page hints) source (inr none) h = none by h.1
+no_replay rows (Follow file form schedule trace log hints) source missing h = no_source rows form source h.1
+no_replay rows other source missing h = h
+
+pub no_follow : (rows : List Row) (job : Job) (form : ImageForm) → ReadsForm rows (Some form)
+    → (has_any (codes "steps" ∷ codes "page" ∷ []) rows ≡ true)
+    ⊎ ((first_of (codes "FILE") rows ≡ None) ⊎ (first_of (codes "SCHEDULE") rows ≡ None)) → AsksForReplay rows job
+    → ⊥
+no_follow rows (Replay file by trace page hints) form image missing h = no_source rows form h.5 image
+no_follow rows (Follow file f schedule trace log hints) form image (inl more) h = clash _ more h.5
+no_follow rows (Follow file f schedule trace log hints) form image (inr (inl none)) h = no_value _ _ none h.0
+no_follow rows (Follow file f schedule trace log hints) form image (inr (inr none)) h = no_value _ _ none h.2
+no_follow rows other form image missing h = h
+
+pub no_formed_replay : (rows : List Row) (job : Job) → ((f : Option ImageForm) → ReadsForm rows f → ⊥)
+    → AsksForReplay rows job → ⊥
+no_formed_replay rows (Replay file by trace page hints) none h = none None h.5
+no_formed_replay rows (Follow file form schedule trace log hints) none h = none (Some form) h.1
+no_formed_replay rows other none h = h
 
 pub no_explain : (rows : List Row) (job : Job)
     → (first_of (codes "FILE") rows ≡ None) ⊎ (((e : ExplainedBy) → IsExplainedBy rows e → ⊥)
@@ -67,15 +87,43 @@ no_emit rows (Emit file out hints) (inl none) h = no_value _ _ none h.0
 no_emit rows (Emit file out hints) (inr none) h = no_value _ _ none h.1
 no_emit rows other missing h = h
 
-pub no_explore : (rows : List Row) (job : Job)
-    → (first_of (codes "FILE") rows ≡ None) ⊎ (((n : ℕ) → ReadsStates rows n → ⊥)
-    ⊎ (((n : ℕ) → ReadsKills rows n → ⊥) ⊎ ((c : Option ChartOptions) → ReadsChart rows c → ⊥)))
+pub no_explore : (rows : List Row) (job : Job) → ReadsForm rows None
+    → (is_written (codes "schedule") rows ≡ true) ⊎ ((first_of (codes "FILE") rows ≡ None)
+    ⊎ (((n : ℕ) → ReadsStates rows n → ⊥) ⊎ (((n : ℕ) → ReadsKills rows n → ⊥)
+    ⊎ ((c : Option ChartOptions) → ReadsChart rows c → ⊥)))) → IsExploreOf rows job → ⊥
+no_explore rows (Explore file states strays kills chart timeline page places hints) source (inl more) h = clash _ more h.10
+no_explore rows (Explore file states strays kills chart timeline page places hints) source (inr (inl none)) h =
+    no_value _ _ none h.0
+no_explore rows (Explore file states strays kills chart timeline page places hints) source (inr (inr (inl none))) h =
+    none states h.1
+no_explore rows (Explore file states strays kills chart timeline page places hints) source (inr (inr (inr (inl none)))) h =
+    none kills h.3
+no_explore rows (Explore file states strays kills chart timeline page places hints) source (inr (inr (inr (inr none)))) h =
+    none chart h.4
+no_explore rows (Search file form states strays kills schedule hints) source missing h = no_source rows form source h.1
+no_explore rows other source missing h = h
+
+pub no_search : (rows : List Row) (job : Job) (form : ImageForm) → ReadsForm rows (Some form)
+    → (has_any shows rows ≡ true)
+    ⊎ ((first_of (codes "FILE") rows ≡ None) ⊎ (((n : ℕ) → ReadsStates rows n → ⊥)
+    ⊎ ((n : ℕ) → ReadsKills rows n → ⊥))) → IsExploreOf rows job → ⊥
+no_search rows (Explore file states strays kills chart timeline page places hints) form image missing h =
+    no_source rows form h.9 image
+no_search rows (Search file f states strays kills schedule hints) form image (inl more) h = clash _ more h.6
+no_search rows (Search file f states strays kills schedule hints) form image (inr (inl none)) h = no_value _ _ none h.0
+no_search rows (Search file f states strays kills schedule hints) form image (inr (inr (inl none))) h = none states h.2
+no_search rows (Search file f states strays kills schedule hints) form image (inr (inr (inr none))) h = none kills h.4
+no_search rows other form image missing h = h
+
+pub no_formed_search : (rows : List Row) (job : Job) → ((f : Option ImageForm) → ReadsForm rows f → ⊥)
     → IsExploreOf rows job → ⊥
-no_explore rows (Explore file states strays kills chart timeline page hints) (inl none) h = no_value _ _ none h.0
-no_explore rows (Explore file states strays kills chart timeline page hints) (inr (inl none)) h = none states h.1
-no_explore rows (Explore file states strays kills chart timeline page hints) (inr (inr (inl none))) h = none kills h.3
-no_explore rows (Explore file states strays kills chart timeline page hints) (inr (inr (inr none))) h = none chart h.4
-no_explore rows other missing h = h
+no_formed_search rows (Explore file states strays kills chart timeline page places hints) none h = none None h.9
+no_formed_search rows (Search file form states strays kills schedule hints) none h = none (Some form) h.1
+no_formed_search rows other none h = h
+
+pub no_fmt : (rows : List Row) (job : Job) → first_of (codes "FILE") rows ≡ None → IsFmtOf rows job → ⊥
+no_fmt rows (Fmt file check hints) none h = no_value _ _ none h.0
+no_fmt rows other none h = h
 
 pub no_assemble : (rows : List Row) (job : Job)
     → (first_of (codes "FILE") rows ≡ None) ⊎ (first_of (codes "OUT") rows ≡ None) → IsAssembleOf rows job → ⊥

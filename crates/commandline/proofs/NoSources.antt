@@ -10,11 +10,14 @@ use Rattle.commandline.specs.declared.options.ExplainedBy.TheVariants.{Order as 
 use Rattle.commandline.specs.declared.options.ExplainedBy.TheVariants.{Schedule as BySchedule, Log as ByLog}
 use Rattle.commandline.specs.declared.options.Order.{Order}
 use Rattle.commandline.specs.declared.options.Order.TheVariants.{Workers, InOrder, Seed}
+use Rattle.commandline.specs.CommandLine.{ReadsForm}
+use Rattle.commandline.specs.declared.options.ImageForm.{ImageForm}
+use Rattle.commandline.specs.declared.options.ImageForm.TheVariants as form
 use Rattle.commandline.specs.declared.options.ReplayedBy.{ReplayedBy}
 use Rattle.commandline.specs.declared.options.ReplayedBy.TheVariants.{Schedule, Log}
 use Rattle.commandline.proofs.Numbers.{no_value}
 
-clash : (b : Bool) → b ≡ true → b ≡ false → ⊥
+pub clash : (b : Bool) → b ≡ true → b ≡ false → ⊥
 clash b stands out = true≢false (sym stands ∙ out)
 
 -- of two that are or, neither is
@@ -95,13 +98,35 @@ no_seed rows (Seed n s k) order seed (inl none) h = none n h.2
 no_seed rows (Seed n s k) order seed (inr (inl none)) h = none s h.3
 no_seed rows (Seed n s k) order seed (inr (inr none)) h = none k h.4
 
+-- of two texts one is none, where the same is said of both
+no_both : (o : Option Text) (t : Text) → o ≡ Some t → o ≡ None → ⊥
+no_both o t some none = no_value _ _ none some
+
 pub no_replayed : (rows : List Row) (r : ReplayedBy) → first_of (codes "SCHEDULE") rows ≡ None
-    → first_of (codes "log") rows ≡ None → IsReplayedBy rows r → ⊥
-no_replayed rows (Schedule schedule log) none no_log h = no_value _ _ none h.0
-no_replayed rows (Log log) none no_log h = no_value _ _ no_log h.1
+    → (first_of (codes "log") rows ≡ None) ⊎ ((n : ℕ) → ReadsSteps rows n → ⊥) → IsReplayedBy rows r → ⊥
+no_replayed rows (Schedule schedule log) none why h = no_value _ _ none h.0
+no_replayed rows (Log log steps) none (inl no_log) h = no_value _ _ no_log h.1
+no_replayed rows (Log log steps) none (inr no_steps) h = no_steps steps h.2
+
+pub no_scheduled : (rows : List Row) (r : ReplayedBy) (t : Text) → first_of (codes "SCHEDULE") rows ≡ Some t
+    → is_written (codes "steps") rows ≡ true → IsReplayedBy rows r → ⊥
+no_scheduled rows (Schedule schedule log) t some written h = clash _ written h.2
+no_scheduled rows (Log log steps) t some written h = no_both _ t some h.0
+
+-- of two flags both stand, so there is no form
+pub no_form : (rows : List Row) (f : Option ImageForm) → is_written (codes "assembly") rows ≡ true
+    → is_written (codes "image") rows ≡ true → ReadsForm rows f → ⊥
+no_form rows None assembly image h = clash _ assembly (first_out (codes "assembly") (codes "image" ∷ []) rows h)
+no_form rows (Some form.Assembly) assembly image h = clash _ image h.1
+no_form rows (Some form.Image) assembly image h = clash _ assembly h.0
+
+-- a file of one form is none of another
+pub no_source : (rows : List Row) (f : ImageForm) → ReadsForm rows None → ReadsForm rows (Some f) → ⊥
+no_source rows form.Assembly none h = clash _ h.0 (first_out (codes "assembly") (codes "image" ∷ []) rows none)
+no_source rows form.Image none h = clash _ h.1 (second_out (codes "assembly") (codes "image") [] rows none)
 
 pub no_schedule : (rows : List Row) (e : ExplainedBy) → is_written (codes "schedule") rows ≡ true
-    → (has_any (codes "log" ∷ codes "seed" ∷ codes "steps" ∷ codes "strays" ∷ codes "kills" ∷ []) rows ≡ true)
+    → (has_any (codes "steps" ∷ codes "log" ∷ codes "seed" ∷ codes "strays" ∷ codes "kills" ∷ []) rows ≡ true)
     ⊎ (first_of (codes "schedule") rows ≡ None) → IsExplainedBy rows e → ⊥
 no_schedule rows (ByOrder steps) written why h =
     clash _ written (first_out (codes "schedule") (codes "log" ∷ codes "seed" ∷ outside) rows h.0)
@@ -109,27 +134,28 @@ no_schedule rows (BySeed steps seed strays kills) written why h =
     clash _ written (first_out (codes "schedule") (codes "log" ∷ []) rows h.0)
 no_schedule rows (BySchedule schedule) written (inl more) h = clash _ more h.0
 no_schedule rows (BySchedule schedule) written (inr none) h = no_value _ _ none h.2
-no_schedule rows (ByLog log) written why h =
-    clash _ written (first_out (codes "schedule") (codes "seed" ∷ codes "steps" ∷ outside) rows h.0)
+no_schedule rows (ByLog log steps) written why h =
+    clash _ written (first_out (codes "schedule") (codes "seed" ∷ outside) rows h.0)
 
 pub no_log : (rows : List Row) (e : ExplainedBy) → is_written (codes "log") rows ≡ true
-    → (has_any (codes "schedule" ∷ codes "seed" ∷ codes "steps" ∷ codes "strays" ∷ codes "kills" ∷ []) rows ≡ true)
-    ⊎ (first_of (codes "log") rows ≡ None) → IsExplainedBy rows e → ⊥
+    → (has_any (codes "schedule" ∷ codes "seed" ∷ codes "strays" ∷ codes "kills" ∷ []) rows ≡ true)
+    ⊎ ((first_of (codes "log") rows ≡ None) ⊎ ((n : ℕ) → ReadsSteps rows n → ⊥)) → IsExplainedBy rows e → ⊥
 no_log rows (ByOrder steps) written why h =
     clash _ written (second_out (codes "schedule") (codes "log") (codes "seed" ∷ outside) rows h.0)
 no_log rows (BySeed steps seed strays kills) written why h =
     clash _ written (second_out (codes "schedule") (codes "log") [] rows h.0)
 no_log rows (BySchedule schedule) written why h =
-    clash _ written (first_out (codes "log") (codes "seed" ∷ codes "steps" ∷ outside) rows h.0)
-no_log rows (ByLog log) written (inl more) h = clash _ more h.0
-no_log rows (ByLog log) written (inr none) h = no_value _ _ none h.2
+    clash _ written (second_out (codes "steps") (codes "log") (codes "seed" ∷ outside) rows h.0)
+no_log rows (ByLog log steps) written (inl more) h = clash _ more h.0
+no_log rows (ByLog log steps) written (inr (inl none)) h = no_value _ _ none h.2
+no_log rows (ByLog log steps) written (inr (inr none)) h = none steps h.3
 
 pub no_steps : (rows : List Row) (e : ExplainedBy) → is_written (codes "schedule") rows ≡ false
     → is_written (codes "log") rows ≡ false → ((n : ℕ) → ReadsSteps rows n → ⊥) → IsExplainedBy rows e → ⊥
 no_steps rows (ByOrder steps) schedule log none h = none steps h.1
 no_steps rows (BySeed steps seed strays kills) schedule log none h = none steps h.2
 no_steps rows (BySchedule name) schedule log none h = clash _ h.1 schedule
-no_steps rows (ByLog name) schedule log none h = clash _ h.1 log
+no_steps rows (ByLog name steps) schedule log none h = clash _ h.1 log
 
 pub no_seeded : (rows : List Row) (e : ExplainedBy) → is_written (codes "schedule") rows ≡ false
     → is_written (codes "log") rows ≡ false → is_written (codes "seed") rows ≡ true
@@ -142,7 +168,7 @@ no_seeded rows (BySeed steps seed strays kills) schedule log written (inl none) 
 no_seeded rows (BySeed steps seed strays kills) schedule log written (inr (inl none)) h = none strays h.4
 no_seeded rows (BySeed steps seed strays kills) schedule log written (inr (inr none)) h = none kills h.5
 no_seeded rows (BySchedule name) schedule log seed none h = clash _ h.1 schedule
-no_seeded rows (ByLog name) schedule log seed none h = clash _ h.1 log
+no_seeded rows (ByLog name steps) schedule log seed none h = clash _ h.1 log
 
 pub no_seedless : (rows : List Row) (e : ExplainedBy) → is_written (codes "schedule") rows ≡ false
     → is_written (codes "log") rows ≡ false → is_written (codes "seed") rows ≡ false
@@ -152,4 +178,4 @@ no_seedless rows (ByOrder steps) schedule log seed some h =
     (rest_out (codes "schedule") (codes "log" ∷ codes "seed" ∷ outside) rows h.0)))
 no_seedless rows (BySeed steps n s k) schedule log seed some h = clash _ h.1 seed
 no_seedless rows (BySchedule name) schedule log seed some h = clash _ h.1 schedule
-no_seedless rows (ByLog name) schedule log seed some h = clash _ h.1 log
+no_seedless rows (ByLog name steps) schedule log seed some h = clash _ h.1 log

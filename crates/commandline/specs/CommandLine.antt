@@ -32,10 +32,12 @@ use Rattle.commandline.specs.declared.options.ExplainedBy.TheVariants.{Seed as E
 use Rattle.commandline.specs.declared.options.ExplainedBy.TheVariants.{Schedule as ExplainedBySchedule}
 use Rattle.commandline.specs.declared.options.ExplainedBy.TheVariants.{Log as ExplainedByLog}
 use Rattle.commandline.specs.declared.options.ChartOptions.{ChartOptions}
+use Rattle.commandline.specs.declared.options.ImageForm.{ImageForm}
+use Rattle.commandline.specs.declared.options.ImageForm.TheVariants as form
 use Rattle.commandline.specs.declared.options.RunOptions.{RunOptions}
 use Rattle.commandline.specs.declared.job.Job.{Job}
 use Rattle.commandline.specs.declared.job.Job.TheVariants.{Check, Compile, List as List', Run, Exec, Replay}
-use Rattle.commandline.specs.declared.job.Job.TheVariants.{Explain, Emit, Explore, Assemble}
+use Rattle.commandline.specs.declared.job.Job.TheVariants.{Explain, Emit, Explore, Search, Follow, Assemble, Fmt}
 
 -- an argument that has to stand, told by its position
 abbrev pub positional : Text → Rule
@@ -156,12 +158,17 @@ run_command =
 abbrev pub exec_command : App
 exec_command = with_run_options (with_rule (new_app (codes "exec")) (positional (codes "IMAGE")))
 
--- `replay FILE (SCHEDULE [--log OUT] | --log LOG) [--trace] [--page OUT] [--hints]`
+-- `[--assembly | --image]`
+abbrev pub with_form : App → App
+with_form app = with_rule (with_rule app (flag (codes "assembly"))) (flag (codes "image"))
+
+-- `replay FILE (SCHEDULE [--log OUT] | --log LOG [--steps N]) [--trace] [--page OUT] [--hints]`, or of an image
+-- `replay FILE SCHEDULE [--log OUT] [--trace] (--assembly | --image) [--hints]`
 abbrev pub replay_command : App
 replay_command =
-    with_rule (with_rule (with_rule (with_rule (with_rule (with_rule (new_app (codes "replay"))
-    (positional (codes "FILE"))) (new_rule (codes "SCHEDULE"))) (flag (codes "trace"))) (valued (codes "log")))
-    (valued (codes "page"))) (flag (codes "hints"))
+    with_rule (with_form (with_rule (with_rule (with_rule (with_rule (with_rule (with_rule (new_app (codes "replay"))
+    (positional (codes "FILE"))) (new_rule (codes "SCHEDULE"))) steps_option) (flag (codes "trace")))
+    (valued (codes "log"))) (valued (codes "page")))) (flag (codes "hints"))
 
 -- `[--chart OUT [--from N] [--to N]]`
 abbrev pub with_chart_options : App → App
@@ -169,7 +176,7 @@ with_chart_options app =
     with_rule (with_rule (with_rule app (valued (codes "chart"))) (action_option (codes "from")))
     (action_option (codes "to"))
 
--- `explain FILE [[--steps N] [--seed N [--strays N] [--kills N]] | --schedule SCHEDULE | --log LOG]
+-- `explain FILE [[--steps N] [--seed N [--strays N] [--kills N]] | --schedule SCHEDULE | --log LOG [--steps N]]
 -- [--chart OUT [--from N] [--to N]] [--timeline OUT] [--page OUT] [--places] [--hints]`
 abbrev pub explain_command : App
 explain_command =
@@ -179,17 +186,25 @@ explain_command =
     (valued (codes "page"))) (flag (codes "places"))) (flag (codes "hints"))
 
 -- `explore FILE [--states N] [--strays] [--kills N] [--chart OUT [--from N] [--to N]] [--timeline OUT] [--page OUT]
--- [--hints]`
+-- [--places] [--hints]`, or of an image
+-- `explore FILE [--states N] [--strays] [--kills N] (--assembly | --image) [--schedule OUT] [--hints]`
 abbrev pub explore_command : App
 explore_command =
-    with_rule (with_rule (with_rule (with_chart_options (with_rule (with_rule (with_rule (with_rule
-    (new_app (codes "explore")) (positional (codes "FILE"))) states_option) (flag (codes "strays"))) kills_option))
-    (valued (codes "timeline"))) (valued (codes "page"))) (flag (codes "hints"))
+    with_rule (with_rule (with_form (with_rule (with_rule (with_rule (with_chart_options (with_rule (with_rule
+    (with_rule (with_rule (new_app (codes "explore")) (positional (codes "FILE"))) states_option)
+    (flag (codes "strays"))) kills_option)) (valued (codes "timeline"))) (valued (codes "page"))) (flag (codes "places"))))
+    (valued (codes "schedule"))) (flag (codes "hints"))
 
 -- `assemble FILE OUT [--hints]`
 abbrev pub assemble_command : App
 assemble_command =
     with_rule (with_rule (with_rule (new_app (codes "assemble")) (positional (codes "FILE"))) (positional (codes "OUT")))
+    (flag (codes "hints"))
+
+-- `fmt FILE [--check] [--hints]`
+abbrev pub fmt_command : App
+fmt_command =
+    with_rule (with_rule (with_rule (new_app (codes "fmt")) (positional (codes "FILE"))) (flag (codes "check")))
     (flag (codes "hints"))
 
 -- an option that takes these numbers
@@ -305,13 +320,13 @@ top_command =
     let named = new_app (codes "mesamon") in
     record named { top = record named.top { no_binary_name = true; subcommand_required = true } }
 
--- `mesamon` with its ten commands
+-- `mesamon` with its eleven commands
 abbrev pub command_line : App
 command_line =
-    with_subcommand (with_subcommand (with_subcommand (with_subcommand (with_subcommand (with_subcommand
+    with_subcommand (with_subcommand (with_subcommand (with_subcommand (with_subcommand (with_subcommand (with_subcommand
     (with_subcommand (with_subcommand (with_subcommand (with_subcommand top_command check_command.top)
     compile_command.top) list_command.top) run_command.top) exec_command.top) replay_command.top) explain_command.top)
-    emit_command.top) explore_command.top) assemble_command.top
+    emit_command.top) explore_command.top) assemble_command.top) fmt_command.top
 
 -- who moves the threads of a run: a worker for each, or one worker in a fixed order or in that of a seed, beside which
 -- alone stray wakes and kills may be asked for
@@ -331,16 +346,30 @@ ReadsOptions rows o =
     ReadsSteps rows o.steps × ReadsOrder rows o.order × ReadsFlag (codes "trace") rows o.trace
     × (first_of (codes "log") rows ≡ option_map (λ log. log.now) o.log)
 
--- what a replay goes by: where a schedule stands, that one, and its log is kept; else a log
+-- how a run of a source text is shown beside its lines
+abbrev pub shows : List Text
+shows =
+    codes "chart" ∷ codes "from" ∷ codes "to" ∷ codes "timeline" ∷ codes "page" ∷ codes "places" ∷ []
+
+-- a file's form: where one of two flags stands it is an assembly text or an image, else a source text
+abbrev pub ReadsForm : List Row → Option ImageForm → Type 0
+ReadsForm rows None = has_any (codes "assembly" ∷ codes "image" ∷ []) rows ≡ false
+ReadsForm rows (Some form.Assembly) =
+    (is_written (codes "assembly") rows ≡ true) × (is_written (codes "image") rows ≡ false)
+ReadsForm rows (Some form.Image) =
+    (is_written (codes "assembly") rows ≡ false) × (is_written (codes "image") rows ≡ true)
+
+-- what a replay goes by: where a schedule stands, that one, its log is kept, and it has no limit of steps; else a log
+-- of at most so many
 abbrev pub IsReplayedBy : List Row → ReplayedBy → Type 0
 IsReplayedBy rows (ReplayedBySchedule schedule log) =
     (first_of (codes "SCHEDULE") rows ≡ Some schedule.now)
-    × (first_of (codes "log") rows ≡ option_map (λ log. log.now) log)
-IsReplayedBy rows (ReplayedByLog log) =
-    (first_of (codes "SCHEDULE") rows ≡ None) × (first_of (codes "log") rows ≡ Some log.now)
+    × (first_of (codes "log") rows ≡ option_map (λ log. log.now) log) × (is_written (codes "steps") rows ≡ false)
+IsReplayedBy rows (ReplayedByLog log steps) =
+    (first_of (codes "SCHEDULE") rows ≡ None) × (first_of (codes "log") rows ≡ Some log.now) × ReadsSteps rows steps
 
--- which run is explained: it has one source, and a schedule or a log no limit of steps; stray wakes and kills stand
--- beside a seed alone
+-- which run is explained: it has one source, and a schedule no limit of steps; stray wakes and kills stand beside a seed
+-- alone
 abbrev pub IsExplainedBy : List Row → ExplainedBy → Type 0
 IsExplainedBy rows (ExplainedByOrder steps) =
     (has_any (codes "schedule" ∷ codes "log" ∷ codes "seed" ∷ codes "strays" ∷ codes "kills" ∷ []) rows ≡ false)
@@ -349,11 +378,11 @@ IsExplainedBy rows (ExplainedBySeed steps seed strays kills) =
     (has_any (codes "schedule" ∷ codes "log" ∷ []) rows ≡ false) × (is_written (codes "seed") rows ≡ true)
     × ReadsSteps rows steps × ReadsSeed rows seed × ReadsStrays rows strays × ReadsKills rows kills
 IsExplainedBy rows (ExplainedBySchedule schedule) =
-    (has_any (codes "log" ∷ codes "seed" ∷ codes "steps" ∷ codes "strays" ∷ codes "kills" ∷ []) rows ≡ false)
+    (has_any (codes "steps" ∷ codes "log" ∷ codes "seed" ∷ codes "strays" ∷ codes "kills" ∷ []) rows ≡ false)
     × (is_written (codes "schedule") rows ≡ true) × (first_of (codes "schedule") rows ≡ Some schedule.now)
-IsExplainedBy rows (ExplainedByLog log) =
-    (has_any (codes "schedule" ∷ codes "seed" ∷ codes "steps" ∷ codes "strays" ∷ codes "kills" ∷ []) rows ≡ false)
-    × (is_written (codes "log") rows ≡ true) × (first_of (codes "log") rows ≡ Some log.now)
+IsExplainedBy rows (ExplainedByLog log steps) =
+    (has_any (codes "schedule" ∷ codes "seed" ∷ codes "strays" ∷ codes "kills" ∷ []) rows ≡ false)
+    × (is_written (codes "log") rows ≡ true) × (first_of (codes "log") rows ≡ Some log.now) × ReadsSteps rows steps
 
 -- a job of checking, from the values of its command's arguments
 abbrev pub IsCheckOf : List Row → Job → Type 0
@@ -387,11 +416,17 @@ abbrev pub AsksForExec : List Row → Job → Type 0
 AsksForExec rows (Exec image options) = (first_of (codes "IMAGE") rows ≡ Some image.now) × ReadsOptions rows options
 AsksForExec rows other = ⊥
 
--- a job of running again
+-- a job of running again, or of running an image by a schedule
 abbrev pub AsksForReplay : List Row → Job → Type 0
 AsksForReplay rows (Replay file by trace page hints) =
     (first_of (codes "FILE") rows ≡ Some file.now) × IsReplayedBy rows by × ReadsFlag (codes "trace") rows trace
     × (first_of (codes "page") rows ≡ option_map (λ out. out.now) page) × ReadsFlag (codes "hints") rows hints
+    × ReadsForm rows None
+AsksForReplay rows (Follow file form schedule trace log hints) =
+    (first_of (codes "FILE") rows ≡ Some file.now) × ReadsForm rows (Some form)
+    × (first_of (codes "SCHEDULE") rows ≡ Some schedule.now) × ReadsFlag (codes "trace") rows trace
+    × (first_of (codes "log") rows ≡ option_map (λ log. log.now) log)
+    × (has_any (codes "steps" ∷ codes "page" ∷ []) rows ≡ false) × ReadsFlag (codes "hints") rows hints
 AsksForReplay rows other = ⊥
 
 -- a job of explaining
@@ -410,13 +445,19 @@ IsEmitOf rows (Emit file out hints) =
     × ReadsFlag (codes "hints") rows hints
 IsEmitOf rows other = ⊥
 
--- a job of searching all runs
+-- a job of searching all runs, or all schedules of an image
 abbrev pub IsExploreOf : List Row → Job → Type 0
-IsExploreOf rows (Explore file states strays kills chart timeline page hints) =
+IsExploreOf rows (Explore file states strays kills chart timeline page places hints) =
     (first_of (codes "FILE") rows ≡ Some file.now) × ReadsStates rows states × ReadsFlag (codes "strays") rows strays
     × ReadsKills rows kills × ReadsChart rows chart
     × (first_of (codes "timeline") rows ≡ option_map (λ out. out.now) timeline)
-    × (first_of (codes "page") rows ≡ option_map (λ out. out.now) page) × ReadsFlag (codes "hints") rows hints
+    × (first_of (codes "page") rows ≡ option_map (λ out. out.now) page) × ReadsFlag (codes "places") rows places
+    × ReadsFlag (codes "hints") rows hints × ReadsForm rows None × (is_written (codes "schedule") rows ≡ false)
+IsExploreOf rows (Search file form states strays kills schedule hints) =
+    (first_of (codes "FILE") rows ≡ Some file.now) × ReadsForm rows (Some form) × ReadsStates rows states
+    × ReadsFlag (codes "strays") rows strays × ReadsKills rows kills
+    × (first_of (codes "schedule") rows ≡ option_map (λ out. out.now) schedule)
+    × (has_any shows rows ≡ false) × ReadsFlag (codes "hints") rows hints
 IsExploreOf rows other = ⊥
 
 -- a job of assembling
@@ -426,6 +467,13 @@ IsAssembleOf rows (Assemble file out hints) =
     × ReadsFlag (codes "hints") rows hints
 IsAssembleOf rows other = ⊥
 
+-- a job of laying out
+abbrev pub IsFmtOf : List Row → Job → Type 0
+IsFmtOf rows (Fmt file check hints) =
+    (first_of (codes "FILE") rows ≡ Some file.now) × ReadsFlag (codes "check") rows check
+    × ReadsFlag (codes "hints") rows hints
+IsFmtOf rows other = ⊥
+
 -- the job that the command of a name asks for, with these values of its arguments
 abbrev pub IsAskedBy : Option (Text × List Row) → Job → Type 0
 IsAskedBy None job = ⊥
@@ -434,8 +482,8 @@ IsAskedBy (Some (name, rows)) job =
     ⊎ (((name ≡ codes "list") × IsListOf rows job) ⊎ (((name ≡ codes "run") × AsksForRun rows job)
     ⊎ (((name ≡ codes "exec") × AsksForExec rows job) ⊎ (((name ≡ codes "replay") × AsksForReplay rows job)
     ⊎ (((name ≡ codes "explain") × IsExplainOf rows job) ⊎ (((name ≡ codes "emit") × IsEmitOf rows job)
-    ⊎ (((name ≡ codes "explore") × IsExploreOf rows job)
-    ⊎ ((name ≡ codes "assemble") × IsAssembleOf rows job)))))))))
+    ⊎ (((name ≡ codes "explore") × IsExploreOf rows job) ⊎ (((name ≡ codes "assemble") × IsAssembleOf rows job)
+    ⊎ ((name ≡ codes "fmt") × IsFmtOf rows job))))))))))
 
 -- the parser finds nothing wrong with the words: they are those of one of the commands, each option at most once, each
 -- number within its bounds, and nothing is missing

@@ -1,18 +1,20 @@
-ghost use Rattle.std.specs.Prelude.{IfOk, IfErr, IfSome, None, true, map, ◌≡◌};
+ghost use Rattle.std.specs.Prelude.{IfOk, IfErr, IfSome, None, Some, true, map, ◌≡◌};
 ghost use Rattle.clap.specs.Words.{app_of, found_of, kind_of, subcommand_rows_of, takes};
 ghost use Rattle.clap.specs.Walk.{rows_of};
 ghost use Rattle.clap.specs.declared.error.kind.ErrorKind.TheVariants.{OutOfMemory};
 ghost use Rattle.commandline.specs.CommandLine.{AreInOrder, AsksFor, IsAskedBy, IsCheckOf, IsCompileOf, IsEmitOf, IsExplainOf, IsListOf};
-ghost use Rattle.commandline.specs.CommandLine.{IsAssembleOf, IsExploreOf};
+ghost use Rattle.commandline.specs.CommandLine.{IsAssembleOf, IsExploreOf, IsFmtOf, ReadsForm};
 ghost use Rattle.commandline.specs.CommandLine.{AsksForExec, AsksForReplay, AsksForRun, command_line};
 ghost use Rattle.commandline.specs.declared.job.Job.{Job as JobOf};
 
 use crate::builder::command;
 use crate::fault::WordsFault;
-use crate::options::{ChartOptions, ExplainedBy, ReplayedBy, RunOptions};
+use crate::options::{ChartOptions, ExplainedBy, ImageForm, ReplayedBy, RunOptions};
 use crate::refusing::refusal_of;
-use crate::sources::{explained_by, replayed_by};
-use crate::values::{chart_of, kills_of, options_of, states_of, version_of, workers_of};
+use crate::sources::{explained_by, form_of, goes_by_log, names_pictures, replayed_by};
+use crate::values::{
+    chart_of, is_written, kills_of, options_of, states_of, version_of, workers_of,
+};
 use clap::{ArgMatches, Command, Error};
 use std::alloc::Global;
 use words::ImageVersion;
@@ -124,7 +126,42 @@ pub enum Job<'a> {
         timeline: Option<&'a str>,
         /// The name of the page's file, where one is wanted.
         page: Option<&'a str>,
+        /// Whether each action goes on with its place.
+        places: bool,
         /// Whether hints stand behind a refusal of the source text.
+        hints: bool,
+    },
+    /// Search all schedules of an image for one that gets stuck, for a thread that fails, and for a step that may not be;
+    /// print what is found, and write a schedule that leads there where that is wanted.
+    Search {
+        /// The name of the file of the image or the assembly text.
+        file: &'a str,
+        /// Which of the two it is.
+        form: ImageForm,
+        /// The most states that are kept.
+        states: u32,
+        /// Whether the schedules with stray wakes are searched too.
+        strays: bool,
+        /// How many threads may be killed in a schedule that is searched, at most.
+        kills: u32,
+        /// The name of the schedule's file, where one is wanted.
+        schedule: Option<&'a str>,
+        /// Whether hints stand behind a refusal of the text.
+        hints: bool,
+    },
+    /// Run an image by a schedule, and show the log where that is wanted.
+    Follow {
+        /// The name of the file of the image or the assembly text.
+        file: &'a str,
+        /// Which of the two it is.
+        form: ImageForm,
+        /// The name of the schedule's file.
+        schedule: &'a str,
+        /// Whether the log is shown.
+        trace: bool,
+        /// The name of the file that the log is written to, where that is wanted.
+        log: Option<&'a str>,
+        /// Whether hints stand behind a refusal of the text.
         hints: bool,
     },
     /// Assemble the text of a file, and write the image to another.
@@ -134,6 +171,15 @@ pub enum Job<'a> {
         /// The name of the image's file.
         out: &'a str,
         /// Whether hints stand behind a refusal of the text.
+        hints: bool,
+    },
+    /// Lay the source text of a file out, or say whether it is laid out.
+    Fmt {
+        /// The name of the source text's file.
+        file: &'a str,
+        /// Whether it is only looked at.
+        check: bool,
+        /// Whether hints stand behind a refusal of the source text.
         hints: bool,
     },
 }
@@ -199,6 +245,7 @@ fn job_of<'a>(matches: &ArgMatches<'a>) -> Option<Job<'a>>
         "emit" => emit_of(inner),
         "explore" => explore_of(inner),
         "assemble" => assemble_of(inner),
+        "fmt" => fmt_of(inner),
         _ => None,
     }
 }
@@ -279,6 +326,19 @@ fn replay_of<'a>(matches: &ArgMatches<'a>) -> Option<Job<'a>>
     ensures none { result ≡ None → (job : JobOf)
         → AsksForReplay (rows_of (found_of matches.now)) job → ⊥ }
 {
+    match form_of(matches)? {
+        None => replayed_of(matches),
+        Some(form) => follow_of(matches, form),
+    }
+}
+
+// A source text that is run again.
+fn replayed_of<'a>(matches: &ArgMatches<'a>) -> Option<Job<'a>>
+    requires { ReadsForm (rows_of (found_of matches.now)) None }
+    ensures job { IfSome result (AsksForReplay (rows_of (found_of matches.now))) }
+    ensures none { result ≡ None → (job : JobOf)
+        → AsksForReplay (rows_of (found_of matches.now)) job → ⊥ }
+{
     let file = matches.get_str("FILE")?;
     let by = replayed_by(matches)?;
     let trace = matches.get_flag("trace");
@@ -289,6 +349,31 @@ fn replay_of<'a>(matches: &ArgMatches<'a>) -> Option<Job<'a>>
         by,
         trace,
         page,
+        hints,
+    })
+}
+
+// An image that is run by a schedule.
+fn follow_of<'a>(matches: &ArgMatches<'a>, form: ImageForm) -> Option<Job<'a>>
+    requires { ReadsForm (rows_of (found_of matches.now)) (Some form) }
+    ensures job { IfSome result (AsksForReplay (rows_of (found_of matches.now))) }
+    ensures none { result ≡ None → (job : JobOf)
+        → AsksForReplay (rows_of (found_of matches.now)) job → ⊥ }
+{
+    if goes_by_log(matches) {
+        return None;
+    }
+    let file = matches.get_str("FILE")?;
+    let schedule = matches.get_str("SCHEDULE")?;
+    let trace = matches.get_flag("trace");
+    let log = matches.get_str("log");
+    let hints = matches.get_flag("hints");
+    Some(Job::Follow {
+        file,
+        form,
+        schedule,
+        trace,
+        log,
         hints,
     })
 }
@@ -332,6 +417,22 @@ fn explore_of<'a>(matches: &ArgMatches<'a>) -> Option<Job<'a>>
     ensures none { result ≡ None → (job : JobOf) → IsExploreOf (rows_of (found_of matches.now)) job
         → ⊥ }
 {
+    match form_of(matches)? {
+        None => explored_of(matches),
+        Some(form) => search_of(matches, form),
+    }
+}
+
+// A source text all runs of which are searched.
+fn explored_of<'a>(matches: &ArgMatches<'a>) -> Option<Job<'a>>
+    requires { ReadsForm (rows_of (found_of matches.now)) None }
+    ensures job { IfSome result (IsExploreOf (rows_of (found_of matches.now))) }
+    ensures none { result ≡ None → (job : JobOf) → IsExploreOf (rows_of (found_of matches.now)) job
+        → ⊥ }
+{
+    if is_written(matches, "schedule") {
+        return None;
+    }
     let file = matches.get_str("FILE")?;
     let states = states_of(matches)?;
     let strays = matches.get_flag("strays");
@@ -339,6 +440,7 @@ fn explore_of<'a>(matches: &ArgMatches<'a>) -> Option<Job<'a>>
     let chart = chart_of(matches)?;
     let timeline = matches.get_str("timeline");
     let page = matches.get_str("page");
+    let places = matches.get_flag("places");
     let hints = matches.get_flag("hints");
     Some(Job::Explore {
         file,
@@ -348,8 +450,47 @@ fn explore_of<'a>(matches: &ArgMatches<'a>) -> Option<Job<'a>>
         chart,
         timeline,
         page,
+        places,
         hints,
     })
+}
+
+// An image all schedules of which are searched.
+fn search_of<'a>(matches: &ArgMatches<'a>, form: ImageForm) -> Option<Job<'a>>
+    requires { ReadsForm (rows_of (found_of matches.now)) (Some form) }
+    ensures job { IfSome result (IsExploreOf (rows_of (found_of matches.now))) }
+    ensures none { result ≡ None → (job : JobOf) → IsExploreOf (rows_of (found_of matches.now)) job
+        → ⊥ }
+{
+    if names_pictures(matches) {
+        return None;
+    }
+    let file = matches.get_str("FILE")?;
+    let states = states_of(matches)?;
+    let strays = matches.get_flag("strays");
+    let kills = kills_of(matches)?;
+    let schedule = matches.get_str("schedule");
+    let hints = matches.get_flag("hints");
+    Some(Job::Search {
+        file,
+        form,
+        states,
+        strays,
+        kills,
+        schedule,
+        hints,
+    })
+}
+
+fn fmt_of<'a>(matches: &ArgMatches<'a>) -> Option<Job<'a>>
+    ensures job { IfSome result (IsFmtOf (rows_of (found_of matches.now))) }
+    ensures none { result ≡ None → (job : JobOf) → IsFmtOf (rows_of (found_of matches.now)) job
+        → ⊥ }
+{
+    let file = matches.get_str("FILE")?;
+    let check = matches.get_flag("check");
+    let hints = matches.get_flag("hints");
+    Some(Job::Fmt { file, check, hints })
 }
 
 fn assemble_of<'a>(matches: &ArgMatches<'a>) -> Option<Job<'a>>

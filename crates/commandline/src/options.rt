@@ -53,8 +53,13 @@ pub enum ReplayedBy<'a> {
         /// The name of the file that the log is written to, where that is wanted.
         log: Option<&'a str>,
     },
-    /// The threads and counts of the log in the file of this name.
-    Log(&'a str),
+    /// The threads and counts of a log.
+    Log {
+        /// The name of the log's file.
+        log: &'a str,
+        /// The most steps that it may have.
+        steps: u32,
+    },
 }
 
 /// Which run is explained.
@@ -78,6 +83,20 @@ pub enum ExplainedBy<'a> {
     },
     /// That by the schedule in the file of this name.
     Schedule(&'a str),
-    /// That of the log in the file of this name.
-    Log(&'a str),
+    /// That of a log.
+    Log {
+        /// The name of the log's file.
+        log: &'a str,
+        /// The most steps that it may have.
+        steps: u32,
+    },
+}
+
+/// In which form an image is given.
+#[derive(Clone, Copy)]
+pub enum ImageForm {
+    /// As an assembly text.
+    Assembly,
+    /// As its own bytes.
+    Image,
 }

@@ -17,6 +17,28 @@ const KILLS_WITHOUT_SEED: &str = "the argument '--kills <N>' cannot be used with
 // What is said of a replay by nothing.
 const NO_SCHEDULE: &str = "one of <SCHEDULE> and '--log <LOG>' has to be given";
 
+const NO_SCHEDULE_OF_IMAGE: &str = "an image is run by a <SCHEDULE>, which has to be given";
+
+// What is said of a limit of steps that a schedule or an image doesn't have.
+const STEPS_BY_SCHEDULE: &str = "the argument '--steps <N>' cannot be used with <SCHEDULE>";
+
+const STEPS_OF_IMAGE: &str =
+    "the argument '--steps <N>' cannot be used with '--assembly' or '--image'";
+
+// What is said of a file that is to be in two forms.
+const TWO_FORMS: &str = "the argument '--assembly' cannot be used with '--image'";
+
+// What is said of pictures of an image's runs.
+const PAGE_OF_IMAGE: &str =
+    "the argument '--page <OUT>' cannot be used with '--assembly' or '--image'";
+
+const PICTURE_OF_IMAGE: &str =
+    "the arguments '--chart <OUT>', '--from <N>', '--to <N>', '--timeline <OUT>', '--page <OUT>' and '--places' cannot be used with '--assembly' or '--image'";
+
+// What is said of a schedule that is asked for of a source text's runs.
+const SCHEDULE_OF_SOURCE: &str =
+    "the argument '--schedule <OUT>' cannot be used without '--assembly' or '--image'";
+
 // What is said of actions that no picture has.
 const NO_CHART_FROM: &str = "the argument '--from <N>' cannot be used without '--chart <OUT>'";
 
@@ -57,9 +79,50 @@ fn refused(name: &str) -> (Subcommand<'static>, &'static str) {
 fn reason(name: &str, matches: &ArgMatches<'_>) -> (ErrorKind, &'static str) {
     match name {
         "run" | "exec" => no_order(matches),
-        "replay" => (ErrorKind::MissingRequiredArgument, NO_SCHEDULE),
-        "explore" => no_chart(matches),
+        "replay" => no_replay(matches),
+        "explore" => no_search(matches),
         _ => no_explanation(matches),
+    }
+}
+
+// Why the arguments of `replay` ask for nothing.
+fn no_replay(matches: &ArgMatches<'_>) -> (ErrorKind, &'static str) {
+    let is_assembly = is_written(matches, "assembly");
+    let is_image = is_written(matches, "image");
+    if is_assembly && is_image {
+        (ErrorKind::ArgumentConflict, TWO_FORMS)
+    } else if is_assembly || is_image {
+        no_follow(matches)
+    } else if is_written(matches, "SCHEDULE") {
+        (ErrorKind::ArgumentConflict, STEPS_BY_SCHEDULE)
+    } else {
+        (ErrorKind::MissingRequiredArgument, NO_SCHEDULE)
+    }
+}
+
+// Why an image isn't run again.
+fn no_follow(matches: &ArgMatches<'_>) -> (ErrorKind, &'static str) {
+    if is_written(matches, "page") {
+        (ErrorKind::ArgumentConflict, PAGE_OF_IMAGE)
+    } else if is_written(matches, "steps") {
+        (ErrorKind::ArgumentConflict, STEPS_OF_IMAGE)
+    } else {
+        (ErrorKind::MissingRequiredArgument, NO_SCHEDULE_OF_IMAGE)
+    }
+}
+
+// Why the arguments of `explore` ask for nothing.
+fn no_search(matches: &ArgMatches<'_>) -> (ErrorKind, &'static str) {
+    let is_assembly = is_written(matches, "assembly");
+    let is_image = is_written(matches, "image");
+    if is_assembly && is_image {
+        (ErrorKind::ArgumentConflict, TWO_FORMS)
+    } else if is_assembly || is_image {
+        (ErrorKind::ArgumentConflict, PICTURE_OF_IMAGE)
+    } else if is_written(matches, "schedule") {
+        (ErrorKind::MissingRequiredArgument, SCHEDULE_OF_SOURCE)
+    } else {
+        no_chart(matches)
     }
 }
 
@@ -147,9 +210,7 @@ fn beside_log(matches: &ArgMatches<'_>) -> &'static str {
         "the argument '--seed <N>' cannot be used with '--log <LOG>'"
     } else if is_written(matches, "strays") {
         "the argument '--strays <N>' cannot be used with '--log <LOG>'"
-    } else if is_written(matches, "kills") {
-        "the argument '--kills <N>' cannot be used with '--log <LOG>'"
     } else {
-        "the argument '--steps <N>' cannot be used with '--log <LOG>'"
+        "the argument '--kills <N>' cannot be used with '--log <LOG>'"
     }
 }

@@ -1,12 +1,13 @@
-ghost use Rattle.std.specs.Prelude.{IfSome, None, [], ◌∷◌, codes, true, false, ◌≡◌};
-ghost use Rattle.clap.specs.Words.{found_of};
+ghost use Rattle.std.specs.Prelude.{IfSome, None, Option as OptionOf, Some, [], ◌∷◌, codes, true, false, ◌≡◌};
+ghost use Rattle.clap.specs.Words.{first_of, found_of};
 ghost use Rattle.clap.specs.Walk.{rows_of};
-ghost use Rattle.commandline.specs.CommandLine.{IsExplainedBy, IsReplayedBy, has_any};
+ghost use Rattle.commandline.specs.CommandLine.{IsExplainedBy, IsReplayedBy, ReadsForm, has_any, shows};
 ghost use Rattle.commandline.specs.CommandLine.{is_written as stands};
 ghost use Rattle.commandline.specs.declared.options.ExplainedBy.{ExplainedBy as Explained};
+ghost use Rattle.commandline.specs.declared.options.ImageForm.{ImageForm as FormOf};
 ghost use Rattle.commandline.specs.declared.options.ReplayedBy.{ReplayedBy as Replayed};
 
-use crate::options::{ExplainedBy, ReplayedBy};
+use crate::options::{ExplainedBy, ImageForm, ReplayedBy};
 use crate::values::{is_written, kills_of, names_outside, seed_of, steps_of, strays_of};
 use clap::ArgMatches;
 
@@ -16,14 +17,76 @@ pub fn replayed_by<'a>(matches: &ArgMatches<'a>) -> Option<ReplayedBy<'a>>
     ensures none { result ≡ None → (r : Replayed)
         → IsReplayedBy (rows_of (found_of matches.now)) r → ⊥ }
 {
-    let log = matches.get_str("log");
     match matches.get_str("SCHEDULE") {
-        Some(schedule) => Some(ReplayedBy::Schedule { schedule, log }),
-        None => Some(ReplayedBy::Log(log?)),
+        Some(schedule) => replayed_by_schedule(matches, schedule),
+        None => replayed_by_log(matches),
     }
 }
 
-/// Which run is explained. A schedule and a log have no limit of steps beside them.
+// A schedule has its own end, so no limit of steps stands beside it.
+fn replayed_by_schedule<'a>(matches: &ArgMatches<'a>, schedule: &'a str) -> Option<ReplayedBy<'a>>
+    requires { first_of (codes "SCHEDULE") (rows_of (found_of matches.now)) ≡ Some schedule.now }
+    ensures by { IfSome result (IsReplayedBy (rows_of (found_of matches.now))) }
+    ensures none { result ≡ None → (r : Replayed)
+        → IsReplayedBy (rows_of (found_of matches.now)) r → ⊥ }
+{
+    if is_written(matches, "steps") {
+        return None;
+    }
+    let log = matches.get_str("log");
+    Some(ReplayedBy::Schedule { schedule, log })
+}
+
+// A log of at most so many steps.
+fn replayed_by_log<'a>(matches: &ArgMatches<'a>) -> Option<ReplayedBy<'a>>
+    requires { first_of (codes "SCHEDULE") (rows_of (found_of matches.now)) ≡ None }
+    ensures by { IfSome result (IsReplayedBy (rows_of (found_of matches.now))) }
+    ensures none { result ≡ None → (r : Replayed)
+        → IsReplayedBy (rows_of (found_of matches.now)) r → ⊥ }
+{
+    let log = matches.get_str("log")?;
+    let steps = steps_of(matches)?;
+    Some(ReplayedBy::Log { log, steps })
+}
+
+/// Whether a file has an assembly text or an image in it, as two flags say; where neither stands it is a source text.
+pub fn form_of(matches: &ArgMatches<'_>) -> Option<Option<ImageForm>>
+    ensures form { IfSome result (ReadsForm (rows_of (found_of matches.now))) }
+    ensures none { result ≡ None → (f : OptionOf FormOf)
+        → ReadsForm (rows_of (found_of matches.now)) f → ⊥ }
+{
+    match (
+        is_written(matches, "assembly"),
+        is_written(matches, "image"),
+    ) {
+        (false, false) => Some(None),
+        (true, false) => Some(Some(ImageForm::Assembly)),
+        (false, true) => Some(Some(ImageForm::Image)),
+        (true, true) => None,
+    }
+}
+
+/// Whether the words of a replay have what stands beside a log or a source text alone.
+pub fn goes_by_log(matches: &ArgMatches<'_>) -> bool
+    ensures { result
+        ≡ has_any (codes "steps" ∷ codes "page" ∷ []) (rows_of (found_of matches.now)) }
+{
+    is_written(matches, "steps") || is_written(matches, "page")
+}
+
+/// Whether the words say how a run of a source text is shown in other files.
+pub fn names_pictures(matches: &ArgMatches<'_>) -> bool
+    ensures { result ≡ has_any shows (rows_of (found_of matches.now)) }
+{
+    is_written(matches, "chart")
+        || is_written(matches, "from")
+        || is_written(matches, "to")
+        || is_written(matches, "timeline")
+        || is_written(matches, "page")
+        || is_written(matches, "places")
+}
+
+/// Which run is explained. A schedule has no limit of steps beside it.
 pub fn explained_by<'a>(matches: &ArgMatches<'a>) -> Option<ExplainedBy<'a>>
     ensures by { IfSome result (IsExplainedBy (rows_of (found_of matches.now))) }
     ensures none { result ≡ None → (e : Explained)
@@ -41,13 +104,10 @@ pub fn explained_by<'a>(matches: &ArgMatches<'a>) -> Option<ExplainedBy<'a>>
 // Whether the words have the other one of a schedule and a log, or what stands beside neither.
 fn has_more(matches: &ArgMatches<'_>, other: &str) -> bool
     ensures { result
-        ≡ has_any (other.now ∷ codes "seed" ∷ codes "steps" ∷ codes "strays" ∷ codes "kills" ∷ [])
+        ≡ has_any (other.now ∷ codes "seed" ∷ codes "strays" ∷ codes "kills" ∷ [])
         (rows_of (found_of matches.now)) }
 {
-    is_written(matches, other)
-        || is_written(matches, "seed")
-        || is_written(matches, "steps")
-        || names_outside(matches)
+    is_written(matches, other) || is_written(matches, "seed") || names_outside(matches)
 }
 
 fn by_schedule<'a>(matches: &ArgMatches<'a>) -> Option<ExplainedBy<'a>>
@@ -56,7 +116,7 @@ fn by_schedule<'a>(matches: &ArgMatches<'a>) -> Option<ExplainedBy<'a>>
     ensures none { result ≡ None → (e : Explained)
         → IsExplainedBy (rows_of (found_of matches.now)) e → ⊥ }
 {
-    if has_more(matches, "log") {
+    if is_written(matches, "steps") || has_more(matches, "log") {
         return None;
     }
     let schedule = matches.get_str("schedule")?;
@@ -73,7 +133,8 @@ fn by_log<'a>(matches: &ArgMatches<'a>) -> Option<ExplainedBy<'a>>
         return None;
     }
     let log = matches.get_str("log")?;
-    Some(ExplainedBy::Log(log))
+    let steps = steps_of(matches)?;
+    Some(ExplainedBy::Log { log, steps })
 }
 
 // A run within a limit of steps. Where no seed stands nothing is asked for from outside.

@@ -10,6 +10,13 @@ const FILE: Argument = Argument {
     help: "The source text",
 };
 
+// What a flag beside it may say to be another than a source text.
+const ANY_FILE: Argument = Argument {
+    name: "FILE",
+    kind: Kind::Positional,
+    help: "The source text; with a flag the assembly text or the image",
+};
+
 const IMAGE: Argument = Argument {
     name: "IMAGE",
     kind: Kind::Positional,
@@ -37,6 +44,28 @@ const STEPS: Argument = Argument {
         default: Some("1000000"),
     }),
     help: "The most steps of the machine",
+};
+
+// The same of a run or a log.
+const ANY_STEPS: Argument = Argument {
+    name: "steps",
+    kind: Kind::Number(Numbers {
+        least: 1,
+        most: u32::MAX as u64,
+        default: Some("1000000"),
+    }),
+    help: "The most steps of the machine, or that the log may have",
+};
+
+// The limit of steps of a log.
+const LOG_STEPS: Argument = Argument {
+    name: "steps",
+    kind: Kind::Number(Numbers {
+        least: 1,
+        most: u32::MAX as u64,
+        default: Some("1000000"),
+    }),
+    help: "Without SCHEDULE, the most steps that the log may have",
 };
 
 const IN_ORDER: Argument = Argument {
@@ -167,6 +196,25 @@ const LIST: Subcommand = Subcommand {
     ],
 };
 
+const PLACES: Argument = Argument {
+    name: "places",
+    kind: Kind::Flag,
+    help: "Shows where in the text each action was done, and what it did",
+};
+
+// In which form an image is given.
+const ASSEMBLY: Argument = Argument {
+    name: "assembly",
+    kind: Kind::Flag,
+    help: "FILE is an assembly text",
+};
+
+const IS_IMAGE: Argument = Argument {
+    name: "image",
+    kind: Kind::Flag,
+    help: "FILE is an image",
+};
+
 // Where the log of a run is written.
 const RUN_LOG: Argument = Argument {
     name: "log",
@@ -193,14 +241,15 @@ pub(crate) const EXEC: Subcommand = Subcommand {
 /// `replay`.
 pub(crate) const REPLAY: Subcommand = Subcommand {
     name: "replay",
-    about: "Runs a source text by a schedule or a log and prints its output",
+    about: "Runs a source text or an image by a schedule or a log and prints its output",
     arguments: &[
-        FILE,
+        ANY_FILE,
         Argument {
             name: "SCHEDULE",
             kind: Kind::Optional,
             help: "The threads of its steps",
         },
+        LOG_STEPS,
         TRACE,
         Argument {
             name: "log",
@@ -208,6 +257,8 @@ pub(crate) const REPLAY: Subcommand = Subcommand {
             help: "Beside SCHEDULE, where the log is written; without it, the log that is followed",
         },
         PAGE,
+        ASSEMBLY,
+        IS_IMAGE,
         HINTS,
     ],
 };
@@ -218,7 +269,7 @@ pub(crate) const EXPLAIN: Subcommand = Subcommand {
     about: "Runs a source text and prints what its processes do",
     arguments: &[
         FILE,
-        STEPS,
+        ANY_STEPS,
         SEED,
         STRAYS,
         KILLS,
@@ -241,11 +292,7 @@ pub(crate) const EXPLAIN: Subcommand = Subcommand {
         TO,
         TIMELINE,
         PAGE,
-        Argument {
-            name: "places",
-            kind: Kind::Flag,
-            help: "Shows where in the text each action was done, and what it did",
-        },
+        PLACES,
         HINTS,
     ],
 };
@@ -267,9 +314,9 @@ const EMIT: Subcommand = Subcommand {
 /// `explore`.
 pub(crate) const EXPLORE: Subcommand = Subcommand {
     name: "explore",
-    about: "Searches all runs of a source text for one that gets stuck or aborts",
+    about: "Searches all runs of a source text or an image for one that gets stuck or aborts",
     arguments: &[
-        FILE,
+        ANY_FILE,
         Argument {
             name: "states",
             kind: Kind::Number(Numbers {
@@ -298,6 +345,28 @@ pub(crate) const EXPLORE: Subcommand = Subcommand {
         TO,
         TIMELINE,
         PAGE,
+        PLACES,
+        ASSEMBLY,
+        IS_IMAGE,
+        Argument {
+            name: "schedule",
+            kind: Kind::Valued("OUT"),
+            help: "Beside --assembly or --image, where a schedule of what is found is written",
+        },
+        HINTS,
+    ],
+};
+
+const FMT: Subcommand = Subcommand {
+    name: "fmt",
+    about: "Prints a source text, laid out",
+    arguments: &[
+        FILE,
+        Argument {
+            name: "check",
+            kind: Kind::Flag,
+            help: "Only says whether the text is laid out",
+        },
         HINTS,
     ],
 };
@@ -318,5 +387,5 @@ const ASSEMBLE: Subcommand = Subcommand {
 
 /// The commands below `mesamon`.
 pub(crate) const SUBCOMMANDS: &[Subcommand] = &[
-    CHECK, COMPILE, LIST, RUN, EXEC, REPLAY, EXPLAIN, EMIT, EXPLORE, ASSEMBLE,
+    CHECK, COMPILE, LIST, RUN, EXEC, REPLAY, EXPLAIN, EMIT, EXPLORE, ASSEMBLE, FMT,
 ];

@@ -10,6 +10,6 @@ mod writing;
 
 pub use counted::Counted;
 pub use files::put_file;
-pub use reading::{ReadFault, read_source, read_whole};
+pub use reading::{ReadFault, read_front, read_source, read_whole};
 pub use report::{ReportTexts, WriteFault, write_report};
 pub use writing::write_bytes;

@@ -56,9 +56,10 @@ pub fn read_whole<R: Read>(alloc: Global, reader: &mut Counted<R>) -> Result<Vec
     read_front(alloc, reader, MOST_WANTED)
 }
 
-// The bytes that a reader gives up to its end, or the first so many where there are more. With one byte in each call,
-// every second call may have been interrupted.
-fn read_front<R: Read>(
+/// The bytes that a reader gives up to its end, or the first so many where there are more, as `read_source` reads them.
+///
+/// With one byte in each call, every second call may have been interrupted.
+pub fn read_front<R: Read>(
     alloc: Global,
     reader: &mut Counted<R>,
     wanted: usize,

@@ -1,31 +1,35 @@
 -- How the program ends, by what it told.
 use Rattle.std.proofs.Common.{◌≡◌, ◌++◌, ◌⊎◌, ℕ, Bool, true, false, List, [], Result, Ok, Err, IfOk, IfErr, inl, inr, refl, codes}
 use Rattle.std.proofs.Common.{◌∙◌, Bor, is_some, sym, subst}
+use Rattle.std.specs.Prelude.{bytes_eq}
 use Rattle.commandline.specs.CommandLine.{AsksFor}
 use Rattle.commandline.specs.declared.job.Job.{Job}
 use Rattle.commandline.specs.declared.job.Job.TheVariants.{Check, Compile, List as ListImage, Run, Exec, Replay, Explain, Emit, Explore}
-use Rattle.commandline.specs.declared.job.Job.TheVariants.{Assemble}
+use Rattle.commandline.specs.declared.job.Job.TheVariants.{Assemble, Fmt, Follow, Search}
 use Rattle.commandline.proofs.Workers.{compiling_workers}
 use Rattle.log_text.specs.LogLines.{line_feed}
-use Rattle.assembler.specs.Listings.{RefusesText as RefusesAssembly}
 use Rattle.assembler.specs.Refusals.{refusal_text as assembly_refusal_text}
 use Rattle.assembler.specs.declared.refusal.AssemblyRefusal.{AssemblyRefusal}
 use Rattle.scanner.specs.Refusals.{refusal_text}
 use Rattle.scanner.specs.declared.refusal.Refusal.{Refusal}
 use Rattle.runner.specs.declared.report.Verdict.{Verdict}
 use Rattle.runner.specs.declared.report.Verdict.TheVariants as verdict
-use Rattle.mesamon.specs.Answers.{IsTold, IsToldOrMemory, status_of_verdict}
+use Rattle.answers.specs.Answers.{IsTold, IsToldOrMemory, status_of_verdict}
 use Rattle.mesamon.specs.Asked.{HasWorkers, asks_for_hints}
 use Rattle.mesamon.specs.Commands.{Devices, EndsSo, FinishesSo, HasAnswered, HasDone, HasDoneSome, IsNoCommand, IsToldFailed}
 use Rattle.mesamon.specs.Commands.{IsToldLeft, RefusesJob, RefusesSome, UnassemblesJob, UnassemblesSome}
-use Rattle.mesamon.specs.Exploring.{found_status}
-use Rattle.mesamon.specs.Failures.{IsLeftBy, IsRefusalBy}
+use Rattle.image_search.specs.declared.ending.Ending.{Ending}
+use Rattle.image_search.specs.declared.ending.Ending.TheVariants as ending
+use Rattle.answers.specs.Exploring.{found_status, is_failed}
+use Rattle.answers.specs.Formatting.{layout_status}
+use Rattle.answers.specs.Images.{search_status}
+use Rattle.answers.specs.Failures.{IsLeftBy, IsRefusalBy}
 use Rattle.mesamon.specs.Overwriting.{overwrites}
-use Rattle.mesamon.specs.declared.answer.Answer.{Answer}
-use Rattle.mesamon.specs.declared.failure.NoAnswer.{NoAnswer}
-use Rattle.mesamon.specs.declared.failure.NoAnswer.TheVariants as left
-use Rattle.mesamon.specs.declared.status.Status.{Status}
-use Rattle.mesamon.specs.declared.status.Status.TheVariants.{Done, Refused, Usage, Stuck, Limit, Memory, Failed}
+use Rattle.answers.specs.declared.answer.Answer.{Answer}
+use Rattle.answers.specs.declared.failure.NoAnswer.{NoAnswer}
+use Rattle.answers.specs.declared.failure.NoAnswer.TheVariants as left
+use Rattle.answers.specs.declared.status.Status.{Status}
+use Rattle.answers.specs.declared.status.Status.TheVariants.{Done, Refused, Usage, Stuck, Limit, Memory, Failed, Found}
 
 -- what was done of a job, of the job that it is
 pub done_as : {E : Type 0} (r : Result Answer E) (job same : Job) (bytes second : List ℕ) → job ≡ same
@@ -52,26 +56,27 @@ refused_as r job same bytes second is h =
     subst (λ (j : Job). IfErr r (IsLeftBy (RefusesJob j bytes second) (UnassemblesJob j bytes))) (sym is)
     (all_left r same bytes second h)
 
--- the same of an assembly text
-unassembled : (file out : Bor (List ℕ)) (hints : Bool) (n : NoAnswer) (bytes second : List ℕ)
-    → IsLeftBy (λ e. ⊥) (RefusesAssembly bytes) n
-    → IsLeftBy (RefusesJob (Assemble file out hints) bytes second) (UnassemblesJob (Assemble file out hints) bytes) n
-unassembled file out hints (left.Refused e) bytes second h = h
-unassembled file out hints (left.Unassembled e) bytes second h = h
-unassembled file out hints (left.Failed f) bytes second h = tt
+-- the same of an assembly text: no source text is refused
+unassembled : (n : NoAnswer) (U : AssemblyRefusal → Type 0) (job : Job) (bytes second : List ℕ)
+    → ((e : AssemblyRefusal) → U e → UnassemblesJob job bytes e) → IsLeftBy (λ e. ⊥) U n
+    → IsLeftBy (RefusesJob job bytes second) (UnassemblesJob job bytes) n
+unassembled (left.Refused e) U job bytes second on h = absurd h
+unassembled (left.Unassembled e) U job bytes second on h = on e h
+unassembled (left.Failed f) U job bytes second on h = tt
 
-all_unassembled : {T : Type 0} (r : Result T NoAnswer) (file out : Bor (List ℕ)) (hints : Bool) (bytes second : List ℕ)
-    → IfErr r (IsLeftBy (λ e. ⊥) (RefusesAssembly bytes))
-    → IfErr r (IsLeftBy (RefusesJob (Assemble file out hints) bytes second) (UnassemblesJob (Assemble file out hints) bytes))
-all_unassembled (Ok x) file out hints bytes second h = tt
-all_unassembled (Err n) file out hints bytes second h = unassembled file out hints n bytes second h
-
-pub unassembled_as : {T : Type 0} (r : Result T NoAnswer) (job : Job) (file out : Bor (List ℕ)) (hints : Bool)
-    (bytes second : List ℕ) → job ≡ Assemble file out hints → IfErr r (IsLeftBy (λ e. ⊥) (RefusesAssembly bytes))
+all_unassembled : {T : Type 0} (r : Result T NoAnswer) (U : AssemblyRefusal → Type 0) (job : Job) (bytes second : List ℕ)
+    → ((e : AssemblyRefusal) → U e → UnassemblesJob job bytes e) → IfErr r (IsLeftBy (λ e. ⊥) U)
     → IfErr r (IsLeftBy (RefusesJob job bytes second) (UnassemblesJob job bytes))
-unassembled_as r job file out hints bytes second is h =
+all_unassembled (Ok x) U job bytes second on h = tt
+all_unassembled (Err n) U job bytes second on h = unassembled n U job bytes second on h
+
+pub unassembled_as : {T : Type 0} (r : Result T NoAnswer) (U : AssemblyRefusal → Type 0) (job same : Job)
+    (bytes second : List ℕ) → job ≡ same → ((e : AssemblyRefusal) → U e → UnassemblesJob same bytes e)
+    → IfErr r (IsLeftBy (λ e. ⊥) U)
+    → IfErr r (IsLeftBy (RefusesJob job bytes second) (UnassemblesJob job bytes))
+unassembled_as r U job same bytes second is on h =
     subst (λ (j : Job). IfErr r (IsLeftBy (RefusesJob j bytes second) (UnassemblesJob j bytes))) (sym is)
-    (all_unassembled r file out hints bytes second h)
+    (all_unassembled r U same bytes second on h)
 
 -- a job that words ask for has a number of workers that may be
 pub has_workers : (ws : List (List ℕ)) (job : Job) → AsksFor ws job → HasWorkers job
@@ -84,8 +89,11 @@ has_workers ws (Exec image options) asks = tt
 has_workers ws (Replay file by trace page hints) asks = tt
 has_workers ws (Explain file by chart timeline page places hints) asks = tt
 has_workers ws (Emit file out hints) asks = tt
-has_workers ws (Explore file states strays kills chart timeline page hints) asks = tt
+has_workers ws (Explore file states strays kills chart timeline page places hints) asks = tt
+has_workers ws (Search file form states strays kills schedule hints) asks = tt
+has_workers ws (Follow file form schedule trace log hints) asks = tt
 has_workers ws (Assemble file out hints) asks = tt
+has_workers ws (Fmt file check hints) asks = tt
 
 -- a status with which a job that was done ends
 abbrev IsEnd : Status → Type 0
@@ -96,16 +104,30 @@ IsEnd Refused = ⊥
 IsEnd Usage = ⊥
 IsEnd Memory = ⊥
 IsEnd Failed = ⊥
+IsEnd Found = Unit {0}
 
 verdict_end : (v : Verdict) → IsEnd (status_of_verdict v)
 verdict_end verdict.Done = tt
 verdict_end verdict.Stuck = tt
 verdict_end verdict.Limit = tt
 
-found_end : (stuck complete : Bool) → IsEnd (found_status stuck complete)
-found_end true complete = tt
-found_end false true = tt
-found_end false false = tt
+found_end : (stuck failed complete : Bool) → IsEnd (found_status stuck failed complete)
+found_end true failed complete = tt
+found_end false true complete = tt
+found_end false false true = tt
+found_end false false false = tt
+
+search_end : (e : Ending) → IsEnd (search_status e)
+search_end ending.Complete = tt
+search_end (ending.Stuck turns) = tt
+search_end (ending.Failed turns) = tt
+search_end (ending.Broken turns) = tt
+search_end (ending.Bounded bound) = tt
+
+layout_end : (check same : Bool) → IsEnd (layout_status check same)
+layout_end false same = tt
+layout_end true true = tt
+layout_end true false = tt
 
 end_as : (s t : Status) → s ≡ t → IsEnd t → IsEnd s
 end_as s t is h = subst IsEnd (sym is) h
@@ -120,9 +142,15 @@ ends (Replay file by trace page hints) bytes second a h = end_as a.status _ h.te
 ends (Explain file by chart timeline page places hints) bytes second a h =
     end_as a.status _ h.tells.ended (verdict_end h.explained_run.report.verdict)
 ends (Emit file out hints) bytes second a h = end_as a.status Done h.tells.1.ended tt
-ends (Explore file states strays kills chart timeline page hints) bytes second a h =
+ends (Explore file states strays kills chart timeline page places hints) bytes second a h =
     let e = h.explored_text.exploration in
-    end_as a.status _ h.tells.ended (found_end (is_some e.stuck) e.complete)
+    end_as a.status _ h.tells.ended (found_end (is_some e.stuck) (is_failed e) e.complete)
+ends (Search file form states strays kills schedule hints) bytes second a h =
+    end_as a.status _ h.searches.tells.ended (search_end h.searches.exploration.ending)
+ends (Follow file form schedule trace log hints) bytes second a h =
+    end_as a.status _ h.follows.tells.ended (verdict_end h.follows.report.verdict)
+ends (Fmt file check hints) bytes second a h =
+    end_as a.status _ h.tells.ended (layout_end check (bytes_eq h.laid bytes))
 ends (Assemble file out hints) bytes second a h = end_as a.status Done h.tells.ended tt
 
 -- by what is known of the devices; F says that one of them failed
@@ -141,6 +169,7 @@ module _ (ws : List (List ℕ)) (on : Devices) where
   at_end Usage is h = absurd is
   at_end Memory is h = absurd is
   at_end Failed is h = absurd is
+  at_end Found is h = h
 
   -- memory that ran out
   pub told_memory : (F : Type 0) (s : Status) → (F → on.Fails) → on.Wrote [] → IsTold (on.Told (codes "memory\n")) F Memory s

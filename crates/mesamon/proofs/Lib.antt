@@ -1,11 +1,3 @@
-pub mod RunsExplained
 mod Answered
-mod Explored
-mod Failing
-mod LegalLogs
+mod Ended
 mod ReadFiles
-mod Refusing
-mod Replays
-mod SourceLogs
-mod Told
-mod Written

@@ -1,33 +1,19 @@
--- What a job asks for: which run of a text, which files are read, and whether hints.
+-- What a job asks for: which files are read, and whether hints.
 use Rattle.std.proofs.Common.{Bor}
-use Rattle.std.specs.Prelude.{ℕ, ◌+◌, ◌^◌, ◌≤◌, Bool, false, List, Option, Some, None, IfSome, is_some}
+use Rattle.std.specs.Prelude.{ℕ, ◌+◌, ◌^◌, ◌≤◌, Bool, false, List, Option, Some, None, IfSome}
 use Rattle.scanner.specs.Limits.{most_bytes}
 use Rattle.commandline.specs.declared.options.ExplainedBy.{ExplainedBy}
 use Rattle.commandline.specs.declared.options.ExplainedBy.TheVariants.{Order, Seed, Schedule, Log}
-use Rattle.commandline.specs.declared.options.Order.{Order as OrderOf}
-use Rattle.commandline.specs.declared.options.Order.TheVariants.{Workers, InOrder, Seed as InSeed}
 use Rattle.commandline.specs.declared.job.Job.{Job}
 use Rattle.commandline.specs.declared.job.Job.TheVariants.{Check, Compile, List as ListImage, Run, Exec, Replay, Explain, Emit, Explore}
-use Rattle.commandline.specs.declared.job.Job.TheVariants.{Assemble}
-use Rattle.commandline.specs.declared.options.RunOptions.{RunOptions}
+use Rattle.commandline.specs.declared.job.Job.TheVariants.{Assemble, Fmt, Follow, Search}
+use Rattle.commandline.specs.declared.options.ImageForm.{ImageForm}
+use Rattle.commandline.specs.declared.options.ImageForm.TheVariants as form
 use Rattle.commandline.specs.declared.options.ReplayedBy.{ReplayedBy}
 use Rattle.commandline.specs.declared.options.ReplayedBy.TheVariants.{Schedule as BySchedule, Log as ByLog}
-use Rattle.runner.specs.Logs.{Outside, nothing_outside, outside_of}
-use Rattle.runner.specs.declared.report.Report.{Report}
-use Rattle.mesamon.specs.declared.explained_run.ExplainedRun.{ExplainedRun}
 use Rattle.mesamon.specs.declared.jobs.Second.{Second}
 use Rattle.mesamon.specs.declared.jobs.Second.TheVariants as also
-use Rattle.mesamon.specs.Explaining.{IsExplanation, IsExplanationOfText}
-use Rattle.mesamon.specs.Replaying.{IsReplayOfText}
-use Rattle.mesamon.specs.Running.{IsRunOfText}
-use Rattle.mesamon.specs.SourceLog.{IsExplanationOfLog, IsReplayOfLog}
-use Rattle.mesamon.specs.Turns.{turns_in}
-
--- what may come from outside in a run in this order
-abbrev pub outside_by : OrderOf → Outside
-outside_by Workers = nothing_outside
-outside_by InOrder = nothing_outside
-outside_by (InSeed seed strays kills) = outside_of (is_some strays) kills
+use Rattle.answers.specs.LogLimits.{log_bytes}
 
 -- whether a job asks for hints
 abbrev pub asks_for_hints : Job → Bool
@@ -39,30 +25,11 @@ asks_for_hints (Exec image options) = false
 asks_for_hints (Replay file by trace page hints) = hints
 asks_for_hints (Explain file by chart timeline page places hints) = hints
 asks_for_hints (Emit file out hints) = hints
-asks_for_hints (Explore file states strays kills chart timeline page hints) = hints
+asks_for_hints (Explore file states strays kills chart timeline page places hints) = hints
+asks_for_hints (Search file form states strays kills schedule hints) = hints
+asks_for_hints (Follow file form schedule trace log hints) = hints
 asks_for_hints (Assemble file out hints) = hints
-
--- the run that is made of a text, as the options say
-abbrev pub IsRunAs : RunOptions → List ℕ → Report → Type 0
-IsRunAs options text report = IsRunOfText text (outside_by options.order) options.steps report
-
--- the run that is explained, by what is named; with these bytes in the schedule or the log
-abbrev pub IsExplainedAs : ExplainedBy → (second : List ℕ) → List ℕ → ExplainedRun → Type 0
-IsExplainedAs (Order steps) second text r = IsExplanationOfText text nothing_outside steps r
-IsExplainedAs (Seed steps seed strays kills) second text r =
-    IsExplanationOfText text (outside_of (is_some strays) kills) steps r
-IsExplainedAs (Schedule name) second text r = IsExplanation text (IsReplayOfText text (turns_in second)) r
-IsExplainedAs (Log name) second text r = IsExplanationOfLog text second r
-
--- the run again, by what is named, with these bytes
-abbrev pub IsReplayedAs : ReplayedBy → (second : List ℕ) → List ℕ → Report → Type 0
-IsReplayedAs (BySchedule name log) second text r = IsReplayOfText text (turns_in second) r
-IsReplayedAs (ByLog name) second text r = IsReplayOfLog text second r
-
--- the file that the log of a replay is written to, where one is named
-abbrev pub log_beside : ReplayedBy → Option (Bor (List ℕ))
-log_beside (BySchedule name log) = log
-log_beside (ByLog name) = None
+asks_for_hints (Fmt file check hints) = hints
 
 -- how many bytes are read, at most, of a text, a schedule or an image
 abbrev pub most_read : ℕ
@@ -76,13 +43,13 @@ read_of_source (Some name) = Some most_read
 
 abbrev pub read_of_replay : ReplayedBy → Option ℕ
 read_of_replay (BySchedule name log) = Some most_read
-read_of_replay (ByLog name) = Some (2 ^ 62)
+read_of_replay (ByLog name steps) = Some (log_bytes steps + 1)
 
 abbrev pub read_of_explained : ExplainedBy → Option ℕ
 read_of_explained (Order steps) = None
 read_of_explained (Seed steps seed strays kills) = None
 read_of_explained (Schedule name) = Some most_read
-read_of_explained (Log name) = Some (2 ^ 62)
+read_of_explained (Log name steps) = Some (log_bytes steps + 1)
 
 abbrev pub read_second : Job → Option ℕ
 read_second (ListImage image source hints) = read_of_source source
@@ -93,14 +60,22 @@ read_second (Compile file out workers version hints) = None
 read_second (Run file options page hints) = None
 read_second (Exec image options) = None
 read_second (Emit file out hints) = None
-read_second (Explore file states strays kills chart timeline page hints) = None
+read_second (Explore file states strays kills chart timeline page places hints) = None
+read_second (Search file form states strays kills schedule hints) = None
+read_second (Follow file form schedule trace log hints) = Some most_read
 read_second (Assemble file out hints) = None
+read_second (Fmt file check hints) = None
 
 -- of this one
 abbrev pub most_of : Second → Option ℕ
 most_of also.None = None
 most_of (also.Text name) = Some most_read
-most_of (also.Log name) = Some (2 ^ 62)
+most_of (also.Log name steps) = Some (log_bytes steps + 1)
+
+-- of an image, by its form: of an assembly text all
+abbrev pub most_formed : ImageForm → ℕ
+most_formed form.Assembly = 2 ^ 62
+most_formed form.Image = most_read
 
 -- how many bytes are read of the file that a job is about, at most: of an assembly text all
 abbrev pub first_most : Job → ℕ
@@ -112,8 +87,11 @@ first_most (Exec image options) = most_read
 first_most (Replay file by trace page hints) = most_read
 first_most (Explain file by chart timeline page places hints) = most_read
 first_most (Emit file out hints) = most_read
-first_most (Explore file states strays kills chart timeline page hints) = most_read
+first_most (Explore file states strays kills chart timeline page places hints) = most_read
+first_most (Search file form states strays kills schedule hints) = most_formed form
+first_most (Follow file form schedule trace log hints) = most_formed form
 first_most (Assemble file out hints) = 2 ^ 62
+first_most (Fmt file check hints) = most_read
 
 -- these bytes were read of the two files of a job; where it has no second one, they are any
 pub record AreRead (IsOf : (most : ℕ) → List ℕ → Type 0) (job : Job) (bytes second : List ℕ) : Type 0 where

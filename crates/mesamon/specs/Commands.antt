@@ -1,145 +1,35 @@
 -- What a command has done, of the bytes of the file that it is about, and how the program ends.
-use Rattle.std.proofs.Common.{Bor}
-use Rattle.std.specs.Prelude.{codes, ◌≡◌, ◌⊎◌, ◌++◌, ℕ, Bool, true, false, List, [], Option, Some, None, is_some, length, map}
-use Rattle.std.specs.List.{flat_map}
+use Rattle.std.specs.Prelude.{codes, ◌≡◌, ◌⊎◌, ◌++◌, ℕ, Bool, true, false, List, [], Option, Some, is_some}
 use Rattle.clap.specs.Words.{takes}
-use Rattle.words.specs.declared.version.ImageVersion.{ImageVersion}
-use Rattle.isa.specs.Programs.{Program}
-use Rattle.isa.specs.Spelling.{IsSpelled, spelling}
-use Rattle.isa.specs.Lines.{lines}
 use Rattle.scanner.specs.declared.refusal.Refusal.{Refusal}
 use Rattle.scanner.specs.Refusals.{refusal_text}
-use Rattle.assembler.specs.Listings.{IsAssembled}
 use Rattle.assembler.specs.Listings.{RefusesText as RefusesAssembly}
 use Rattle.assembler.specs.Refusals.{refusal_text as assembly_refusal_text}
 use Rattle.assembler.specs.declared.refusal.AssemblyRefusal.{AssemblyRefusal}
 use Rattle.log_text.specs.LogLines.{line_feed}
-use Rattle.runner.specs.declared.report.Report.{Report}
-use Rattle.runner.specs.Reports.{IsReport}
-use Rattle.program.specs.Trees.{Program as ProgramOf}
-use Rattle.source_states.specs.Actions.{action_of}
-use Rattle.actionlines.specs.Lines.{line}
-use Rattle.line_tails.specs.Beside.{with_tails}
-use Rattle.backend.specs.Refusals.{CodeFits}
 use Rattle.commandline.specs.CommandLine.{AsksFor, command_line}
 use Rattle.commandline.specs.declared.job.Job.{Job}
 use Rattle.commandline.specs.declared.job.Job.TheVariants.{Check, Compile, List as ListImage, Run, Exec, Replay, Explain, Emit, Explore}
-use Rattle.commandline.specs.declared.job.Job.TheVariants.{Assemble}
-use Rattle.commandline.specs.declared.options.ChartOptions.{ChartOptions}
-use Rattle.commandline.specs.declared.options.ExplainedBy.{ExplainedBy}
-use Rattle.commandline.specs.declared.options.RunOptions.{RunOptions}
-use Rattle.compiler.specs.Accepts.{AcceptsText, RefusesProgram, RefusesText, RefusesTextAs}
-use Rattle.compiler.specs.Compiles.{IsCompiledAs}
-use Rattle.mesamon.specs.declared.answer.Answer.{Answer}
-use Rattle.mesamon.specs.declared.explained_run.ExplainedRun.{ExplainedRun}
-use Rattle.mesamon.specs.declared.failure.NoAnswer.{NoAnswer}
-use Rattle.mesamon.specs.declared.failure.NoAnswer.TheVariants as left
-use Rattle.mesamon.specs.declared.status.Status.{Status}
-use Rattle.mesamon.specs.declared.status.Status.TheVariants.{Done, Refused, Usage, Stuck, Limit, Memory, Failed}
+use Rattle.commandline.specs.declared.job.Job.TheVariants.{Assemble, Fmt, Follow, Search}
+use Rattle.compiler.specs.Accepts.{RefusesProgram, RefusesText, RefusesTextAs}
+use Rattle.answers.specs.declared.answer.Answer.{Answer}
+use Rattle.answers.specs.declared.failure.NoAnswer.{NoAnswer}
+use Rattle.answers.specs.declared.failure.NoAnswer.TheVariants as left
+use Rattle.answers.specs.declared.status.Status.{Status}
+use Rattle.answers.specs.declared.status.Status.TheVariants.{Done, Refused, Usage, Stuck, Limit, Memory, Failed, Found}
 use Rattle.devices.specs.Files.{IsOfFile, IsPut}
 use Rattle.devices.specs.Writing.{HasAll}
 use Rattle.devices.specs.declared.counted.Counted.{Counted}
-use Rattle.mesamon.specs.Answers.{AreDrawn, ArePut, ArePuts, HasMetFailure, IsTold, IsToldOrMemory, TellsAlone, TellsReport}
-use Rattle.mesamon.specs.Answers.{status_of_verdict}
-use Rattle.mesamon.specs.Asked.{AreRead, IsExplainedAs, IsReplayedAs, IsRunAs, asks_for_hints, log_beside, outside_by}
-use Rattle.mesamon.specs.Exploring.{HasExplored}
-use Rattle.mesamon.specs.ImageLine.{image_line}
+use Rattle.answers.specs.Answers.{ArePut, HasMetFailure, IsTold, IsToldOrMemory}
+use Rattle.answers.specs.Asked.{IsReplayedAs, IsRunAs, log_beside}
+use Rattle.answers.specs.Done.{HasAssembled, HasChecked, HasCompiled, HasEmitted, HasExecuted, HasExplained, HasListed, HasRun}
+use Rattle.answers.specs.Done.{RefusesBeside}
+use Rattle.mesamon.specs.Asked.{AreRead, asks_for_hints}
+use Rattle.answers.specs.Exploring.{HasExplored}
+use Rattle.answers.specs.Formatting.{HasLaidOut}
+use Rattle.answers.specs.Images.{HasFollowed, HasSearched, UnassemblesAs}
+use Rattle.source_layout.specs.Laid.{RefusesUnit}
 use Rattle.mesamon.specs.Overwriting.{overwrites}
-
--- the text was checked, and it was told that it is a program
-pub record HasChecked (text : List ℕ) (a : Answer) : Type 0 where
-  pub program : ProgramOf
-  pub accepts : AcceptsText text program
-  pub tells : TellsAlone (codes "ok\n") None a
-
--- it is told that C was written to the file of this name
-abbrev pub TellsEmitted : Bor (List ℕ) → Answer → Type 0
-TellsEmitted out a = (c : List ℕ) × TellsAlone (codes "ok\n") (Some (out, c)) a
-
--- the text is a program whose code fits, of which C is written to the file of this name, and that was told
-pub record HasEmitted (out : Bor (List ℕ)) (text : List ℕ) (a : Answer) : Type 0 where
-  pub program : ProgramOf
-  pub accepts : AcceptsText text program
-  pub fits : CodeFits program
-  pub tells : TellsEmitted out a
-
--- the text was compiled to an image of this version, which is written to the file of this name, and its line was told
-pub record HasCompiled (version : ImageVersion) (out : Bor (List ℕ)) (text : List ℕ) (a : Answer) : Type 0 where
-  pub image : Program
-  pub compiled : IsCompiledAs version text image
-  pub tells : TellsAlone (image_line (length image.code)) (Some (out, spelling image)) a
-
--- an image of the assembly text is written to the file of this name, and its line was told
-pub record HasAssembled (out : Bor (List ℕ)) (text : List ℕ) (a : Answer) : Type 0 where
-  pub image : Program
-  pub assembled : IsAssembled text image
-  pub tells : TellsAlone (image_line (length image.code)) (Some (out, spelling image)) a
-
--- lines are told as they are; where more is asked for, with something before the first of them and before each one's
--- line feed
-abbrev pub AreTold : Bool → List ℕ → List ℕ → Type 0
-AreTold false lines told = told ≡ lines
-AreTold true lines told = (head : List ℕ) × (tails : List (List ℕ)) × (told ≡ head ++ with_tails lines tails)
-
--- the command is done, and tells these lines alone, with more beside them where that is asked for
-pub record TellsLines (more : Bool) (lines : List ℕ) (a : Answer) : Type 0 where
-  pub ended : a.status ≡ Done
-  pub are_told : AreTold more lines a.output.items
-  pub account : a.account.items ≡ []
-  pub files : ArePuts None a.files
-
--- the bytes spell an image, and the lines of its instructions were told
-pub record HasListed (more : Bool) (bytes : List ℕ) (a : Answer) : Type 0 where
-  pub image : Program
-  pub spelled : IsSpelled image
-  pub is : spelling image ≡ bytes
-  pub tells : TellsLines more (lines 0 image.code) a
-
--- the text was run so, and that was told and logged, and shown on a page where that is wanted
-pub record HasRun (IsRun : List ℕ → Report → Type 0) (trace : Bool) (log page : Option (Bor (List ℕ))) (text : List ℕ)
-    (a : Answer)
-    : Type 0
-  where
-    pub report : Report
-    pub run : IsRun text report
-    pub tells : TellsReport report trace log page a
-
--- the image was run as the options say, and that was told and logged
-pub record RunsImage (options : RunOptions) (image : Program) (a : Answer) : Type 0 where
-  pub report : Report
-  pub run : IsReport image (outside_by options.order) options.steps report
-  pub tells : TellsReport report options.trace options.log None a
-
--- the bytes spell an image that was run so
-pub record HasExecuted (options : RunOptions) (bytes : List ℕ) (a : Answer) : Type 0 where
-  pub image : Program
-  pub spelled : IsSpelled image
-  pub is : spelling image ≡ bytes
-  pub runs : RunsImage options image a
-
--- the lines of the actions of an explained run, by the names of its program
-abbrev pub explained_lines : ExplainedRun → List ℕ
-explained_lines r = flat_map (line r.checked.names) (map action_of r.actions.items)
-
--- the lines of the actions of an explained run are told alone, with their places where those are asked for, and the run is
--- drawn, timed and shown on a page, to the files of these names
-pub record TellsRun (places : Bool) (chart : Option ChartOptions) (timeline page : Option (Bor (List ℕ)))
-    (r : ExplainedRun) (a : Answer)
-    : Type 0
-  where
-    pub ended : a.status ≡ status_of_verdict r.report.verdict
-    pub are_told : AreTold places (explained_lines r) a.output.items
-    pub account : a.account.items ≡ []
-    pub files : AreDrawn chart timeline page a.files
-
--- the text was run as was asked for and its run explained, or a log of it, and that was told
-pub record HasExplained (by : ExplainedBy) (second : List ℕ) (places : Bool) (chart : Option ChartOptions)
-    (timeline page : Option (Bor (List ℕ))) (text : List ℕ) (a : Answer)
-    : Type 0
-  where
-    pub explained_run : ExplainedRun
-    pub explained : IsExplainedAs by second text explained_run
-    pub tells : TellsRun places chart timeline page explained_run a
 
 -- the job was done, with these bytes in the file that it is about, and in the second one that it names: what it asks for is
 -- what is told, and what its files get
@@ -153,16 +43,13 @@ HasDone (Replay file by trace page hints) bytes second a = HasRun (IsReplayedAs 
 HasDone (Explain file by chart timeline page places hints) bytes second a =
     HasExplained by second places chart timeline page bytes a
 HasDone (Emit file out hints) bytes second a = HasEmitted out bytes a
-HasDone (Explore file states strays kills chart timeline page hints) bytes second a =
-    HasExplored (record { strays = strays; kills = kills }) states chart timeline page bytes a
+HasDone (Explore file states strays kills chart timeline page places hints) bytes second a =
+    HasExplored (record { strays = strays; kills = kills }) states places chart timeline page bytes a
+HasDone (Search file form states strays kills schedule hints) bytes second a =
+    HasSearched form (record { strays = strays; kills = kills }) states schedule bytes a
+HasDone (Follow file form schedule trace log hints) bytes second a = HasFollowed form trace log bytes second a
 HasDone (Assemble file out hints) bytes second a = HasAssembled out bytes a
-
--- this is the refusal of the source beside an image, where one is named, for an image of the version of that one
-pub record RefusesBeside (bytes second : List ℕ) (e : Refusal) : Type 0 where
-  pub image : Program
-  pub spelled : IsSpelled image
-  pub is : spelling image ≡ bytes
-  pub refuses : RefusesTextAs image.version second e
+HasDone (Fmt file check hints) bytes second a = HasLaidOut check bytes a
 
 -- this is the refusal of the text that the job is about: with these bytes in its file, or for a listing in the source's
 abbrev pub RefusesJob : Job → (bytes second : List ℕ) → Refusal → Type 0
@@ -174,8 +61,11 @@ RefusesJob (Run file options page hints) bytes second e = RefusesText bytes e
 RefusesJob (Replay file by trace page hints) bytes second e = RefusesText bytes e
 RefusesJob (Explain file by chart timeline page places hints) bytes second e = RefusesText bytes e
 RefusesJob (Emit file out hints) bytes second e = RefusesText bytes e
-RefusesJob (Explore file states strays kills chart timeline page hints) bytes second e = RefusesText bytes e
+RefusesJob (Explore file states strays kills chart timeline page places hints) bytes second e = RefusesText bytes e
+RefusesJob (Search file form states strays kills schedule hints) bytes second e = ⊥
+RefusesJob (Follow file form schedule trace log hints) bytes second e = ⊥
 RefusesJob (Assemble file out hints) bytes second e = ⊥
+RefusesJob (Fmt file check hints) bytes second e = RefusesUnit bytes e
 
 -- this is the refusal of the assembly text that the job is about
 abbrev pub UnassemblesJob : Job → (bytes : List ℕ) → AssemblyRefusal → Type 0
@@ -187,8 +77,11 @@ UnassemblesJob (Run file options page hints) bytes e = ⊥
 UnassemblesJob (Replay file by trace page hints) bytes e = ⊥
 UnassemblesJob (Explain file by chart timeline page places hints) bytes e = ⊥
 UnassemblesJob (Emit file out hints) bytes e = ⊥
-UnassemblesJob (Explore file states strays kills chart timeline page hints) bytes e = ⊥
+UnassemblesJob (Explore file states strays kills chart timeline page places hints) bytes e = ⊥
+UnassemblesJob (Search file form states strays kills schedule hints) bytes e = UnassemblesAs form bytes e
+UnassemblesJob (Follow file form schedule trace log hints) bytes e = UnassemblesAs form bytes e
 UnassemblesJob (Assemble file out hints) bytes e = RefusesAssembly bytes e
+UnassemblesJob (Fmt file check hints) bytes e = ⊥
 
 -- the job was done on bytes that were read of its files
 pub record HasDoneSome (IsOf : (most : ℕ) → List ℕ → Type 0) (job : Job) (a : Answer) : Type 0 where
@@ -308,6 +201,7 @@ abbrev pub EndsSo : (words : List (List ℕ)) (on : Devices) → Status → Type
 EndsSo words on Done = HasAnswered words on Done
 EndsSo words on Stuck = HasAnswered words on Stuck
 EndsSo words on Limit = HasAnswered words on Limit
+EndsSo words on Found = HasAnswered words on Found
 EndsSo words on Refused = IsRefused words on ⊎ IsUnassembled words on
 EndsSo words on Usage = IsNoCommand words × on.Wrote []
 EndsSo words on Memory = on.Wrote [] × on.Told (codes "memory\n")

@@ -1,14 +1,3 @@
-pub mod Turns
-pub mod Running
-pub mod Alone
-pub mod Replaying
-pub mod Explaining
-pub mod SourceLog
 pub mod Asked
-pub mod Statuses
-pub mod ImageLine
-pub mod Failures
 pub mod Overwriting
-pub mod Answers
-pub mod Exploring
 pub mod Commands

@@ -3,8 +3,8 @@ use Rattle.std.proofs.Common.{Bor}
 use Rattle.std.specs.Prelude.{ℕ, Bool, false, List, Option, Some, None, ◌||◌, bytes_eq}
 use Rattle.commandline.specs.declared.job.Job.{Job}
 use Rattle.commandline.specs.declared.job.Job.TheVariants.{Check, Compile, List as ListImage, Run, Exec, Replay, Explain, Emit, Explore}
-use Rattle.commandline.specs.declared.job.Job.TheVariants.{Assemble}
-use Rattle.commandline.specs.declared.options.ChartOptions.{ChartOptions}
+use Rattle.commandline.specs.declared.job.Job.TheVariants.{Assemble, Fmt, Follow, Search}
+use Rattle.answers.specs.Answers.{out_of}
 use Rattle.commandline.specs.declared.options.ExplainedBy.{ExplainedBy}
 use Rattle.commandline.specs.declared.options.ExplainedBy.TheVariants.{Order, Seed, Schedule, Log}
 use Rattle.commandline.specs.declared.options.ReplayedBy.{ReplayedBy}
@@ -27,21 +27,16 @@ abbrev pub draws_over : (read also_read chart timeline page : Option (Bor (List 
 draws_over read also_read chart timeline page =
     is_twice read also_read chart timeline || is_twice read also_read chart page || is_same timeline page
 
--- the file of a picture
-abbrev pub out_of : Option ChartOptions → Option (Bor (List ℕ))
-out_of None = None
-out_of (Some chart) = Some chart.out
-
 -- the file that says which run is explained
 abbrev pub read_by : ExplainedBy → Option (Bor (List ℕ))
 read_by (Order steps) = None
 read_by (Seed steps seed strays kills) = None
 read_by (Schedule name) = Some name
-read_by (Log name) = Some name
+read_by (Log name steps) = Some name
 
 abbrev pub replay_overwrites : Bor (List ℕ) → ReplayedBy → Option (Bor (List ℕ)) → Bool
 replay_overwrites file (BySchedule schedule log) page = is_twice (Some file) (Some schedule) log page
-replay_overwrites file (ByLog log) page = is_twice (Some file) (Some log) page None
+replay_overwrites file (ByLog log steps) page = is_twice (Some file) (Some log) page None
 
 abbrev pub overwrites : Job → Bool
 overwrites (Check file hints) = false
@@ -49,9 +44,12 @@ overwrites (ListImage image source hints) = false
 overwrites (Compile file out workers version hints) = is_twice (Some file) None (Some out) None
 overwrites (Emit file out hints) = is_twice (Some file) None (Some out) None
 overwrites (Run file options page hints) = is_twice (Some file) None options.log page
+overwrites (Search file form states strays kills schedule hints) = is_twice (Some file) None schedule None
+overwrites (Follow file form schedule trace log hints) = is_twice (Some file) (Some schedule) log None
 overwrites (Assemble file out hints) = is_twice (Some file) None (Some out) None
+overwrites (Fmt file check hints) = false
 overwrites (Exec image options) = is_twice (Some image) None options.log None
 overwrites (Replay file by trace page hints) = replay_overwrites file by page
 overwrites (Explain file by chart timeline page places hints) = draws_over (Some file) (read_by by) (out_of chart) timeline page
-overwrites (Explore file states strays kills chart timeline page hints) =
+overwrites (Explore file states strays kills chart timeline page places hints) =
     draws_over (Some file) None (out_of chart) timeline page

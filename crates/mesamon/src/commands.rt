@@ -4,19 +4,15 @@ ghost use Rattle.devices.specs.Writing.{HasAll};
 ghost use Rattle.log_text.specs.LogLines.{line_feed};
 ghost use Rattle.scanner.specs.Refusals.{refusal_text};
 ghost use Rattle.assembler.specs.Refusals.{refusal_text as assembly_refusal_text};
-ghost use Rattle.mesamon.specs.Answers.{HasMetFailure, IsTold, IsToldOrMemory};
+ghost use Rattle.answers.specs.Answers.{HasMetFailure, IsTold, IsToldOrMemory};
 ghost use Rattle.mesamon.specs.Commands.{EndsSo, FinishesSo, IsToldFailed, IsToldLeft, devices_by};
-ghost use Rattle.mesamon.specs.Statuses.{status_code};
-ghost use Rattle.mesamon.specs.declared.status.Status.{Status as StatusOf};
+ghost use Rattle.answers.specs.Statuses.{status_code};
+ghost use Rattle.answers.specs.declared.status.Status.{Status as StatusOf};
 
-use crate::answer::Answer;
-use crate::failure::{Failure, NoAnswer};
 use crate::files::put_files;
 use crate::jobs::{asks_for_hints, do_job};
-use crate::lines::write_text;
 use crate::overwriting::overwrites;
-use crate::status::Status;
-use crate::telling::tell_more;
+use answers::{Answer, Failure, NoAnswer, Status, tell_more, write_text};
 use assembler::AssemblyRefusal;
 use commandline::{Job, WordsFault, line};
 use devices::Counted;
@@ -46,7 +42,8 @@ const TWICE: &str = "error: a file that is to be written is named twice\n";
 /// on the calling thread, so that the log is the same each time.
 ///
 /// The status is 0 where the command was done, 1 where the source text is refused, 2 for words that are no command, 3
-/// where the run was stuck, 4 where it reached its limit, 5 where memory ran out, and 6 for any other failure.
+/// where the run was stuck, 4 where it reached its limit, 5 where memory ran out, 6 for any other failure, and 7 where a
+/// search found a run that fails otherwise, or a text isn't laid out.
 pub fn perform_with_hints<
     R: Files + AllocGlobal + Threads + Wait + Sync,
     O: Write,

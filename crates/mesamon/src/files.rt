@@ -1,14 +1,10 @@
-ghost use Rattle.std.specs.Prelude.{◌≡◌, ◌+◌, ◌^◌, IfOk, IfSome, OnOk};
+ghost use Rattle.std.specs.Prelude.{◌≡◌, ◌≤◌, ◌+◌, ◌^◌, IfOk, IfSome, OnOk};
 ghost use Rattle.devices.specs.Files.{IsOfFile, IsPut};
-ghost use Rattle.isa.specs.Spelling.{IsSpelled, spelling};
-ghost use Rattle.mesamon.specs.Answers.{ArePut, put_of};
+ghost use Rattle.answers.specs.Answers.{ArePut, put_of};
 
-use crate::answer::{OutFile, OutFiles};
-use crate::failure::Failure;
-use devices::{Counted, put_file, read_source, read_whole};
-use isa::{Image, decode};
+use answers::{Failure, OutFile, OutFiles};
+use devices::{Counted, put_file, read_front, read_source, read_whole};
 use scanner::MOST_BYTES;
-use std::alloc::Global;
 use std::fs;
 use std::rt::Files;
 
@@ -30,6 +26,22 @@ pub fn bytes_of<'a, R: Files + AllocGlobal>(rt: &R, name: &'a str) -> Result<Vec
 {
     let file = fs::open(rt, path_of(name)).map_err(|error| Failure::of_read(name, &error))?;
     match read_source(rt.alloc(), &mut Counted::new(file)) {
+        Ok(bytes) => Ok(bytes),
+        Err(fault) => Err(Failure::of_source(name, fault)),
+    }
+}
+
+/// The bytes of the file of this name, or the first so many of a longer one; the failure names it.
+pub fn front_of<'a, R: Files + AllocGlobal>(
+    rt: &R,
+    name: &'a str,
+    most: usize,
+) -> Result<Vec<u8>, Failure<'a>>
+    requires { (1 ≤ most) × (most ≤ 2 ^ 62) }
+    ensures { IfOk result (λ v. IsOfFile R.File.remaining most v.items) }
+{
+    let file = fs::open(rt, name).map_err(|error| Failure::of_read(name, &error))?;
+    match read_front(rt.alloc(), &mut Counted::new(file), most) {
         Ok(bytes) => Ok(bytes),
         Err(fault) => Err(Failure::of_source(name, fault)),
     }
@@ -75,11 +87,4 @@ fn put_wanted<'a, R: Files + AllocGlobal>(
         Ok(()) => Ok(()),
         Err(error) => Err(Failure::of_write(file.name, &error)),
     }
-}
-
-/// The image that these bytes spell.
-pub fn image_of<'a>(alloc: Global, bytes: &[u8]) -> Result<Image, Failure<'a>>
-    ensures { IfOk result (λ i. IsSpelled i × (spelling i ≡ bytes.now)) }
-{
-    Ok(decode(alloc, bytes)?)
 }

@@ -1,22 +1,19 @@
 ghost use Rattle.std.specs.Prelude.{◌≡◌, ◌^◌, if◌then◌else◌, IfOk, IfErr, IfSome};
 ghost use Rattle.devices.specs.Files.{IsOfFile};
-ghost use Rattle.mesamon.specs.Asked.{HasWorkers, asks_for_hints, first_most, most_of, most_read};
+ghost use Rattle.mesamon.specs.Asked.{HasWorkers, asks_for_hints, first_most, most_formed, most_of, most_read};
 ghost use Rattle.mesamon.specs.Asked.{read_of_explained, read_of_replay, read_of_source, read_second};
 ghost use Rattle.mesamon.specs.Commands.{HasDone, HasDoneSome, RefusesJob, RefusesSome};
 ghost use Rattle.mesamon.specs.Commands.{UnassemblesJob, UnassemblesSome};
-ghost use Rattle.mesamon.specs.Failures.{IsLeftBy};
+ghost use Rattle.answers.specs.Failures.{IsLeftBy};
 
-use crate::answer::Answer;
-use crate::compiling::{answer_assemble, answer_check, answer_compile, answer_emit};
-use crate::drawing::Drawings;
-use crate::explaining::answer_explain;
-use crate::exploring::answer_explore;
-use crate::failure::{Failure, NoAnswer};
-use crate::files::{bytes_of, whole_bytes_of};
-use crate::hinting::{SourceText, tell_refused};
-use crate::listing::answer_list;
-use crate::running::{answer_exec, answer_replay, answer_run};
-use commandline::{ExplainedBy, Job, ReplayedBy};
+use crate::files::{bytes_of, front_of, whole_bytes_of};
+use answers::{
+    Answer, Drawings, Failure, NoAnswer, SourceText, answer_assemble, answer_check, answer_compile,
+    answer_emit, answer_exec, answer_explain, answer_explore, answer_fmt, answer_follow,
+    answer_list, answer_replay, answer_run, answer_search, log_bytes, tell_refused,
+};
+use commandline::{ExplainedBy, ImageForm, Job, ReplayedBy};
+use image_states::Outside as ImageOutside;
 use source_search::{Outside, Progress};
 use std::rt::Files;
 use std::sync::Wait;
@@ -35,7 +32,10 @@ pub fn asks_for_hints(job: &Job<'_>) -> bool
         | Job::Explain { hints, .. }
         | Job::Emit { hints, .. }
         | Job::Explore { hints, .. }
-        | Job::Assemble { hints, .. } => hints,
+        | Job::Search { hints, .. }
+        | Job::Follow { hints, .. }
+        | Job::Assemble { hints, .. }
+        | Job::Fmt { hints, .. } => hints,
         Job::Exec { .. } => false,
     }
 }
@@ -50,14 +50,20 @@ fn file_of<'a>(job: Job<'a>) -> &'a str {
         | Job::Explain { file, .. }
         | Job::Emit { file, .. }
         | Job::Explore { file, .. }
-        | Job::Assemble { file, .. } => file,
+        | Job::Search { file, .. }
+        | Job::Follow { file, .. }
+        | Job::Assemble { file, .. }
+        | Job::Fmt { file, .. } => file,
         Job::List { image, .. } | Job::Exec { image, .. } => image,
     }
 }
 
-// Whether that file is an image's, and not a source text's.
+// Whether that file is an image's or an assembly text's, and not a source text's.
 fn is_of_image(job: Job<'_>) -> bool {
-    matches!(job, Job::List { .. } | Job::Exec { .. })
+    matches!(
+        job,
+        Job::List { .. } | Job::Exec { .. } | Job::Search { .. } | Job::Follow { .. }
+    )
 }
 
 // The second file that a job reads.
@@ -67,8 +73,8 @@ enum Second<'a> {
     None,
     // A source text, or a schedule.
     Text(&'a str),
-    // A log.
-    Log(&'a str),
+    // A log of at most so many steps.
+    Log { name: &'a str, steps: u32 },
 }
 
 // That of a listing.
@@ -87,7 +93,7 @@ fn second_of_replay<'a>(by: ReplayedBy<'a>) -> Second<'a>
 {
     match by {
         ReplayedBy::Schedule { schedule, .. } => Second::Text(schedule),
-        ReplayedBy::Log(name) => Second::Log(name),
+        ReplayedBy::Log { log, steps } => Second::Log { name: log, steps },
     }
 }
 
@@ -97,7 +103,7 @@ fn second_of_explained<'a>(by: ExplainedBy<'a>) -> Second<'a>
 {
     match by {
         ExplainedBy::Schedule(name) => Second::Text(name),
-        ExplainedBy::Log(name) => Second::Log(name),
+        ExplainedBy::Log { log, steps } => Second::Log { name: log, steps },
         ExplainedBy::Order { .. } | ExplainedBy::Seed { .. } => Second::None,
     }
 }
@@ -110,13 +116,16 @@ fn second_of<'a>(job: Job<'a>) -> Second<'a>
         Job::List { source, .. } => second_of_list(source),
         Job::Replay { by, .. } => second_of_replay(by),
         Job::Explain { by, .. } => second_of_explained(by),
+        Job::Follow { schedule, .. } => Second::Text(schedule),
         Job::Check { .. }
         | Job::Compile { .. }
         | Job::Run { .. }
         | Job::Exec { .. }
         | Job::Emit { .. }
         | Job::Explore { .. }
-        | Job::Assemble { .. } => Second::None,
+        | Job::Search { .. }
+        | Job::Assemble { .. }
+        | Job::Fmt { .. } => Second::None,
     }
 }
 
@@ -126,6 +135,7 @@ fn reads_all(job: Job<'_>) -> bool
 {
     match job {
         Job::Assemble { .. } => true,
+        Job::Search { form, .. } | Job::Follow { form, .. } => is_assembly(form),
         Job::Check { .. }
         | Job::Compile { .. }
         | Job::List { .. }
@@ -134,7 +144,18 @@ fn reads_all(job: Job<'_>) -> bool
         | Job::Replay { .. }
         | Job::Explain { .. }
         | Job::Emit { .. }
-        | Job::Explore { .. } => false,
+        | Job::Explore { .. }
+        | Job::Fmt { .. } => false,
+    }
+}
+
+// Whether an image is given as an assembly text.
+fn is_assembly(form: ImageForm) -> bool
+    ensures { most_formed form ≡ (if result then 2 ^ 62 else most_read) }
+{
+    match form {
+        ImageForm::Assembly => true,
+        ImageForm::Image => false,
     }
 }
 
@@ -159,7 +180,7 @@ fn second_bytes<'a, R: Files + AllocGlobal>(
     match second {
         Second::None => Ok(Vec::new(rt.alloc())),
         Second::Text(name) => bytes_of(rt, name),
-        Second::Log(name) => whole_bytes_of(rt, name),
+        Second::Log { name, steps } => front_of(rt, name, log_bytes(steps) + 1),
     }
 }
 
@@ -268,6 +289,24 @@ fn answer_of<'a, R: AllocGlobal + Threads + Wait + Sync, P: Progress>(
         }
         Job::Emit { out, .. } => answer_emit(alloc, text, out),
         Job::Assemble { out, .. } => answer_assemble(alloc, text, out),
+        Job::Fmt { check, .. } => answer_fmt(alloc, text, check),
+        Job::Follow {
+            form,
+            trace,
+            log,
+            ..
+        } => answer_follow(alloc, text, second, form, trace, log),
+        Job::Search {
+            form,
+            states,
+            strays,
+            kills,
+            schedule,
+            ..
+        } => {
+            let outside = ImageOutside { strays, kills };
+            answer_search(alloc, text, form, states, outside, schedule, told, progress)
+        }
         Job::Explore {
             states,
             strays,
@@ -275,6 +314,7 @@ fn answer_of<'a, R: AllocGlobal + Threads + Wait + Sync, P: Progress>(
             chart,
             timeline,
             page,
+            places,
             ..
         } => {
             let drawings = Drawings {
@@ -283,7 +323,9 @@ fn answer_of<'a, R: AllocGlobal + Threads + Wait + Sync, P: Progress>(
                 page,
             };
             let outside = Outside { strays, kills };
-            answer_explore(alloc, text, states, outside, drawings, told, progress)
+            answer_explore(
+                alloc, text, states, outside, drawings, places, told, progress,
+            )
         }
     }
 }

@@ -1,5 +1,6 @@
 ghost use Rattle.std.specs.Prelude.{◌≡◌};
-ghost use Rattle.mesamon.specs.Overwriting.{draws_over, is_same, is_twice, out_of, overwrites, read_by, replay_overwrites};
+ghost use Rattle.answers.specs.Answers.{out_of};
+ghost use Rattle.mesamon.specs.Overwriting.{draws_over, is_same, is_twice, overwrites, read_by, replay_overwrites};
 
 use commandline::{ChartOptions, ExplainedBy, Job, ReplayedBy};
 
@@ -60,7 +61,7 @@ fn read_by<'a>(by: ExplainedBy<'a>) -> Option<&'a str>
     ensures { result ≡ read_by by.entry }
 {
     match by {
-        ExplainedBy::Schedule(name) | ExplainedBy::Log(name) => Some(name),
+        ExplainedBy::Schedule(name) | ExplainedBy::Log { log: name, .. } => Some(name),
         ExplainedBy::Order { .. } | ExplainedBy::Seed { .. } => None,
     }
 }
@@ -70,7 +71,7 @@ pub fn overwrites(job: &Job<'_>) -> bool
     ensures { result ≡ overwrites job.now }
 {
     match *job {
-        Job::Check { .. } | Job::List { .. } => false,
+        Job::Check { .. } | Job::List { .. } | Job::Fmt { .. } => false,
         Job::Compile { file, out, .. } => is_twice(Some(file), None, Some(out), None),
         Job::Emit { file, out, .. } => is_twice(Some(file), None, Some(out), None),
         Job::Run {
@@ -80,6 +81,13 @@ pub fn overwrites(job: &Job<'_>) -> bool
             ..
         } => is_twice(Some(file), None, options.log, page),
         Job::Assemble { file, out, .. } => is_twice(Some(file), None, Some(out), None),
+        Job::Search { file, schedule, .. } => is_twice(Some(file), None, schedule, None),
+        Job::Follow {
+            file,
+            schedule,
+            log,
+            ..
+        } => is_twice(Some(file), Some(schedule), log, None),
         Job::Exec { image, options } => is_twice(Some(image), None, options.log, None),
         Job::Replay { file, by, page, .. } => replay_overwrites(file, by, page),
         Job::Explain {
@@ -106,6 +114,6 @@ fn replay_overwrites(file: &str, by: ReplayedBy<'_>, page: Option<&str>) -> bool
 {
     match by {
         ReplayedBy::Schedule { schedule, log } => is_twice(Some(file), Some(schedule), log, page),
-        ReplayedBy::Log(log) => is_twice(Some(file), Some(log), page, None),
+        ReplayedBy::Log { log, .. } => is_twice(Some(file), Some(log), page, None),
     }
 }

@@ -1,41 +1,9 @@
-use Rattle.std.proofs.Common.{rules, codes, inl, inr, refl, sym, ◌∙◌}
-use Rattle.clap.proofs.WalkLemmas.{first_value-rows, one_text-rows}
+use Rattle.std.proofs.Common.{refl}
 use Rattle.clap.specs.Words.{found_of}
 use Rattle.clap.specs.Walk.{rows_of}
-use Rattle.commandline.proofs.NoJobs.{no_explore}
+use Rattle.commandline.proofs.NoJobs.{no_formed_search}
 use Rattle.commandline.proofs.job.explore_of.Goals as goal
 
-pub returns-in_err-file-clause-none : goal.returns-in_err-file-clause-none
-returns-in_err-file-clause-none c =
-    let file = first_value-rows (found_of c.args.matches.now) (codes "FILE") in
-    λ _ job. no_explore (rows_of (found_of c.args.matches.now)) job (inl (search rules))
-
-pub returns-in_err-states-clause-none : goal.returns-in_err-states-clause-none
-returns-in_err-states-clause-none c = λ _ job.
-    no_explore (rows_of (found_of c.args.matches.now)) job (inr (inl (c.in_err-states.ensures.none refl)))
-
-pub returns-in_err-kills-clause-none : goal.returns-in_err-kills-clause-none
-returns-in_err-kills-clause-none c = λ _ job.
-    no_explore (rows_of (found_of c.args.matches.now)) job (inr (inr (inl (c.in_err-kills.ensures.none refl))))
-
-pub returns-in_err-chart-clause-none : goal.returns-in_err-chart-clause-none
-returns-in_err-chart-clause-none c = λ _ job.
-    no_explore (rows_of (found_of c.args.matches.now)) job (inr (inr (inr (c.in_err-chart.ensures.none refl))))
-
-pub returns-clause-job : goal.returns-clause-job
-returns-clause-job c =
-    let found = found_of c.args.matches.now in
-    let file = first_value-rows found (codes "FILE") in
-    let strays = one_text-rows found (codes "strays") in
-    let timeline = first_value-rows found (codes "timeline") in
-    let page = first_value-rows found (codes "page") in
-    let hints = one_text-rows found (codes "hints") in (
-      search rules,
-      c.in_ok-states.ensures.number,
-      (search rules, search rules),
-      c.in_ok-kills.ensures.number,
-      c.in_ok-chart.ensures.chart,
-      sym timeline ∙ sym c.get_str-timeline.ensures,
-      sym page ∙ sym c.get_str-page.ensures,
-      (search rules, search rules),
-    )
+pub returns-in_err-form_of-clause-none : goal.returns-in_err-form_of-clause-none
+returns-in_err-form_of-clause-none c = λ _ job.
+    no_formed_search (rows_of (found_of c.args.matches.now)) job (c.in_err-form_of.ensures.none refl)

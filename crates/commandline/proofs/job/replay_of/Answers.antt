@@ -1,29 +1,9 @@
-use Rattle.std.proofs.Common.{rules, codes, inl, inr, refl, sym, ◌∙◌}
-use Rattle.clap.proofs.WalkLemmas.{first_value-rows, one_text-rows}
+use Rattle.std.proofs.Common.{refl}
 use Rattle.clap.specs.Words.{found_of}
 use Rattle.clap.specs.Walk.{rows_of}
-use Rattle.commandline.proofs.NoJobs.{no_replay}
+use Rattle.commandline.proofs.NoJobs.{no_formed_replay}
 use Rattle.commandline.proofs.job.replay_of.Goals as goal
 
-pub returns-in_err-file-clause-none : goal.returns-in_err-file-clause-none
-returns-in_err-file-clause-none c =
-    let file = first_value-rows (found_of c.args.matches.now) (codes "FILE") in
-    λ _ job. no_replay (rows_of (found_of c.args.matches.now)) job (inl (search rules))
-
-pub returns-in_err-by-clause-none : goal.returns-in_err-by-clause-none
-returns-in_err-by-clause-none c = λ _ job.
-    no_replay (rows_of (found_of c.args.matches.now)) job (inr (c.in_err-by.ensures.none refl))
-
-pub returns-clause-job : goal.returns-clause-job
-returns-clause-job c =
-    let found = found_of c.args.matches.now in
-    let file = first_value-rows found (codes "FILE") in
-    let trace = one_text-rows found (codes "trace") in
-    let page = first_value-rows found (codes "page") in
-    let hints = one_text-rows found (codes "hints") in (
-      search rules,
-      c.in_ok-by.ensures.by,
-      (search rules, search rules),
-      sym page ∙ sym c.get_str-page.ensures,
-      (search rules, search rules),
-    )
+pub returns-in_err-form_of-clause-none : goal.returns-in_err-form_of-clause-none
+returns-in_err-form_of-clause-none c = λ _ job.
+    no_formed_replay (rows_of (found_of c.args.matches.now)) job (c.in_err-form_of.ensures.none refl)

@@ -1,8 +1,8 @@
 use Rattle.std.proofs.Common.{inl, inr}
 use Rattle.std.proofs.KnownBytes.{Appends-nil}
 use Rattle.devices.specs.Writing.{HasAll}
-use Rattle.mesamon.specs.Answers.{HasMetFailure}
-use Rattle.mesamon.proofs.Told.{told_failed_by}
+use Rattle.answers.specs.Answers.{HasMetFailure}
+use Rattle.mesamon.proofs.Ended.{told_failed_by}
 use Rattle.mesamon.proofs.commands.finish.Goals as goal
 
 pub returns-in-Ok : goal.returns-in-Ok

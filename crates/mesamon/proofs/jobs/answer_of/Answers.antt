@@ -65,4 +65,24 @@ returns-in-Assemble-clause-done g c = done_as _ _ _ _ _ c.in-Assemble.is c.answe
 
 pub returns-in-Assemble-clause-refused : goal.returns-in-Assemble-clause-refused
 returns-in-Assemble-clause-refused g c =
-    unassembled_as _ _ _ _ _ _ _ c.in-Assemble.is c.answer_assemble.ensures.refused
+    unassembled_as _ _ _ _ _ _ c.in-Assemble.is (λ e h. h) c.answer_assemble.ensures.refused
+
+pub returns-in-Search-clause-done : goal.returns-in-Search-clause-done
+returns-in-Search-clause-done g c = done_as _ _ _ _ _ c.in-Search.is c.answer_search.ensures.done
+
+pub returns-in-Search-clause-refused : goal.returns-in-Search-clause-refused
+returns-in-Search-clause-refused g c =
+    unassembled_as _ _ _ _ _ _ c.in-Search.is (λ e h. h) c.answer_search.ensures.refused
+
+pub returns-in-Follow-clause-done : goal.returns-in-Follow-clause-done
+returns-in-Follow-clause-done g c = done_as _ _ _ _ _ c.in-Follow.is c.answer_follow.ensures.done
+
+pub returns-in-Follow-clause-refused : goal.returns-in-Follow-clause-refused
+returns-in-Follow-clause-refused g c =
+    unassembled_as _ _ _ _ _ _ c.in-Follow.is (λ e h. h) c.answer_follow.ensures.refused
+
+pub returns-in-Fmt-clause-done : goal.returns-in-Fmt-clause-done
+returns-in-Fmt-clause-done g c = done_as _ _ _ _ _ c.in-Fmt.is c.answer_fmt.ensures.done
+
+pub returns-in-Fmt-clause-refused : goal.returns-in-Fmt-clause-refused
+returns-in-Fmt-clause-refused g c = refused_as _ _ _ _ _ c.in-Fmt.is c.answer_fmt.ensures.refused

@@ -1,5 +1,5 @@
 use Rattle.mesamon.proofs.ReadFiles.{are_read}
-use Rattle.mesamon.proofs.Told.{lefts_so, ok_so}
+use Rattle.answers.proofs.Told.{lefts_so, ok_so}
 use Rattle.mesamon.proofs.jobs.do_job.Goals as goal
 
 pub returns-clause-done : goal.returns-clause-done

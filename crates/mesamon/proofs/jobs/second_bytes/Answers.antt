@@ -1,3 +1,5 @@
+use Rattle.std.proofs.Common.{◌+◌, ℕ, IfOk, subst}
+use Rattle.devices.specs.Files.{IsOfFile}
 use Rattle.mesamon.proofs.ReadFiles.{second_so}
 use Rattle.mesamon.proofs.jobs.second_bytes.Goals as goal
 
@@ -5,4 +7,7 @@ pub returns-in-Text : goal.returns-in-Text
 returns-in-Text g c = second_so _ (λ v. v.items) _ _ _ c.in-Text.is c.bytes_of.ensures
 
 pub returns-in-Log : goal.returns-in-Log
-returns-in-Log g c = second_so _ (λ v. v.items) _ _ _ c.in-Log.is c.whole_bytes_of.ensures
+returns-in-Log g c =
+    let read = subst (λ (n : ℕ). IfOk c.front_of.result (λ v. IsOfFile g.R.File.Read.remaining (n + 1) v.items))
+    c.log_bytes.ensures.value c.front_of.ensures in
+    second_so _ (λ v. v.items) _ _ _ c.in-Log.is read

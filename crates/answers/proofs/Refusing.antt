@@ -1,0 +1,78 @@
+-- A refusal is the text's own.
+use Rattle.std.proofs.Common.{◌≡◌, ◌≢◌, ◌⊎◌, ℕ, List, Result, Ok, Err, IfErr, inl, inr, ap, subst, sym, ◌∙◌}
+use Rattle.std.specs.Prelude.{IsErr, IsErrAnd}
+use Rattle.scanner.specs.Refusals.{out_of_memory}
+use Rattle.scanner.specs.declared.refusal.Refusal.{Refusal}
+use Rattle.scanner.specs.declared.refusal.RefusalKind.TheVariants as kind
+use Rattle.runner.specs.Logs.{Outside}
+use Rattle.runner.specs.declared.schedule.Turn.{Turn}
+use Rattle.compiler.specs.Accepts.{RefusesText}
+use Rattle.answers.specs.Explaining.{IsRefusedExplanation}
+use Rattle.answers.specs.Failures.{IsRefusalBy, OfExplain, OfRefusal, OfReplay, OfRun, OfSourceLog}
+use Rattle.answers.specs.Replaying.{IsRefusedReplay}
+use Rattle.answers.specs.Running.{IsRefusedRun}
+use Rattle.answers.specs.SourceLog.{IsRefusedLog, IsUnfollowedLog}
+use Rattle.answers.specs.declared.explained_run.ExplainSourceFault.{ExplainSourceFault}
+use Rattle.answers.specs.declared.explained_run.ExplainSourceFault.TheVariants as explain
+use Rattle.answers.specs.declared.failure.Failure.{Failure}
+use Rattle.answers.specs.declared.failure.NoAnswer.{NoAnswer}
+use Rattle.answers.specs.declared.failure.NoAnswer.TheVariants.{Refused, Failed}
+use Rattle.answers.specs.declared.replaying.ReplayFault.{ReplayFault}
+use Rattle.answers.specs.declared.replaying.ReplayFault.TheVariants as replay
+use Rattle.answers.specs.declared.source_log.SourceLogFault.{SourceLogFault}
+use Rattle.answers.specs.declared.source_log.SourceLogFault.TheVariants as log
+use Rattle.answers.specs.declared.source_run.RunSourceFault.{RunSourceFault}
+use Rattle.answers.specs.declared.source_run.RunSourceFault.TheVariants as source
+
+-- what comes of a fault that is passed on
+pub left_by : {T : Type 0} (r : Result T NoAnswer) (Q P : NoAnswer → Type 0) → IsErr r × IsErrAnd r Q
+    → ((n : NoAnswer) → Q n → P n) → IfErr r P
+left_by (Ok t) Q P h on = tt
+left_by (Err n) Q P h on = on n h.1
+
+-- where it is the same, what is known of it
+pub left_as : {T : Type 0} (r : Result T NoAnswer) (n : NoAnswer) (P : NoAnswer → Type 0)
+    → IsErr r × IsErrAnd r (λ x. x ≡ n) → P n → IfErr r P
+left_as r n P h p = left_by r (λ x. x ≡ n) P h (λ x e. subst P (sym e) p)
+
+-- a failure is no refusal
+pub fails : (Refuses : Refusal → Type 0) (n : NoAnswer) (f : Failure) → n ≡ Failed f → IsRefusalBy Refuses n
+fails Refuses n f e = subst (IsRefusalBy Refuses) (sym e) tt
+
+pub refused_by : (Refuses : Refusal → Type 0) (e : Refusal) (n : NoAnswer) → (e ≡ out_of_memory) ⊎ Refuses e
+    → OfRefusal e n → IsRefusalBy Refuses n
+refused_by Refuses e n known (inl (is, gives)) = fails Refuses n _ gives
+refused_by Refuses e n (inl memory) (inr (is_not, gives)) = absurd (is_not (ap (λ (x : Refusal). x.kind) memory))
+refused_by Refuses e n (inr refuses) (inr (is_not, gives)) = subst (IsRefusalBy Refuses) (sym gives) refuses
+
+pub run_left : (text : List ℕ) (may : Outside) (limit : ℕ) (fault : RunSourceFault) (n : NoAnswer)
+    → IsRefusedRun text may limit fault → OfRun fault n → IsRefusalBy (RefusesText text) n
+run_left text may limit (source.Refused e) n known gives = refused_by (RefusesText text) e n known gives
+run_left text may limit (source.Run fault) n known (f, of_fault, gives) = fails (RefusesText text) n f gives
+
+pub explain_left : (text : List ℕ) (fault : ExplainSourceFault) (n : NoAnswer) → IsRefusedExplanation text fault
+    → OfExplain fault n → IsRefusalBy (RefusesText text) n
+explain_left text (explain.Refused e) n known gives = refused_by (RefusesText text) e n known gives
+explain_left text explain.Memory n known gives = fails (RefusesText text) n _ gives
+
+pub replay_left_by : (text : List ℕ) (schedule : List Turn) (fault : ReplayFault) (n : NoAnswer)
+    → IsRefusedReplay text schedule fault → OfReplay fault n → IsRefusalBy (RefusesText text) n
+replay_left_by text schedule (replay.Refused e) n known gives = refused_by (RefusesText text) e n known gives
+replay_left_by text schedule (replay.BadEntry number) n known gives = fails (RefusesText text) n _ gives
+replay_left_by text schedule replay.Memory n known gives = fails (RefusesText text) n _ gives
+
+pub log_left : (text lines : List ℕ) (most : ℕ) (fault : SourceLogFault) (n : NoAnswer)
+    → IsRefusedLog text lines most fault → OfSourceLog fault n → IsRefusalBy (RefusesText text) n
+log_left text lines most (log.Refused e) n known gives = refused_by (RefusesText text) e n known gives
+log_left text lines most (log.Line number) n known gives = fails (RefusesText text) n _ gives
+log_left text lines most (log.Steps count) n known gives = fails (RefusesText text) n _ gives
+log_left text lines most (log.Entry number) n known gives = fails (RefusesText text) n _ gives
+log_left text lines most log.Memory n known gives = fails (RefusesText text) n _ gives
+
+pub log_not_followed : (text lines : List ℕ) (most : ℕ) (fault : SourceLogFault) (n : NoAnswer)
+    → IsUnfollowedLog text lines most fault → OfSourceLog fault n → IsRefusalBy (RefusesText text) n
+log_not_followed text lines most (log.Refused e) n known gives = refused_by (RefusesText text) e n known gives
+log_not_followed text lines most (log.Line number) n known gives = fails (RefusesText text) n _ gives
+log_not_followed text lines most (log.Steps count) n known gives = fails (RefusesText text) n _ gives
+log_not_followed text lines most (log.Entry number) n known gives = fails (RefusesText text) n _ gives
+log_not_followed text lines most log.Memory n known gives = fails (RefusesText text) n _ gives

@@ -1,0 +1,27 @@
+use Rattle.std.proofs.Common.{◌<◌, ◌^◌, List, subst, sym}
+use Rattle.machine.specs.declared.event.Entry.{Entry}
+use Rattle.program.specs.Names.{said_by}
+use Rattle.runner.specs.Logs.{cost}
+use Rattle.answers.proofs.Replays.{followed_few, replay_explained}
+use Rattle.answers.proofs.RunsExplained.{of_code, of_own_version}
+use Rattle.answers.proofs.explained_run.explain_schedule.Goals as goal
+
+pub explain_run-requires-clause-few : goal.explain_run-requires-clause-few
+explain_run-requires-clause-few c =
+    subst (λ (es : List Entry). cost es < 2 ^ 32) (sym c.iter.ensures)
+    (followed_few c.in_ok-checked.lowered.image c.args.schedule.now c.in_ok-report.report c.in_ok-report.ensures)
+
+pub explain_run-requires-clause-own : goal.explain_run-requires-clause-own
+explain_run-requires-clause-own c =
+    of_own_version (said_by c.in_ok-checked.checked) c.in_ok-checked.lowered c.in_ok-checked.ensures.compiled.code
+
+pub returns-clause-explained : goal.returns-clause-explained
+returns-clause-explained c =
+    let read = c.in_ok-checked.ensures.compiled in
+    record {
+      accepts = read.accepts;
+      run = replay_explained c.args.text.now c.in_ok-checked.lowered.image c.args.schedule.now
+          c.in_ok-report.report read.compiled c.in_ok-report.ensures;
+      explained = of_code (said_by c.in_ok-checked.checked) c.in_ok-checked.lowered.image _ _ _ read.code.image
+          c.iter.ensures c.in-Ok.ensures;
+    }

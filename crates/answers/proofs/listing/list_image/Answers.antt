@@ -1,0 +1,17 @@
+use Rattle.std.proofs.Common.{List, ℕ, is_some, refl, subst, sym}
+use Rattle.isa.specs.Lines.{lines}
+use Rattle.answers.specs.Answers.{AreTold}
+use Rattle.answers.proofs.Told.{are_puts}
+use Rattle.answers.proofs.listing.list_image.Goals as goal
+
+pub returns-clause-done : goal.returns-clause-done
+returns-clause-done c = record {
+  ended = c.quiet.ensures.status;
+  are_told = subst (λ (xs : List ℕ). AreTold (is_some c.args.source) (lines 0 c.args.image.now.code) xs)
+      (sym c.quiet.ensures.output)
+      (subst (λ (xs : List ℕ). AreTold (is_some c.args.source) xs c.in_ok-output.output.items) c.in_ok-lines.ensures
+      c.in_ok-output.ensures.told);
+  account = c.quiet.ensures.account;
+  files = are_puts _ _ _ _ c.quiet.ensures.files c.only.ensures.out c.only.ensures.timeline c.only.ensures.page
+      refl;
+}

@@ -1,0 +1,47 @@
+-- What is asked for of a text: which run of it.
+use Rattle.std.proofs.Common.{Bor}
+use Rattle.std.specs.Prelude.{ℕ, List, Option, None, is_some}
+use Rattle.commandline.specs.declared.options.ExplainedBy.{ExplainedBy}
+use Rattle.commandline.specs.declared.options.ExplainedBy.TheVariants.{Order, Seed, Schedule, Log}
+use Rattle.commandline.specs.declared.options.Order.{Order as OrderOf}
+use Rattle.commandline.specs.declared.options.Order.TheVariants.{Workers, InOrder, Seed as InSeed}
+use Rattle.commandline.specs.declared.options.RunOptions.{RunOptions}
+use Rattle.commandline.specs.declared.options.ReplayedBy.{ReplayedBy}
+use Rattle.commandline.specs.declared.options.ReplayedBy.TheVariants.{Schedule as BySchedule, Log as ByLog}
+use Rattle.runner.specs.Logs.{Outside, nothing_outside, outside_of}
+use Rattle.runner.specs.declared.report.Report.{Report}
+use Rattle.answers.specs.declared.explained_run.ExplainedRun.{ExplainedRun}
+use Rattle.answers.specs.Explaining.{IsExplanation, IsExplanationOfText}
+use Rattle.answers.specs.LogLimits.{HasFewSteps}
+use Rattle.answers.specs.Replaying.{IsReplayOfText}
+use Rattle.answers.specs.Running.{IsRunOfText}
+use Rattle.answers.specs.SourceLog.{IsExplanationOfLog, IsReplayOfLog}
+use Rattle.answers.specs.Turns.{turns_in}
+
+-- what may come from outside in a run in this order
+abbrev pub outside_by : OrderOf → Outside
+outside_by Workers = nothing_outside
+outside_by InOrder = nothing_outside
+outside_by (InSeed seed strays kills) = outside_of (is_some strays) kills
+
+-- the run that is made of a text, as the options say
+abbrev pub IsRunAs : RunOptions → List ℕ → Report → Type 0
+IsRunAs options text report = IsRunOfText text (outside_by options.order) options.steps report
+
+-- the run that is explained, by what is named; with these bytes in the schedule or the log
+abbrev pub IsExplainedAs : ExplainedBy → (second : List ℕ) → List ℕ → ExplainedRun → Type 0
+IsExplainedAs (Order steps) second text r = IsExplanationOfText text nothing_outside steps r
+IsExplainedAs (Seed steps seed strays kills) second text r =
+    IsExplanationOfText text (outside_of (is_some strays) kills) steps r
+IsExplainedAs (Schedule name) second text r = IsExplanation text (IsReplayOfText text (turns_in second)) r
+IsExplainedAs (Log name steps) second text r = IsExplanationOfLog text second r × HasFewSteps second steps
+
+-- the run again, by what is named, with these bytes
+abbrev pub IsReplayedAs : ReplayedBy → (second : List ℕ) → List ℕ → Report → Type 0
+IsReplayedAs (BySchedule name log) second text r = IsReplayOfText text (turns_in second) r
+IsReplayedAs (ByLog name steps) second text r = IsReplayOfLog text second r × HasFewSteps second steps
+
+-- the file that the log of a replay is written to, where one is named
+abbrev pub log_beside : ReplayedBy → Option (Bor (List ℕ))
+log_beside (BySchedule name log) = log
+log_beside (ByLog name steps) = None

@@ -1,0 +1,124 @@
+-- What is done of the bytes of a file, and what is told of it.
+use Rattle.std.proofs.Common.{Bor}
+use Rattle.std.specs.Prelude.{codes, ◌≡◌, ◌++◌, ℕ, Bool, true, false, List, [], Option, Some, None, length, map}
+use Rattle.std.specs.List.{flat_map}
+use Rattle.words.specs.declared.version.ImageVersion.{ImageVersion}
+use Rattle.isa.specs.Programs.{Program}
+use Rattle.isa.specs.Spelling.{IsSpelled, spelling}
+use Rattle.isa.specs.Lines.{lines}
+use Rattle.scanner.specs.declared.refusal.Refusal.{Refusal}
+use Rattle.assembler.specs.Listings.{IsAssembled}
+use Rattle.runner.specs.declared.report.Report.{Report}
+use Rattle.runner.specs.Reports.{IsReport}
+use Rattle.program.specs.Trees.{Program as ProgramOf}
+use Rattle.source_states.specs.Actions.{action_of}
+use Rattle.actionlines.specs.Lines.{line}
+use Rattle.backend.specs.Refusals.{CodeFits}
+use Rattle.commandline.specs.declared.options.ChartOptions.{ChartOptions}
+use Rattle.commandline.specs.declared.options.ExplainedBy.{ExplainedBy}
+use Rattle.commandline.specs.declared.options.RunOptions.{RunOptions}
+use Rattle.compiler.specs.Accepts.{AcceptsText, RefusesTextAs}
+use Rattle.compiler.specs.Compiles.{IsCompiledAs}
+use Rattle.answers.specs.declared.answer.Answer.{Answer}
+use Rattle.answers.specs.declared.explained_run.ExplainedRun.{ExplainedRun}
+use Rattle.answers.specs.declared.status.Status.TheVariants.{Done}
+use Rattle.answers.specs.Answers.{AreDrawn, ArePuts, AreTold, TellsAlone, TellsReport}
+use Rattle.answers.specs.Answers.{status_of_verdict}
+use Rattle.answers.specs.Asked.{IsExplainedAs, outside_by}
+use Rattle.answers.specs.ImageLine.{image_line}
+
+-- the text was checked, and it was told that it is a program
+pub record HasChecked (text : List ℕ) (a : Answer) : Type 0 where
+  pub program : ProgramOf
+  pub accepts : AcceptsText text program
+  pub tells : TellsAlone (codes "ok\n") None a
+
+-- it is told that C was written to the file of this name
+abbrev pub TellsEmitted : Bor (List ℕ) → Answer → Type 0
+TellsEmitted out a = (c : List ℕ) × TellsAlone (codes "ok\n") (Some (out, c)) a
+
+-- the text is a program whose code fits, of which C is written to the file of this name, and that was told
+pub record HasEmitted (out : Bor (List ℕ)) (text : List ℕ) (a : Answer) : Type 0 where
+  pub program : ProgramOf
+  pub accepts : AcceptsText text program
+  pub fits : CodeFits program
+  pub tells : TellsEmitted out a
+
+-- the text was compiled to an image of this version, which is written to the file of this name, and its line was told
+pub record HasCompiled (version : ImageVersion) (out : Bor (List ℕ)) (text : List ℕ) (a : Answer) : Type 0 where
+  pub image : Program
+  pub compiled : IsCompiledAs version text image
+  pub tells : TellsAlone (image_line (length image.code)) (Some (out, spelling image)) a
+
+-- an image of the assembly text is written to the file of this name, and its line was told
+pub record HasAssembled (out : Bor (List ℕ)) (text : List ℕ) (a : Answer) : Type 0 where
+  pub image : Program
+  pub assembled : IsAssembled text image
+  pub tells : TellsAlone (image_line (length image.code)) (Some (out, spelling image)) a
+
+-- the command is done, and tells these lines alone, with more beside them where that is asked for
+pub record TellsLines (more : Bool) (lines : List ℕ) (a : Answer) : Type 0 where
+  pub ended : a.status ≡ Done
+  pub are_told : AreTold more lines a.output.items
+  pub account : a.account.items ≡ []
+  pub files : ArePuts None a.files
+
+-- the bytes spell an image, and the lines of its instructions were told
+pub record HasListed (more : Bool) (bytes : List ℕ) (a : Answer) : Type 0 where
+  pub image : Program
+  pub spelled : IsSpelled image
+  pub is : spelling image ≡ bytes
+  pub tells : TellsLines more (lines 0 image.code) a
+
+-- the text was run so, and that was told and logged, and shown on a page where that is wanted
+pub record HasRun (IsRun : List ℕ → Report → Type 0) (trace : Bool) (log page : Option (Bor (List ℕ))) (text : List ℕ)
+    (a : Answer)
+    : Type 0
+  where
+    pub report : Report
+    pub run : IsRun text report
+    pub tells : TellsReport report trace log page a
+
+-- the image was run as the options say, and that was told and logged
+pub record RunsImage (options : RunOptions) (image : Program) (a : Answer) : Type 0 where
+  pub report : Report
+  pub run : IsReport image (outside_by options.order) options.steps report
+  pub tells : TellsReport report options.trace options.log None a
+
+-- the bytes spell an image that was run so
+pub record HasExecuted (options : RunOptions) (bytes : List ℕ) (a : Answer) : Type 0 where
+  pub image : Program
+  pub spelled : IsSpelled image
+  pub is : spelling image ≡ bytes
+  pub runs : RunsImage options image a
+
+-- the lines of the actions of an explained run, by the names of its program
+abbrev pub explained_lines : ExplainedRun → List ℕ
+explained_lines r = flat_map (line r.checked.names) (map action_of r.actions.items)
+
+-- the lines of the actions of an explained run are told alone, with their places where those are asked for, and the run is
+-- drawn, timed and shown on a page, to the files of these names
+pub record TellsRun (places : Bool) (chart : Option ChartOptions) (timeline page : Option (Bor (List ℕ)))
+    (r : ExplainedRun) (a : Answer)
+    : Type 0
+  where
+    pub ended : a.status ≡ status_of_verdict r.report.verdict
+    pub are_told : AreTold places (explained_lines r) a.output.items
+    pub account : a.account.items ≡ []
+    pub files : AreDrawn chart timeline page a.files
+
+-- the text was run as was asked for and its run explained, or a log of it, and that was told
+pub record HasExplained (by : ExplainedBy) (second : List ℕ) (places : Bool) (chart : Option ChartOptions)
+    (timeline page : Option (Bor (List ℕ))) (text : List ℕ) (a : Answer)
+    : Type 0
+  where
+    pub explained_run : ExplainedRun
+    pub explained : IsExplainedAs by second text explained_run
+    pub tells : TellsRun places chart timeline page explained_run a
+
+-- this is the refusal of the source beside an image, where one is named, for an image of the version of that one
+pub record RefusesBeside (bytes second : List ℕ) (e : Refusal) : Type 0 where
+  pub image : Program
+  pub spelled : IsSpelled image
+  pub is : spelling image ≡ bytes
+  pub refuses : RefusesTextAs image.version second e

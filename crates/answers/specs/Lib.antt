@@ -1,0 +1,16 @@
+pub mod Turns
+pub mod Running
+pub mod Alone
+pub mod Replaying
+pub mod Explaining
+pub mod LogLimits
+pub mod SourceLog
+pub mod Asked
+pub mod Statuses
+pub mod ImageLine
+pub mod Failures
+pub mod Answers
+pub mod Exploring
+pub mod Formatting
+pub mod Images
+pub mod Done

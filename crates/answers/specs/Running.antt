@@ -1,0 +1,51 @@
+-- What a run of a source text answers.
+use Rattle.std.specs.Prelude.{◌≡◌, ◌⊎◌, ℕ, List, length, map}
+use Rattle.words.specs.Limits.{run_buckets}
+use Rattle.machine.specs.FrontRuns.{event_label, label_of}
+use Rattle.machine.specs.PieceSteps.{PieceRun}
+use Rattle.machine.specs.Runs.{Step}
+use Rattle.piece_machine.specs.PieceConcrete.{pieces_at}
+use Rattle.piece_machine.specs.PieceViews.{parts}
+use Rattle.program.specs.Trees.{Program}
+use Rattle.lowering.specs.Pieces.{code_of}
+use Rattle.refinement.specs.Pieces.{ExplainedInPieces}
+use Rattle.log_simulation.specs.Verdicts.{SaysOf}
+use Rattle.runner.specs.declared.fault.RunFault.{RunFault}
+use Rattle.runner.specs.declared.report.Report.{Report}
+use Rattle.runner.specs.LogRuns.{steps_of}
+use Rattle.runner.specs.Logs.{Outside, cost}
+use Rattle.runner.specs.Reports.{IsReport, CanFail}
+use Rattle.answers.specs.declared.source_run.RunSourceFault.{RunSourceFault}
+use Rattle.answers.specs.declared.source_run.RunSourceFault.TheVariants.{Refused, Run}
+use Rattle.compiler.specs.Accepts.{AcceptsText, RefusesText}
+use Rattle.scanner.specs.Refusals.{out_of_memory}
+
+-- a report of a run of the code of the text's program, with no more from outside than may be in it: a run of the machine,
+-- whose steps are those of the report's log, one by one, and which a run of the program explains. Its verdict is one on the
+-- source: each process is over, or the source is stuck, and each process waits that isn't over
+pub record IsRunOfText (text : List ℕ) (may : Outside) (limit : ℕ) (report : Report) : Type 0 where
+  pub program : Program
+  pub accepts : AcceptsText text program
+  pub is_report : IsReport (code_of program) may limit report
+  pub steps : List Step
+  pub count : length steps ≡ cost report.log.items
+  pub labels : map label_of steps ≡ map event_label (steps_of report.log.items)
+  pub machine_run : PieceRun (code_of program) run_buckets steps (pieces_at (parts report.last))
+  pub explained : ExplainedInPieces program (code_of program) steps (pieces_at (parts report.last))
+  pub says : SaysOf report.verdict program explained.source
+
+-- the run of that code can fail so
+pub record IsFailedRun (text : List ℕ) (may : Outside) (limit : ℕ) (fault : RunFault) : Type 0 where
+  pub program : Program
+  pub accepts : AcceptsText text program
+  pub fails : CanFail (code_of program) may limit fault
+
+-- the text's refusal, or want of memory, or a fault of the run
+abbrev pub IsRefusedRun : List ℕ → Outside → ℕ → RunSourceFault → Type 0
+IsRefusedRun text may limit (Refused e) = (e ≡ out_of_memory) ⊎ RefusesText text e
+IsRefusedRun text may limit (Run fault) = IsFailedRun text may limit fault
+
+-- no refusal but for want of memory
+abbrev pub IsMemory : RunSourceFault → Type 0
+IsMemory (Refused e) = e ≡ out_of_memory
+IsMemory (Run fault) = Unit {0}

@@ -1,0 +1,110 @@
+ghost use Rattle.std.specs.Prelude.{◌≤◌, ◌++◌, IfOk, IfErr, None, Some, codes, length};
+ghost use Rattle.compiler.specs.Accepts.{RefusesProgram, RefusesText, RefusesTextAs};
+ghost use Rattle.isa.specs.Spelling.{spelling};
+ghost use Rattle.answers.specs.Answers.{TellsAlone, put_of};
+ghost use Rattle.assembler.specs.Listings.{RefusesText as RefusesAssembly};
+ghost use Rattle.answers.specs.Done.{HasAssembled, HasChecked, HasCompiled, HasEmitted, TellsEmitted};
+ghost use Rattle.answers.specs.Failures.{HasNoMemory, IsLeftBy, IsRefusalBy};
+ghost use Rattle.answers.specs.ImageLine.{image_line};
+
+use crate::answer::{Answer, OutFile, OutFiles};
+use crate::failure::NoAnswer;
+use crate::hinting::SourceText;
+use crate::lines::line_of_image;
+use crate::status::Status;
+use assembler::assemble;
+use compiler::{check_text, compile_checked, compile_with_as};
+use emit::emit;
+use isa::{Image, encode};
+use program::Checked;
+use std::alloc::{AllocError, Global};
+use std::sync::Wait;
+use std::thread::Threads;
+use words::{ImageVersion, OpenGate};
+
+// The answer that all is well, with this file, or none.
+fn ok<'a>(alloc: Global, out: Option<OutFile<'a>>) -> Result<Answer<'a>, NoAnswer<'a>>
+    ensures told { IfOk result (TellsAlone (codes "ok\n") (put_of out.entry)) }
+    ensures failed { IfErr result HasNoMemory }
+{
+    let line = Vec::from_slice(alloc, "ok\n".as_bytes())?;
+    Ok(Answer::quiet(alloc, Status::Done, line, OutFiles::only(out)))
+}
+
+/// Checks a text.
+pub fn answer_check<'a>(alloc: Global, text: &SourceText<'_>) -> Result<Answer<'a>, NoAnswer<'a>>
+    ensures done { IfOk result (HasChecked text.now.bytes.now) }
+    ensures refused { IfErr result (IsRefusalBy (RefusesProgram text.now.bytes.now)) }
+{
+    check_text(alloc, text.bytes)?;
+    ok(alloc, None)
+}
+
+/// Compiles a text to an image of this version, for the file of this name.
+pub fn answer_compile<'a, R: AllocGlobal + Threads + Wait + Sync>(
+    rt: &R,
+    text: &SourceText<'_>,
+    out: &'a str,
+    version: ImageVersion,
+    workers: u32,
+) -> Result<Answer<'a>, NoAnswer<'a>>
+    requires { (1 ≤ workers) × (workers ≤ 64) }
+    ensures done { IfOk result (HasCompiled version out.entry text.now.bytes.now) }
+    ensures refused { IfErr result (IsRefusalBy (RefusesTextAs version text.now.bytes.now)) }
+{
+    let image = compile_with_as(rt, rt.alloc(), text.bytes, version, workers, &OpenGate)?;
+    image_answer(rt.alloc(), &image, out)
+}
+
+/// Assembles a text to an image, for the file of this name.
+pub fn answer_assemble<'a>(
+    alloc: Global,
+    text: &SourceText<'_>,
+    out: &'a str,
+) -> Result<Answer<'a>, NoAnswer<'a>>
+    ensures done { IfOk result (HasAssembled out.entry text.now.bytes.now) }
+    ensures refused { IfErr result (IsLeftBy (λ e. ⊥) (RefusesAssembly text.now.bytes.now)) }
+{
+    let assembled = assemble(alloc, text.bytes)?;
+    image_answer(alloc, &assembled.image, out)
+}
+
+// That an image is made, and its bytes for the file of this name.
+fn image_answer<'a>(alloc: Global, image: &Image, out: &'a str) -> Result<Answer<'a>, NoAnswer<'a>>
+    ensures told { IfOk result (TellsAlone (image_line (length image.now.code))
+        (Some (out.entry, spelling image.now))) }
+    ensures failed { IfErr result HasNoMemory }
+{
+    let count = image.code().len();
+    let line = line_of_image(alloc, count)?;
+    let bytes = encode(alloc, image)?;
+    let out = OutFile { name: out, bytes };
+    Ok(Answer::quiet(
+        alloc,
+        Status::Done,
+        line.into_bytes(),
+        OutFiles::only(Some(out)),
+    ))
+}
+
+/// Makes of the program of a text one in C, for the file of this name.
+pub fn answer_emit<'a>(
+    alloc: Global,
+    text: &SourceText<'_>,
+    out: &'a str,
+) -> Result<Answer<'a>, NoAnswer<'a>>
+    ensures done { IfOk result (HasEmitted out.entry text.now.bytes.now) }
+    ensures refused { IfErr result (IsRefusalBy (RefusesText text.now.bytes.now)) }
+{
+    let (checked, _lowered) = compile_checked(alloc, text.bytes)?;
+    c_answer(alloc, &checked, out)
+}
+
+// That the C of a program is made, and its bytes for the file of this name.
+fn c_answer<'a>(alloc: Global, checked: &Checked, out: &'a str) -> Result<Answer<'a>, NoAnswer<'a>>
+    ensures told { IfOk result (TellsEmitted out.entry) }
+    ensures failed { IfErr result HasNoMemory }
+{
+    let bytes = emit(alloc, checked)?;
+    ok(alloc, Some(OutFile { name: out, bytes }))
+}

@@ -1,0 +1,327 @@
+ghost use Rattle.std.specs.Prelude.{◌≡◌, ◌++◌, ◌⊎◌, IfOk, IfErr, MatchResult, OnOk, is_some, string_bytes, true};
+ghost use Rattle.scanner.specs.Refusals.{out_of_memory};
+ghost use Rattle.program.specs.Names.{naming_of, said_by};
+ghost use Rattle.compiler.specs.Accepts.{RefusesText};
+ghost use Rattle.answers.specs.Answers.{AreTold};
+ghost use Rattle.answers.specs.Exploring.{end_lines, explored_lines, explored_status, none_aborts, states_line};
+ghost use Rattle.answers.specs.Exploring.{AreDrawnIf, HasExplored, IsExploredText, IsFoundOf, TellsFound, is_found};
+ghost use Rattle.answers.specs.Failures.{HasNoMemory, IsRefusalBy};
+
+use crate::answer::{Answer, OutFiles};
+use crate::drawing::{Drawings, ShownRun};
+use crate::failure::NoAnswer;
+use crate::hinting::SourceText;
+use crate::status::Status;
+use crate::telling::tell_found;
+use crate::titles::title_of_found;
+use actionlines::action_lines;
+use compiler::{compile_checked, text_laws};
+use image_ends::image_laws;
+use line_tails::put_beside;
+use packed_log::PackedLog;
+use program::{Checked, Names};
+use run_hints::asides_of;
+use scanner::Refusal;
+use source_search::{Exploration, Outside, Progress, explore};
+use source_states::Action;
+use std::alloc::{AllocError, Global};
+use std::fmt::Write as _;
+
+/// A source text's program, and what a search over all its runs found.
+#[derive(Drop)]
+pub struct ExploredText<'a> {
+    /// The text's program.
+    pub checked: Checked<'a>,
+    /// What was found.
+    pub exploration: Exploration,
+}
+
+/// Searches all runs of the program of a source text, keeping at most so many states: for one that gets stuck, and for
+/// one in which a process aborts. With strays, processes that wait on a condition are also woken by nobody; with kills,
+/// so many processes at most are killed, wherever they stand, and who was killed doesn't count as one that aborts.
+///
+/// The search is complete unless it met a bound, which `Exploration::bound` names: as many states are kept as may be, or one
+/// of the others. Where it was complete and found none, there is none, and so no schedule of the text's image hangs, or has a
+/// thread that aborts: with strays whatever wakes come from outside, else as long as none do; and as long as no more
+/// threads are killed. That is so where futex calls are whole, and where they are taken in pieces.
+///
+/// How far the search has come is told as it goes.
+///
+/// # Errors
+///
+/// A text that `compile` refuses has the same refusal. Else there is no fault but want of memory.
+pub fn explore_source<'a, P: Progress>(
+    alloc: Global,
+    text: &'a [u8],
+    most_states: usize,
+    outside: Outside,
+    progress: &mut P,
+) -> Result<ExploredText<'a>, Refusal>
+    ensures { MatchResult result (λ explored. IsExploredText text.now outside most_states explored)
+        (λ e. (e ≡ out_of_memory) ⊎ RefusesText text.now e) }
+{
+    text_laws();
+    image_laws();
+    let (checked, _lowered) = compile_checked(alloc, text)?;
+    let exploration = explore_checked(alloc, &checked, most_states, outside, progress)?;
+    Ok(ExploredText {
+        checked,
+        exploration,
+    })
+}
+
+// What is found of a checked program.
+fn explore_checked<P: Progress>(
+    alloc: Global,
+    checked: &Checked,
+    most_states: usize,
+    outside: Outside,
+    progress: &mut P,
+) -> Result<Exploration, AllocError>
+    ensures { IfOk result (IsFoundOf (said_by checked.now) outside most_states) }
+{
+    explore(alloc, checked, most_states, outside, progress)
+}
+
+/// Searches all runs of a source text, with as much from outside as may be, tells what is found, and shows it in other
+/// files where they are named and anything was found. How far the search has come is told as it goes.
+pub fn answer_explore<'a, P: Progress>(
+    alloc: Global,
+    text: &SourceText<'_>,
+    most_states: u32,
+    outside: Outside,
+    drawings: Drawings<'a>,
+    places: bool,
+    told: &mut String,
+    progress: &mut P,
+) -> Result<Answer<'a>, NoAnswer<'a>>
+    ensures done { IfOk result (HasExplored outside most_states places drawings.entry.chart
+        drawings.entry.timeline drawings.entry.page text.now.bytes.now) }
+    ensures refused { IfErr result (IsRefusalBy (RefusesText text.now.bytes.now)) }
+{
+    let explored = explore_source(alloc, text.bytes, most_states as usize, outside, progress)?;
+    let found = shown(&explored.exploration);
+    tell_found(alloc, told, text, &explored.checked, found);
+    found_answer(alloc, text, &explored, outside, drawings, places)
+}
+
+// Tells what was found, and shows it in other files where they are named.
+fn found_answer<'a>(
+    alloc: Global,
+    text: &SourceText<'_>,
+    explored: &ExploredText<'_>,
+    outside: Outside,
+    drawings: Drawings<'a>,
+    places: bool,
+) -> Result<Answer<'a>, NoAnswer<'a>>
+    ensures told { IfOk result (TellsFound outside places drawings.entry.chart
+        drawings.entry.timeline drawings.entry.page explored.now) }
+    ensures failed { IfErr result HasNoMemory }
+{
+    let lines = told_lines(alloc, text, explored, outside, places)?;
+    let files = drawn_found(alloc, drawings, text, explored)?;
+    let status = status_of_found(&explored.exploration);
+    Ok(Answer::quiet(alloc, status, lines, files))
+}
+
+// What is told, with the places of the actions behind them where those are wanted.
+fn told_lines(
+    alloc: Global,
+    text: &SourceText<'_>,
+    explored: &ExploredText<'_>,
+    outside: Outside,
+    places: bool,
+) -> Result<Vec<u8>, AllocError>
+    ensures { IfOk result (λ v. AreTold places (explored_lines outside explored.now) v.items) }
+{
+    let lines = lines_of(alloc, explored, outside)?;
+    if places {
+        lines_beside(alloc, text, explored, lines.as_slice())
+    } else {
+        Ok(lines)
+    }
+}
+
+// These lines, with the places of the actions of the runs that were found behind them.
+fn lines_beside(
+    alloc: Global,
+    text: &SourceText<'_>,
+    explored: &ExploredText<'_>,
+    lines: &[u8],
+) -> Result<Vec<u8>, AllocError>
+    ensures { IfOk result (λ v. AreTold true lines.now v.items) }
+{
+    let found = &explored.exploration;
+    let mut tails = Vec::new(alloc);
+    tails.push(String::new(alloc))?;
+    for run in [&found.stuck, &found.aborted] {
+        if run.is_some() || found.complete {
+            tails.push(String::new(alloc))?;
+        }
+        add_places(alloc, text, &explored.checked, run, &mut tails)?;
+    }
+    put_beside(alloc, "", lines, tails.as_slice())
+}
+
+// Adds what stands behind each action of a run, where one was found.
+fn add_places(
+    alloc: Global,
+    text: &SourceText<'_>,
+    checked: &Checked,
+    found: &Option<Vec<Action>>,
+    tails: &mut Vec<String>,
+) -> Result<(), AllocError> {
+    let Some(actions) = found else {
+        return Ok(());
+    };
+    for aside in asides_of(alloc, text.file, text.bytes, checked, actions.as_slice())? {
+        tails.push(aside)?;
+    }
+    Ok(())
+}
+
+// The files that show the run that was found.
+fn drawn_found<'a>(
+    alloc: Global,
+    drawings: Drawings<'a>,
+    text: &SourceText<'_>,
+    explored: &ExploredText<'_>,
+) -> Result<OutFiles<'a>, AllocError>
+    ensures { IfOk result (AreDrawnIf (is_found explored.now.exploration) drawings.entry.chart
+        drawings.entry.timeline drawings.entry.page) }
+{
+    let Some(actions) = shown(&explored.exploration) else {
+        return Ok(OutFiles::only(None));
+    };
+    let is_stuck = explored.exploration.stuck.is_some();
+    let title = title_of_found(alloc, text.file, is_stuck)?;
+    let log = PackedLog::new(alloc);
+    let run = ShownRun {
+        file: text.file,
+        text: text.bytes,
+        checked: &explored.checked,
+        actions,
+        log: &log,
+        title: title.as_str(),
+    };
+    drawings.drawn(alloc, &run)
+}
+
+// The run that was found: the stuck one, where there are two.
+fn shown(found: &Exploration) -> Option<&[Action]>
+    ensures { is_some result ≡ is_found found.now }
+{
+    match (&found.stuck, &found.aborted) {
+        (Some(actions), _) => Some(actions.as_slice()),
+        (None, Some(actions)) => Some(actions.as_slice()),
+        (None, None) => None,
+    }
+}
+
+// How a search ended.
+fn status_of_found(found: &Exploration) -> Status
+    ensures { result ≡ explored_status found.now }
+{
+    if found.stuck.is_some() {
+        Status::Stuck
+    } else if found.aborted.is_some() {
+        Status::Found
+    } else if found.complete {
+        Status::Done
+    } else {
+        Status::Limit
+    }
+}
+
+// What is told of a search.
+fn lines_of(
+    alloc: Global,
+    explored: &ExploredText<'_>,
+    outside: Outside,
+) -> Result<Vec<u8>, AllocError>
+    ensures { IfOk result (λ v. v.items ≡ explored_lines outside explored.now) }
+{
+    let names = explored.checked.names();
+    let found = &explored.exploration;
+    let complete = found.complete;
+    let mut lines = first_line(alloc, found.states, complete)?;
+    append_end(
+        alloc,
+        &mut lines,
+        names,
+        "stuck\n",
+        "no run is stuck\n",
+        complete,
+        &found.stuck,
+    )?;
+    append_end(
+        alloc,
+        &mut lines,
+        names,
+        "aborted\n",
+        none_aborts(outside),
+        complete,
+        &found.aborted,
+    )?;
+    Ok(lines)
+}
+
+// What is told where no process was found to abort.
+fn none_aborts(outside: Outside) -> &'static str
+    ensures { result.now ≡ none_aborts outside }
+{
+    if outside.kills > 0 {
+        "no process aborts but by a kill\n"
+    } else {
+        "no process aborts\n"
+    }
+}
+
+fn first_line(alloc: Global, states: usize, complete: bool) -> Result<Vec<u8>, AllocError>
+    ensures { IfOk result (λ v. v.items ≡ states_line states complete) }
+{
+    let mut line = String::new(alloc);
+    append_states(&mut line, states, complete)?;
+    Ok(line.into_bytes())
+}
+
+/// Appends the line of how many states were kept.
+pub(crate) fn append_states(
+    text: &mut String,
+    states: usize,
+    complete: bool,
+) -> Result<(), AllocError>
+    ensures { OnOk result (string_bytes text.new
+        ≡ string_bytes text.old ++ states_line states complete) }
+{
+    write!(text, "{states} states")?;
+    if complete {
+        writeln!(text)
+    } else {
+        writeln!(text, ", not all")
+    }
+}
+
+// Appends what is told of one kind of end.
+fn append_end(
+    alloc: Global,
+    lines: &mut Vec<u8>,
+    names: &Names,
+    word: &str,
+    none: &str,
+    complete: bool,
+    found: &Option<Vec<Action>>,
+) -> Result<(), AllocError>
+    ensures { OnOk result (lines.new.items
+        ≡ lines.old.items ++ end_lines (naming_of names.now) word.now none.now complete found.now) }
+{
+    match found {
+        Some(actions) => {
+            lines.extend_from_slice(word.as_bytes())?;
+            let told = action_lines(alloc, names, actions.as_slice())?;
+            lines.extend_from_slice(told.as_slice())
+        }
+        None if complete => lines.extend_from_slice(none.as_bytes()),
+        None => Ok(()),
+    }
+}

@@ -1,0 +1,38 @@
+use Rattle.std.proofs.Common.{rules, codes, inl, inr, refl, sym, ◌∙◌}
+use Rattle.clap.proofs.WalkLemmas.{first_value-rows, one_text-rows}
+use Rattle.clap.specs.Words.{found_of}
+use Rattle.clap.specs.Walk.{rows_of}
+use Rattle.commandline.proofs.NoJobs.{no_search}
+use Rattle.commandline.proofs.job.search_of.Goals as goal
+
+pub returns-in_err-file-clause-none : goal.returns-in_err-file-clause-none
+returns-in_err-file-clause-none c =
+    let file = first_value-rows (found_of c.args.matches.now) (codes "FILE") in
+    λ _ job. no_search (rows_of (found_of c.args.matches.now)) job c.args.form c.requires (inr (inl (search rules)))
+
+pub returns-in_err-states-clause-none : goal.returns-in_err-states-clause-none
+returns-in_err-states-clause-none c = λ _ job.
+    no_search (rows_of (found_of c.args.matches.now)) job c.args.form c.requires
+    (inr (inr (inl (c.in_err-states.ensures.none refl))))
+
+pub returns-in_err-kills-clause-none : goal.returns-in_err-kills-clause-none
+returns-in_err-kills-clause-none c = λ _ job.
+    no_search (rows_of (found_of c.args.matches.now)) job c.args.form c.requires
+    (inr (inr (inr (c.in_err-kills.ensures.none refl))))
+
+pub returns-clause-job : goal.returns-clause-job
+returns-clause-job c =
+    let found = found_of c.args.matches.now in
+    let file = first_value-rows found (codes "FILE") in
+    let strays = one_text-rows found (codes "strays") in
+    let schedule = first_value-rows found (codes "schedule") in
+    let hints = one_text-rows found (codes "hints") in (
+      search rules,
+      c.requires,
+      c.in_ok-states.ensures.number,
+      (search rules, search rules),
+      c.in_ok-kills.ensures.number,
+      sym schedule ∙ sym c.get_str-schedule.ensures,
+      search rules,
+      (search rules, search rules),
+    )
