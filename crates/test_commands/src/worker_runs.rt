@@ -60,7 +60,7 @@ fn is_explained<R: AllocGlobal + Threads + Wait + Sync>(
 fn is_report_explained(alloc: Global, text: &[u8], report: &Report) -> Result<bool, Failure> {
     let mut lines = String::new(alloc);
     append_log(&mut lines, report.log.iter())?;
-    match explain_log_text(alloc, text, lines.as_bytes()) {
+    match explain_log_text(alloc, text, lines.as_bytes(), STEPS) {
         Ok(run) => prints_the_same(alloc, &run, report),
         Err(_) => Ok(false),
     }
