@@ -25,7 +25,7 @@
 //! program.mesa, with no `schedule` no program.schedule, and with no `image` there may be no program.image afterwards.
 //! So it is with `log`, `logged` and program.log. A `logged` with no line is the empty file.
 //!
-//! A search tells for each 200 states that it keeps how far it has come, on a device of its own with the room of standard
+//! A search tells for each 2,000 states that it keeps how far it has come, on a device of its own with the room of standard
 //! error. What that took stands first among the lines of `errors`.
 //!
 //! Beside these there are rows of one line, of which what comes is printed:

@@ -21,7 +21,7 @@ const LOG: &str = "program.log";
 const IMAGE: &str = "program.image";
 
 // For how many states that a search keeps it tells once how far it has come.
-const STATES: usize = 200;
+const STATES: usize = 2_000;
 
 /// What a command left.
 #[derive(Drop)]
