@@ -1,4 +1,4 @@
-//! A checked program as one file of C, over the header `linux/mesa_monitors.h`.
+//! A checked program as one file of C, over the header `include/mesa_monitors.h`.
 //!
 //! Proved safe and total, and no more: nothing is promised of the C.
 #![tactic(auto)]

@@ -82,8 +82,8 @@ fn main_of(program: &Program) -> u32 {
     main
 }
 
-/// A checked program as one file of C over `linux/mesa_monitors.h`: a monitor is a struct, a procedure a function, and
-/// monitors and their members have their names (a checked program keeps no others).
+/// A checked program as one file of C over `include/mesa_monitors.h`: a monitor is a struct, a procedure a function,
+/// and monitors and their members have their names (a checked program keeps no others).
 ///
 /// An operand whose fault has to come before another's is kept before the expression is written, since C evaluates the
 /// arguments of a call in any order.

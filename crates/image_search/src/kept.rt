@@ -4,7 +4,7 @@ ghost use Rattle.image_states.specs.declared.next.Next.{Next as NextOf};
 ghost use Rattle.image_search.specs.Kept.{HasKey};
 
 use crate::ending::Bound;
-use crate::numbers::Numbers;
+use digest_map::DigestMap;
 use image_states::{Doing, Next, Packed, Parts};
 use std::alloc::{AllocError, Global};
 
@@ -32,13 +32,13 @@ pub(crate) struct KeptStates {
     /// How each was come to; the first one wasn't.
     pub ways: Vec<Way>,
     // The place of each, by its digest.
-    places: Numbers,
+    places: DigestMap,
     /// How many states may be kept.
     pub most: u32,
 }
 
 // Whether this state, of this digest, is kept.
-fn is_kept(states: &[Packed], places: &Numbers, digest: u64, packed: &Packed) -> bool
+fn is_kept(states: &[Packed], places: &DigestMap, digest: u64, packed: &Packed) -> bool
     ensures { result ≡ true → HasKey states.now packed.now }
 {
     let mut tried = 0;
@@ -69,7 +69,7 @@ impl KeptStates {
             states: Vec::new(alloc),
             parts: Parts::new(alloc),
             ways: Vec::new(alloc),
-            places: Numbers::new(alloc),
+            places: DigestMap::new(alloc),
             most,
         }
     }

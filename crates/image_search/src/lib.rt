@@ -6,7 +6,6 @@ mod ending;
 mod ends;
 mod explore;
 mod kept;
-mod numbers;
 mod progress;
 mod search;
 mod shown;

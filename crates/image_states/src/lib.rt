@@ -11,7 +11,6 @@ mod ends;
 mod exits;
 mod forking;
 mod next;
-mod numbers;
 mod opening;
 mod outside;
 mod packed;

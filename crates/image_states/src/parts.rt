@@ -3,7 +3,7 @@ ghost use Rattle.std.specs.List.{slice_get};
 ghost use Rattle.image_states.specs.Packed.{IsGrown, words_in};
 
 use crate::digest::{local_digest, word_digest};
-use crate::numbers::Numbers;
+use digest_map::DigestMap;
 use isa::Image;
 use locals::Local;
 use std::alloc::{AllocError, Global};
@@ -22,9 +22,9 @@ pub struct Parts {
     // The digest of each memory, by the words in it.
     digests: Vec<u64>,
     // The numbers of the local states, by their digests.
-    local_numbers: Numbers,
+    local_numbers: DigestMap,
     // Those of the memories.
-    memory_numbers: Numbers,
+    memory_numbers: DigestMap,
 }
 
 // The word at this place of a memory with this word at an address.
@@ -80,8 +80,8 @@ impl Parts {
             locals: Vec::new(alloc),
             memories: Vec::new(alloc),
             digests: Vec::new(alloc),
-            local_numbers: Numbers::new(alloc),
-            memory_numbers: Numbers::new(alloc),
+            local_numbers: DigestMap::new(alloc),
+            memory_numbers: DigestMap::new(alloc),
         }
     }
 

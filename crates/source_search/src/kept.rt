@@ -7,9 +7,9 @@ ghost use Rattle.source_search.specs.Packed.{HasKey};
 
 use crate::digest::digest_packed;
 use crate::memo::Outcome;
-use crate::numbers::Numbers;
 use crate::packed::Packed;
 use crate::parts::{Parts, TRIES};
+use digest_map::DigestMap;
 use program::Checked;
 use source_states::SourceState;
 use std::alloc::{AllocError, Global};
@@ -79,13 +79,13 @@ pub(crate) struct Kept<'a> {
     /// How each was come to.
     pub ways: Vec<Way>,
     // The place of each, by its digest.
-    places: Numbers,
+    places: DigestMap,
     // How many states may be kept.
     most: usize,
 }
 
 // Whether a state of these parts, of this digest, is kept.
-fn is_kept(states: &[Packed], places: &Numbers, digest: u64, packed: &Packed) -> bool
+fn is_kept(states: &[Packed], places: &DigestMap, digest: u64, packed: &Packed) -> bool
     ensures { result ≡ true → HasKey states.now packed.now }
 {
     let mut tried = 0;
@@ -108,7 +108,7 @@ fn is_kept(states: &[Packed], places: &Numbers, digest: u64, packed: &Packed) ->
 // outcome has them, is kept.
 fn is_moved_kept(
     states: &[Packed],
-    places: &Numbers,
+    places: &DigestMap,
     digest: u64,
     other: &Packed,
     place: usize,
@@ -145,7 +145,7 @@ impl<'a> Kept<'a> {
             states: Vec::new(alloc),
             parts: Parts::new(alloc),
             ways: Vec::new(alloc),
-            places: Numbers::new(alloc),
+            places: DigestMap::new(alloc),
             most,
         }
     }

@@ -13,7 +13,6 @@ mod learning;
 mod making;
 mod memo;
 mod merging;
-mod numbers;
 mod outside;
 mod packed;
 mod parts;

@@ -5,8 +5,8 @@ ghost use Rattle.source_table.specs.Tables.{table_of};
 ghost use Rattle.source_states.specs.States.{state_of};
 
 use crate::digest::{digest_process, digest_table, digest_variables};
-use crate::numbers::Numbers;
 use crate::packed::Packed;
+use digest_map::DigestMap;
 use program::Program;
 use source_offers::{Process, Variables};
 use source_sameness::same_process;
@@ -27,11 +27,11 @@ pub(crate) struct Parts<'a> {
     /// The processes.
     pub processes: Vec<Process<'a>>,
     // The numbers of the tables.
-    table_numbers: Numbers,
+    table_numbers: DigestMap,
     // Those of the values of variables.
-    variables_numbers: Numbers,
+    variables_numbers: DigestMap,
     // Those of the processes.
-    process_numbers: Numbers,
+    process_numbers: DigestMap,
 }
 
 impl<'a> Parts<'a> {
@@ -44,9 +44,9 @@ impl<'a> Parts<'a> {
             tables: Vec::new(alloc),
             variables: Vec::new(alloc),
             processes: Vec::new(alloc),
-            table_numbers: Numbers::new(alloc),
-            variables_numbers: Numbers::new(alloc),
-            process_numbers: Numbers::new(alloc),
+            table_numbers: DigestMap::new(alloc),
+            variables_numbers: DigestMap::new(alloc),
+            process_numbers: DigestMap::new(alloc),
         }
     }
 

@@ -47,7 +47,7 @@
 //! aborted and `T@ADDRESS` for each that sleeps, by rising number, then `ADDRESS:WORD` for each address that the row
 //! names, with the word at the end in hexadecimal digits, and with a comma before each of these.
 //!
-//! The script ./benchmark times it.
+//! The script beside/speed/benchmark times it.
 #![tactic(auto)]
 
 mod by_hand;

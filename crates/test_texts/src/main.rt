@@ -21,7 +21,7 @@
 //! astray HINTS              the hints to a refusal of each kind at a place that its text does not have
 //! ```
 //!
-//! Outside texts of several lines, empty lines and lines that begin with `#` say nothing. The script ./benchmark times
+//! Outside texts of several lines, empty lines and lines that begin with `#` say nothing. The script beside/speed/benchmark times
 //! rows `times`.
 #![tactic(auto)]
 
