@@ -1,3 +1,4 @@
+use crate::asserted::append_test_before;
 use crate::causes::deed;
 use crate::circles::append_circles;
 use crate::follower::Follower;
@@ -10,6 +11,7 @@ use source_states::Action;
 use source_table::Hold;
 use std::alloc::{AllocError, Global};
 use text_writer::TextWriter;
+use words::{Cause, Fault};
 
 // Appends who holds a monitor.
 fn append_holder(out: &mut TextWriter, follower: &Follower<'_, '_>, monitor: u32) {
@@ -37,6 +39,15 @@ fn append_suspended(
     append_holder(out, follower, condition.monitor)
 }
 
+// Appends what a process did that aborted of this cause.
+fn append_cause(out: &mut TextWriter, follower: &Follower<'_, '_>, process: u64, cause: Cause) {
+    out.text(" ");
+    out.text(deed(cause));
+    if cause == Cause::Faulted(Fault::AbortStatement) {
+        append_test_before(out, follower, process)
+    }
+}
+
 // Appends what a process does at this stage.
 fn append_deed(
     out: &mut TextWriter,
@@ -53,14 +64,10 @@ fn append_deed(
         }
         Stage::Suspended(condition) => append_suspended(out, follower, names, process, *condition),
         Stage::Joining { child, .. } => { out.form(" joins process $", &[*child]) }
-        Stage::Over(End::Aborted(cause)) => {
-            out.text(" ");
-            out.text(deed(*cause))
-        }
+        Stage::Over(End::Aborted(cause)) => append_cause(out, follower, process, *cause),
         Stage::Over(End::Ended(_)) => out.text(" has ended"),
         Stage::Dying(cause, _) => {
-            out.text(" ");
-            out.text(deed(*cause));
+            append_cause(out, follower, process, *cause);
             out.text(", and is dying,")
         }
         _ => out.text(" goes on"),

@@ -2,6 +2,7 @@
 #![tactic(auto)]
 
 mod asides;
+mod asserted;
 mod causes;
 mod circles;
 mod ends;
