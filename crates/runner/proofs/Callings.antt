@@ -23,7 +23,7 @@ use Rattle.runner.specs.declared.attempt.Attempt.TheVariants.{Accessed, Made}
 use Rattle.runner.specs.declared.fault.RunFault.{RunFault}
 use Rattle.runner.specs.declared.fault.RunFault.TheVariants as fault
 use Rattle.runner.proofs.Growing.{entry}
-use Rattle.runner.proofs.Walking.{step_enters, walk_breaks, walk_enters, walk_waits}
+use Rattle.runner.proofs.Walking.{step_enters, step_next, walk_breaks, walk_enters, walk_waits}
 
 only : (r q : Request) → Some r ≡ Some q → r ≡ q
 only r q is = cc
@@ -62,7 +62,7 @@ step_ends p k mid new t n event log log' a w shared done grows made other = reco
   enters = step_enters p k mid new t n event w shared done;
   grows = grows;
   costs = refl;
-  goes = omega arith;
+  next = step_next p k mid new t n event w shared done;
   made = (made, other);
   fails = tt;
 }
@@ -78,7 +78,7 @@ none_ends p k mid new t n f log log' w shared fails same grows = record {
   enters = walk_enters p k mid new t n w same;
   grows = grows;
   costs = omega arith;
-  goes = tt;
+  next = tt;
   made = tt;
   fails = λ free. walk_breaks p k mid t n f w shared fails (λ waits. free (walk_waits p k mid t n w waits));
 }

@@ -21,9 +21,11 @@ pub mod Resting
 pub mod Walking
 pub mod Callings
 pub mod RoundSteps
+pub mod Ordering
 pub mod Scheduling
 pub mod Locally
 pub mod Once
+pub mod OneLog
 pub mod Drawn
 pub mod Reporting
 pub mod Turning

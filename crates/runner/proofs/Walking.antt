@@ -1,5 +1,5 @@
 -- What comes of a thread that took the local steps of its turn, on the machine or ahead of it.
-use Rattle.std.proofs.Common.{◌≡◌, ◌≢◌, ◌≤◌, ◌<◌, ℕ, zero, suc, true, Option, Some, None, Ok, Err, Result}
+use Rattle.std.proofs.Common.{◌≡◌, ◌≢◌, ◌≤◌, ◌<◌, ℕ, true, Option, Some, None, Ok, Err, Result}
 use Rattle.std.proofs.Common.{is_some, length, slice_set, false, ◌-◌, IfErr, refl, ap, sym, ◌∙◌, subst, arith}
 use Rattle.std.specs.Prelude.{IfNone, IfSome, MatchOption, OnOk}
 use Rattle.std.specs.Result.{result_and}
@@ -24,9 +24,9 @@ use Rattle.machine.specs.Views.{View, concrete}
 use Rattle.machine.proofs.Placing.{thread_at-put}
 use Rattle.piece_machine.specs.PieceConcrete.{PieceConcrete, piece_fault_at, piece_of, with_local}
 use Rattle.piece_machine.specs.PieceViews.{PieceView as MachineView, DoneFrom, GoesTo, HasNoLocal, parts}
-use Rattle.runner.specs.Entries.{BreaksAfter, entry_end}
+use Rattle.runner.specs.Entries.{BreaksAfter, entry_end, entry_end_by}
 use Rattle.runner.specs.Logs.{EntersOwn}
-use Rattle.runner.specs.Reports.{IsHeldUp}
+use Rattle.runner.specs.Reports.{IsHeldUp, IsNextEntry}
 use Rattle.runner.specs.Walks.{FailsAfter, Turns, Walked}
 use Rattle.runner.specs.declared.fault.RunFault.{RunFault}
 use Rattle.runner.specs.declared.fault.RunFault.TheVariants as fault
@@ -48,15 +48,6 @@ pub walked_there : (p : Program) (k mid : PieceConcrete) (t n : ℕ) (w : Walked
 walked_there p k mid t n w =
     ap (λ (m : PieceConcrete). thread_of m.concrete t) w.there
     ∙ thread_at-put k.concrete.threads t w.origin w.here w.stands
-
--- before a local step its turn is over
-over : (n : ℕ) (o : Option Thread) → is_some o ≡ true → (n < 256 → o ≡ None) → 1 ≤ n
-over zero o some whole = absurd (cc (sym some ∙ ap is_some (whole (omega arith))))
-over (suc n) o some whole = omega arith
-
-pub turn_goes : (p : Program) (k mid : PieceConcrete) (t n : ℕ) (w : Walked p k t n mid)
-    → is_some (local_step p t w.here) ≡ true → 1 ≤ n
-turn_goes p k mid t n w some = over n (local_step p t w.here) some w.turns.whole
 
 -- its entry has those steps alone
 pub walk_enters : (p : Program) (k mid new : PieceConcrete) (t n : ℕ) → Walked p k t n mid → new ≡ mid
@@ -94,6 +85,48 @@ step_enters p k mid new t n e w shared steps = record {
     ap (λ (m : PieceConcrete). piece_of p m t) (sym w.there) ∙ steps,
   );
 }
+
+-- either is the next one of the thread
+local_end : (k : PieceConcrete) (r : Result (PieceConcrete × Event) StepFault) (o : Option Thread) → is_some o ≡ true
+    → entry_end_by k r o ≡ Ok (k, None)
+local_end k r None some = absurd cc
+local_end k r (Some x) some = refl
+
+shared_end : (k new : PieceConcrete) (e : Event) (r : Result (PieceConcrete × Event) StepFault) (o : Option Thread)
+    → o ≡ None → r ≡ Ok (new, e) → entry_end_by k r o ≡ Ok (new, Some e)
+shared_end k new e r o shared gives = (λ i. entry_end_by k (gives i) (shared i))
+
+pub walk_next : (p : Program) (k mid : PieceConcrete) (t n : ℕ) (w : Walked p k t n mid)
+    → is_some (local_step p t w.here) ≡ true → IsNextEntry p k t n None
+walk_next p k mid t n w some = record {
+  origin = w.origin;
+  here = w.here;
+  concrete = with_local k t w.here;
+  stands = w.stands;
+  goes = w.turns.goes;
+  turn = w.turns.turn;
+  whole = w.turns.whole;
+  gives = local_end (with_local k t w.here) (piece_of p (with_local k t w.here) t) (local_step p t w.here) some;
+}
+
+pub own_next : (p : Program) (k new : PieceConcrete) (t n : ℕ) (e : Event) → EntersOwn p k (entry t n (Some e)) new
+    → n ≤ 256 → IsNextEntry p k t n (Some e)
+own_next p k new t n e own turn = record {
+  origin = own.origin;
+  here = own.here;
+  concrete = new;
+  stands = own.stands;
+  goes = own.goes;
+  turn = turn;
+  whole = λ few. own.ends.0;
+  gives = shared_end (with_local k t own.here) new e (piece_of p (with_local k t own.here) t) (local_step p t own.here)
+      own.ends.0 own.ends.1;
+}
+
+pub step_next : (p : Program) (k mid new : PieceConcrete) (t n : ℕ) (e : Event) (w : Walked p k t n mid)
+    → is_some (local_step p t w.here) ≡ false → piece_of p mid t ≡ Ok (new, e) → IsNextEntry p k t n (Some e)
+step_next p k mid new t n e w shared steps =
+    own_next p k new t n e (step_enters p k mid new t n e w shared steps) w.turns.turn
 
 -- where that step is refused and doesn't wait for a held bucket, it may not be
 pub walk_breaks : (p : Program) (k mid : PieceConcrete) (t n : ℕ) (f : StepFault) (w : Walked p k t n mid)

@@ -8,6 +8,7 @@ pub mod Afters
 pub mod Attempts
 pub mod CalmCode
 pub mod Reports
+pub mod Orders
 pub mod Walks
 pub mod Waits
 pub mod Rounds

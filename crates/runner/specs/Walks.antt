@@ -15,7 +15,7 @@ use Rattle.runner.specs.declared.fault.RunFault.TheVariants.{Stray, Limit, Canno
 use Rattle.runner.specs.Attempts.{is_made}
 use Rattle.runner.specs.Entries.{BreaksAfter}
 use Rattle.runner.specs.Logs.{EntersOwn, event_cost}
-use Rattle.runner.specs.Reports.{IsHeldUp}
+use Rattle.runner.specs.Reports.{IsHeldUp, IsNextEntry}
 
 -- the local steps of a turn lead from one state of the thread to another, until another step comes or the turn is over
 pub record Turns (p : Program) (t count : ℕ) (origin here : Thread) : Type 0 where
@@ -51,6 +51,6 @@ pub record EndsWalk (p : Program) (k : PieceConcrete) (t count : ℕ) (log : Lis
   pub enters : EntersOwn p k entry k'
   pub grows : log' ≡ log ++ entry ∷ []
   pub costs : steps ≡ entry.local + event_cost entry.event
-  pub goes : OnOk told (1 ≤ steps)
+  pub next : OnOk told (IsNextEntry p k t entry.local entry.event)
   pub made : IfOk told (λ a. (is_made a ≡ true) × (a ≢ Accessed))
   pub fails : IfErr told (λ fault. (IsHeldUp p k t → ⊥) → FailsAfter p k t count fault)

@@ -16,8 +16,8 @@ ghost use Rattle.piece_machine.specs.PieceDetermined.{IsFit};
 ghost use Rattle.piece_machine.specs.PieceViews.{GoesTo, event_told, parts};
 ghost use Rattle.runner.specs.Attempts.{AsksFirst, WantsIf, is_made};
 ghost use Rattle.runner.specs.Entries.{BreaksAfter, entry_end, taken_entry, taken_event};
-ghost use Rattle.runner.specs.Logs.{EntersOwn, event_cost};
-ghost use Rattle.runner.specs.Reports.{IsHeldUp};
+ghost use Rattle.runner.specs.Logs.{EntersOwn};
+ghost use Rattle.runner.specs.Reports.{IsHeldUp, IsNextEntry};
 ghost use Rattle.runner.specs.Walks.{EndsWalk, FailsAfter, Turns, Walked};
 ghost use Rattle.runner.specs.declared.attempt.Attempt;
 ghost use Rattle.runner.specs.declared.attempt.Obstacle;
@@ -275,8 +275,9 @@ fn take_end(
     ensures count { result.0.local ≡ local }
     ensures enters { (k : PieceConcrete) → Walked machine.old.view.program k t local (parts machine.old)
         → EntersOwn machine.old.view.program k (taken_entry t result.0 event.new) (parts machine.new) }
-    ensures goes { (k : PieceConcrete) → Walked machine.old.view.program k t local (parts machine.old)
-        → OnOk result.1 (1 ≤ result.0.local + event_cost (taken_event result.0.behind event.new)) }
+    ensures next { (k : PieceConcrete) → Walked machine.old.view.program k t local (parts machine.old)
+        → OnOk result.1 (IsNextEntry machine.old.view.program k t result.0.local
+        (taken_event result.0.behind event.new)) }
     ensures fails { IfErr result.1 (λ fault. (k : PieceConcrete)
         (w : Walked machine.old.view.program k t local (parts machine.old))
         → (entry_end machine.old.view.program k t w.here ≢ Err CannotMove)
@@ -303,8 +304,9 @@ fn end_with_room(
     ensures count { result.0.local ≡ local }
     ensures enters { (k : PieceConcrete) → Walked machine.old.view.program k t local (parts machine.old)
         → EntersOwn machine.old.view.program k (taken_entry t result.0 event.new) (parts machine.new) }
-    ensures goes { (k : PieceConcrete) → Walked machine.old.view.program k t local (parts machine.old)
-        → OnOk result.1 (1 ≤ result.0.local + event_cost (taken_event result.0.behind event.new)) }
+    ensures next { (k : PieceConcrete) → Walked machine.old.view.program k t local (parts machine.old)
+        → OnOk result.1 (IsNextEntry machine.old.view.program k t result.0.local
+        (taken_event result.0.behind event.new)) }
     ensures breaks { IfErr result.1 (λ fault. (k : PieceConcrete)
         (w : Walked machine.old.view.program k t local (parts machine.old))
         → (entry_end machine.old.view.program k t w.here ≢ Err CannotMove)
@@ -331,8 +333,8 @@ pub fn take_if_free(
     ensures enters { IfOk result (λ taken. EntersOwn machine.old.view.program (parts machine.old)
         (taken_entry t taken.0 event.new) (parts machine.new)) }
     ensures turn { IfOk result (λ taken. taken.0.local ≤ most_local_steps) }
-    ensures goes { IfOk result (λ taken. OnOk taken.1
-        (1 ≤ taken.0.local + event_cost (taken_event taken.0.behind event.new))) }
+    ensures next { IfOk result (λ taken. OnOk taken.1 (IsNextEntry machine.old.view.program (parts machine.old) t
+        taken.0.local (taken_event taken.0.behind event.new))) }
     ensures breaks { IfOk result (λ taken. IfErr taken.1
         (λ fault. (fault ≡ RunFault.Broken)
         × BreaksAfter machine.old.view.program (parts machine.old) t taken.0.local)) }
@@ -366,8 +368,8 @@ fn take_at_once(
     ensures enters { IfOk result (λ taken. EntersOwn machine.old.view.program (parts machine.old)
         (taken_entry t taken.0 event.new) (parts machine.new)) }
     ensures turn { IfOk result (λ taken. taken.0.local ≤ most_local_steps) }
-    ensures goes { IfOk result (λ taken. OnOk taken.1
-        (1 ≤ taken.0.local + event_cost (taken_event taken.0.behind event.new))) }
+    ensures next { IfOk result (λ taken. OnOk taken.1 (IsNextEntry machine.old.view.program (parts machine.old) t
+        taken.0.local (taken_event taken.0.behind event.new))) }
     ensures breaks { IfOk result (λ taken. IfErr taken.1
         (λ fault. (fault ≡ RunFault.Broken)
         × BreaksAfter machine.old.view.program (parts machine.old) t taken.0.local)) }
@@ -407,8 +409,8 @@ fn take_ahead(
     ensures enters { IfOk result (λ taken. EntersOwn machine.old.view.program (parts machine.old)
         (taken_entry t taken.0 event.new) (parts machine.new)) }
     ensures turn { IfOk result (λ taken. taken.0.local ≤ most_local_steps) }
-    ensures goes { IfOk result (λ taken. OnOk taken.1
-        (1 ≤ taken.0.local + event_cost (taken_event taken.0.behind event.new))) }
+    ensures next { IfOk result (λ taken. OnOk taken.1 (IsNextEntry machine.old.view.program (parts machine.old) t
+        taken.0.local (taken_event taken.0.behind event.new))) }
     ensures breaks { IfOk result (λ taken. IfErr taken.1
         (λ fault. (fault ≡ RunFault.Broken)
         × BreaksAfter machine.old.view.program (parts machine.old) t taken.0.local)) }
@@ -496,8 +498,9 @@ fn end_entry(
     ensures count { result.0.local ≡ local }
     ensures enters { (k : PieceConcrete) → Walked machine.old.view.program k t local (parts machine.old)
         → EntersOwn machine.old.view.program k (taken_entry t result.0 event.new) (parts machine.new) }
-    ensures goes { (k : PieceConcrete) → Walked machine.old.view.program k t local (parts machine.old)
-        → OnOk result.1 (1 ≤ result.0.local + event_cost (taken_event result.0.behind event.new)) }
+    ensures next { (k : PieceConcrete) → Walked machine.old.view.program k t local (parts machine.old)
+        → OnOk result.1 (IsNextEntry machine.old.view.program k t result.0.local
+        (taken_event result.0.behind event.new)) }
     ensures breaks { IfErr result.1 (λ fault. (k : PieceConcrete)
         (w : Walked machine.old.view.program k t local (parts machine.old))
         → (entry_end machine.old.view.program k t w.here ≢ Err CannotMove)

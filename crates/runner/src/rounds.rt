@@ -1,13 +1,15 @@
 ghost use Rattle.words.specs.Limits.{most_threads};
-ghost use Rattle.std.specs.Prelude.{suc, ◌≡◌, ◌≤◌, ◌<◌, ◌+◌, ◌⊎◌, length, true, false, IfOk, IfErr, IfSome, OnOk};
+ghost use Rattle.std.specs.Prelude.{suc, ◌≡◌, ◌≤◌, ◌<◌, ◌+◌, ◌⊎◌, List, length, true, false, Some, IfOk, IfErr, IfSome, OnOk};
 ghost use Rattle.machine.specs.ConcreteSteps.{can_move};
+ghost use Rattle.machine.specs.declared.event.Entry.{Entry};
 ghost use Rattle.piece_machine.specs.PieceDetermined.{IsFit};
 ghost use Rattle.runner.specs.Attempts.{TriedSo, came, is_made};
 ghost use Rattle.runner.specs.Logs.{cost};
+ghost use Rattle.runner.specs.Orders.{GoesOn, HasBegun, HasGoneAlone, HasMade};
 ghost use Rattle.runner.specs.Reports.{CanFail, IsStopped};
 ghost use Rattle.runner.specs.Rounds.{AllPast, AreTried, HasTurned, Idle, IsTurn};
 ghost use Rattle.runner.specs.Views.{log_state};
-ghost use Rattle.runner.specs.Waits.{AllWait};
+ghost use Rattle.runner.specs.Waits.{AllWait, IsNextAround};
 
 use crate::attempt::Attempt;
 use crate::caller::{Alone, Drawn, InRounds};
@@ -31,6 +33,7 @@ pub fn run_rounds<J: RunName, G: Gate>(
 ) -> Result<(), RunFault>
     requires image { image.now ≡ J.program }
     ensures ok { OnOk result (Idle J.program J.limit (log_state shared.new)) }
+    ensures order { OnOk result (GoesOn J.program J.limit shared.old.log shared.new.log) }
     ensures err { IfErr result (λ fault. CanFail J.program J.outside J.limit fault) }
 {
     let forked = run_first(shared, share, gate)?;
@@ -58,6 +61,7 @@ fn run_first<J: RunName, G: Gate>(
     share: &mut Share<J>,
     gate: &G,
 ) -> Result<bool, RunFault>
+    ensures order { IfOk result (λ forked. HasBegun forked J.program J.limit shared.old.log (log_state shared.new)) }
     ensures err { IfErr result (λ fault. CanFail J.program J.outside J.limit fault) }
 {
     if shared.machine().threads() > 1 {
@@ -84,6 +88,8 @@ fn end_round<J: RunName, G: Gate>(
     requires room { length refused.old ≡ suc most_threads }
     requires past { AllPast J.program J.limit (log_state shared.old) refused.old }
     ensures past { OnOk result (AllPast J.program J.limit (log_state shared.new) refused.new) }
+    ensures order { OnOk result ((start : List Entry) → HasBegun forked J.program J.limit start (log_state shared.old)
+        → HasBegun false J.program J.limit start (log_state shared.new)) }
     ensures err { IfErr result (λ fault. CanFail J.program J.outside J.limit fault) }
 {
     if !forked {
@@ -106,6 +112,7 @@ pub fn run_alone<J: RunName, G: Gate>(
     t: u32,
 ) -> Result<(), RunFault>
     ensures given { shared.new.given ≡ shared.old.given }
+    ensures order { OnOk result (HasGoneAlone J.program J.limit t (log_state shared.old) (log_state shared.new)) }
     ensures err { IfErr result (λ fault. CanFail J.program J.outside J.limit fault) }
 {
     let mut moves = shared.machine().can_move(t);
@@ -139,6 +146,8 @@ fn take_turns<J: RunName, G: Gate>(
     requires past { AllPast J.program J.limit (log_state shared.old) refused.old }
     requires waits { AllWait J.program (log_state shared.old).concrete waiting.old }
     ensures ok { OnOk result (Idle J.program J.limit (log_state shared.new)) }
+    ensures order { OnOk result ((start : List Entry) → HasBegun false J.program J.limit start (log_state shared.old)
+        → GoesOn J.program J.limit start shared.new.log) }
     ensures err { IfErr result (λ fault. CanFail J.program J.outside J.limit fault) }
 {
     // So many steps were taken when a round last ended behind a turn without an entry, or before the first turn.
@@ -177,6 +186,7 @@ fn next_untried<J: RunName>(
     requires tried { AreTried J.program J.limit before.old (log_state shared.now) (t + 1) }
     requires within { before.old ≤ J.limit }
     ensures next { IsTurn J.program J.limit before.new (log_state shared.now) result }
+    ensures around { IfSome result (λ u. IsNextAround J.program (log_state shared.now).concrete t (Some u)) }
     ensures on { IfSome result (λ u. (before.new ≡ before.old × (t < u)) ⊎ (before.old < before.new)) }
     ensures within { before.new ≤ J.limit }
 {
@@ -214,6 +224,8 @@ fn take_turn<J: RunName, G: Gate>(
     ensures past { OnOk result (AllPast J.program J.limit (log_state shared.new) refused.new) }
     ensures waits { OnOk result (AllWait J.program (log_state shared.new).concrete waiting.new) }
     ensures turned { IfOk result (λ made. HasTurned made J.program J.limit (log_state shared.old) (log_state shared.new) t) }
+    ensures entry { IfOk result (λ made. made ≡ true → HasMade J.program t
+        (log_state shared.old) (log_state shared.new)) }
     ensures err { IfErr result (λ fault. CanFail J.program J.outside J.limit fault) }
 {
     if attempt_entry::<J, G, InRounds>(shared, refused, image, share, gate, t, piece, told) {
@@ -245,6 +257,8 @@ pub(crate) fn make_entry<J: RunName, G: Gate>(
     ensures past { OnOk result (AllPast J.program J.limit (log_state shared.new) refused.new) }
     ensures made { IfOk result (λ made. made ≡ true → (cost shared.old.log < cost shared.new.log)
         × (cost shared.new.log ≤ J.limit)) }
+    ensures entry { IfOk result (λ made. made ≡ true → HasMade J.program t
+        (log_state shared.old) (log_state shared.new)) }
     ensures none { IfOk result (λ made. made ≡ false → (log_state shared.new ≡ log_state shared.old)
         × (can_move (log_state shared.new).concrete.concrete t ≡ true
         → IsStopped J.program J.limit shared.new.log (log_state shared.new).concrete t)) }
@@ -282,6 +296,8 @@ fn attempt_entry<J: RunName, G: Gate, C>(
     ensures past { OnOk (came result told.new) (AllPast J.program J.limit (log_state shared.new) refused.new) }
     ensures made { IfOk (came result told.new) (λ a. is_made a ≡ true → (cost shared.old.log < cost shared.new.log)
         × (cost shared.new.log ≤ J.limit)) }
+    ensures entry { IfOk (came result told.new) (λ a. is_made a ≡ true → HasMade J.program t
+        (log_state shared.old) (log_state shared.new)) }
     ensures none { IfOk (came result told.new) (λ a. is_made a ≡ false → (log_state shared.new ≡ log_state shared.old)
         × (can_move (log_state shared.new).concrete.concrete t ≡ true
         → IsStopped J.program J.limit shared.new.log (log_state shared.new).concrete t)) }
@@ -318,6 +334,8 @@ fn tell_entry<J: RunName, G: Gate>(
     ensures past { OnOk told.new (AllPast J.program J.limit (log_state shared.new) refused.new) }
     ensures made { IfOk told.new (λ a. is_made a ≡ true → (cost shared.old.log < cost shared.new.log)
         × (cost shared.new.log ≤ J.limit)) }
+    ensures entry { IfOk told.new (λ a. is_made a ≡ true → HasMade J.program t
+        (log_state shared.old) (log_state shared.new)) }
     ensures none { IfOk told.new (λ a. is_made a ≡ false → (log_state shared.new ≡ log_state shared.old)
         × (can_move (log_state shared.new).concrete.concrete t ≡ true
         → IsStopped J.program J.limit shared.new.log (log_state shared.new).concrete t)) }
@@ -346,6 +364,8 @@ fn try_entry<J: RunName, G: Gate>(
     ensures past { OnOk result (AllPast J.program J.limit (log_state shared.new) refused.new) }
     ensures made { IfOk result (λ a. is_made a ≡ true → (cost shared.old.log < cost shared.new.log)
         × (cost shared.new.log ≤ J.limit)) }
+    ensures entry { IfOk result (λ a. is_made a ≡ true → HasMade J.program t
+        (log_state shared.old) (log_state shared.new)) }
     ensures none { IfOk result (λ a. is_made a ≡ false → (log_state shared.new ≡ log_state shared.old)
         × (can_move (log_state shared.new).concrete.concrete t ≡ true
         → IsStopped J.program J.limit shared.new.log (log_state shared.new).concrete t)) }

@@ -1,5 +1,6 @@
-ghost use Rattle.std.specs.Prelude.{◌≡◌, IfOk, IfErr, OnOk};
+ghost use Rattle.std.specs.Prelude.{◌≡◌, IfOk, IfErr, IsOk, OnOk};
 ghost use Rattle.runner.specs.Logs.{nothing_outside};
+ghost use Rattle.runner.specs.Orders.{GoesOn, IsInOrder};
 ghost use Rattle.runner.specs.Reports.{IsReport, CanFail};
 ghost use Rattle.runner.specs.Rounds.{Idle};
 ghost use Rattle.runner.specs.Views.{log_state};
@@ -33,6 +34,7 @@ pub fn run_in_order<G: Gate>(
     gate: &G,
 ) -> Result<Report, RunFault>
     ensures ok { IfOk result (λ report. IsReport image.now nothing_outside limit report) }
+    ensures order { IfOk result (λ report. IsInOrder image.now limit report.log.items) }
     ensures err { IfErr result (λ fault. CanFail image.now nothing_outside limit fault) }
 {
     run_as::<Brand, G>(alloc, image, limit, Blank::new(u64::from(PARTS)), gate)
@@ -49,6 +51,7 @@ fn run_as<J: RunName, G: Gate>(
     requires limit { limit ≡ J.limit }
     requires blank { (blank.name ≡ J.name) × (blank.parts ≡ J.parts) × (J.parts ≡ 1024) }
     ensures ok { IfOk result (λ report. IsReport J.program J.outside J.limit report) }
+    ensures order { IfOk result (λ report. IsInOrder J.program J.limit report.log.items) }
     ensures err { IfErr result (λ fault. CanFail J.program J.outside J.limit fault) }
 {
     let Ok(mut shared) = Shared::<J>::new(alloc, image, limit, blank) else {
@@ -70,6 +73,7 @@ pub fn finish<J: RunName, G: Gate>(
 ) -> Result<Report, RunFault>
     requires image { image.now ≡ J.program }
     ensures ok { IfOk result (λ report. IsReport J.program J.outside J.limit report) }
+    ensures order { IfOk result (λ report. GoesOn J.program J.limit shared.log report.log.items) }
     ensures err { IfErr result (λ fault. CanFail J.program J.outside J.limit fault) }
 {
     let mut shared = shared;
@@ -86,6 +90,7 @@ pub fn report_run<J: RunName>(
     requires ok { OnOk done (Idle J.program J.limit (log_state shared)) }
     requires err { IfErr done (λ fault. CanFail J.program J.outside J.limit fault) }
     ensures ok { IfOk result (λ report. IsReport J.program J.outside J.limit report) }
+    ensures log { IfOk result (λ report. IsOk done × (report.log.items ≡ shared.log)) }
     ensures err { IfErr result (λ fault. CanFail J.program J.outside J.limit fault) }
 {
     done?;

@@ -17,6 +17,7 @@ ghost use Rattle.runner.specs.Speculations.{Goes, IsAtHand, IsReady, TakesAll, a
 ghost use Rattle.runner.specs.Nexts.{IsNext};
 ghost use Rattle.runner.specs.Afters.{IsAfter};
 ghost use Rattle.runner.specs.declared.next.After;
+ghost use Rattle.runner.specs.Orders.{HasMade};
 ghost use Rattle.runner.specs.Reports.{CanFail, IsHeldUp, MeetsBroken};
 ghost use Rattle.runner.specs.declared.fault.RunFault;
 ghost use Rattle.machine.specs.Views.{concrete};
@@ -648,6 +649,7 @@ impl<J: RunName> Shared<J> {
         requires room { cost self.old.log + suc most_local_steps ≤ J.limit }
         ensures ok { OnOk (came result told.new) (cost self.old.log < cost self.new.log) }
         ensures made { IfOk (came result told.new) (λ a. is_made a ≡ true) }
+        ensures entry { OnOk (came result told.new) (HasMade J.program t (log_state self.old) (log_state self.new)) }
         ensures tried { IfOk (came result told.new) (λ a. TriedSo J.program (log_state self.old).concrete t a
             (log_state self.new).concrete) }
         ensures given { self.new.given ≡ self.old.given }
@@ -686,6 +688,8 @@ impl<J: RunName> Shared<J> {
         requires fit { IsFit J.program (log_state self.old).concrete }
         requires room { cost self.old.log + suc most_local_steps ≤ J.limit }
         ensures made { IfOk (came result told.new) (λ a. is_made a ≡ true → cost self.old.log < cost self.new.log) }
+        ensures entry { IfOk (came result told.new) (λ a. is_made a ≡ true → HasMade J.program t
+            (log_state self.old) (log_state self.new)) }
         ensures none { IfOk (came result told.new) (λ a. is_made a ≡ false → (log_state self.new ≡ log_state self.old)
             × IsHeldUp J.program (log_state self.new).concrete t) }
         ensures tried { IfOk (came result told.new) (λ a. TriedSo J.program (log_state self.old).concrete t a
@@ -730,6 +734,8 @@ impl<J: RunName> Shared<J> {
         requires fit { IsFit J.program (log_state self.old).concrete }
         requires room { cost self.old.log + suc most_local_steps ≤ J.limit }
         ensures made { IfOk told.new (λ a. is_made a ≡ true → cost self.old.log < cost self.new.log) }
+        ensures entry { IfOk told.new (λ a. is_made a ≡ true → HasMade J.program t
+            (log_state self.old) (log_state self.new)) }
         ensures none { IfOk told.new (λ a. is_made a ≡ false → (log_state self.new ≡ log_state self.old)
             × IsHeldUp J.program (log_state self.new).concrete t) }
         ensures tried { IfOk told.new (λ a. TriedSo J.program (log_state self.old).concrete t a
@@ -760,6 +766,8 @@ impl<J: RunName> Shared<J> {
         requires next { (x : Thread) → thread_of (log_state self.old).concrete.concrete t ≡ Some x
             → NextStep.Shared request ≡ next_step_of (look J.program t x) }
         ensures made { IfOk told.new (λ a. is_made a ≡ true → cost self.old.log < cost self.new.log) }
+        ensures entry { IfOk told.new (λ a. is_made a ≡ true → HasMade J.program t
+            (log_state self.old) (log_state self.new)) }
         ensures none { IfOk told.new (λ a. is_made a ≡ false → (log_state self.new ≡ log_state self.old)
             × IsHeldUp J.program (log_state self.new).concrete t) }
         ensures tried { IfOk told.new (λ a. TriedSo J.program (log_state self.old).concrete t a
@@ -794,6 +802,8 @@ impl<J: RunName> Shared<J> {
         requires fit { IsFit J.program (log_state self.old).concrete }
         requires room { cost self.old.log + suc most_local_steps ≤ J.limit }
         ensures made { IfOk result (λ a. is_made a ≡ true → cost self.old.log < cost self.new.log) }
+        ensures entry { IfOk result (λ a. is_made a ≡ true → HasMade J.program t
+            (log_state self.old) (log_state self.new)) }
         ensures none { IfOk result (λ a. is_made a ≡ false → (log_state self.new ≡ log_state self.old)
             × IsHeldUp J.program (log_state self.new).concrete t) }
         ensures tried { IfOk result (λ a. TriedSo J.program (log_state self.old).concrete t a

@@ -1,8 +1,8 @@
 -- Behind its local steps the thread stands before another one, or its turn is over.
-use Rattle.std.proofs.Common.{ap, arith, refl, sym}
+use Rattle.std.proofs.Common.{ap, refl, sym}
 use Rattle.locals.specs.Looks.{look}
 use Rattle.piece_machine.specs.PieceViews.{PieceView as MachineView, parts}
-use Rattle.runner.proofs.Walking.{step_enters, turn_goes, walk_breaks, walk_enters, walked_there}
+use Rattle.runner.proofs.Walking.{step_enters, step_next, walk_breaks, walk_enters, walk_next, walked_there}
 use Rattle.runner.proofs.in_place.end_entry.Goals as goal
 
 pub returns-then-is_local-clause-enters : goal.returns-then-is_local-clause-enters
@@ -10,22 +10,28 @@ returns-then-is_local-clause-enters c =
     let m = c.args.machine.now in
     λ k w. walk_enters m.view.program k (parts m) (parts m) c.args.t c.args.local w refl
 
-pub returns-then-is_local-clause-goes : goal.returns-then-is_local-clause-goes
-returns-then-is_local-clause-goes c =
+pub returns-then-is_local-clause-next : goal.returns-then-is_local-clause-next
+returns-then-is_local-clause-next c =
     let m = c.args.machine.now in
     let p = m.view.program in
-    λ k w. omega (
-      arith,
-      turn_goes p k (parts m) c.args.t c.args.local w
-          (sym (c.if-is_local.ensures (look p c.args.t w.here)
-          (c.requires.next w.here (walked_there p k (parts m) c.args.t c.args.local w)))),
-    )
+    λ k w. walk_next p k (parts m) c.args.t c.args.local w
+    (sym (c.if-is_local.ensures (look p c.args.t w.here)
+    (c.requires.next w.here (walked_there p k (parts m) c.args.t c.args.local w))))
 
 pub returns-in-Ok-clause-enters : goal.returns-in-Ok-clause-enters
 returns-in-Ok-clause-enters c =
     let m = c.args.machine.now in
     let p = m.view.program in
     λ k w. step_enters p k (parts m) (parts c.step_as.new.self) c.args.t c.args.local c.step_as.new.event w
+    (sym (c.if-is_local.ensures (look p c.args.t w.here)
+    (c.requires.next w.here (walked_there p k (parts m) c.args.t c.args.local w))))
+    c.in-Ok.ensures.done
+
+pub returns-in-Ok-clause-next : goal.returns-in-Ok-clause-next
+returns-in-Ok-clause-next c =
+    let m = c.args.machine.now in
+    let p = m.view.program in
+    λ k w. step_next p k (parts m) (parts c.step_as.new.self) c.args.t c.args.local c.step_as.new.event w
     (sym (c.if-is_local.ensures (look p c.args.t w.here)
     (c.requires.next w.here (walked_there p k (parts m) c.args.t c.args.local w))))
     c.in-Ok.ensures.done

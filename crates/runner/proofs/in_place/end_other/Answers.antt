@@ -1,11 +1,11 @@
 -- The entry has the local steps, and what came behind them.
-use Rattle.std.proofs.Common.{◌≡◌, ◌≢◌, ◌≤◌, ◌+◌, ◌∙◌, true, ap, refl, sym, arith}
+use Rattle.std.proofs.Common.{◌≡◌, ◌≢◌, ◌+◌, ◌∙◌, true, ap, refl, sym, arith}
 use mir.Val.{bool_byte}
 use Rattle.piece_machine.specs.PieceViews.{parts}
 use Rattle.runner.specs.Attempts.{is_made}
 use Rattle.runner.specs.Entries.{taken_entry, taken_event}
 use Rattle.runner.specs.Logs.{event_cost}
-use Rattle.runner.specs.Reports.{IsHeldUp}
+use Rattle.runner.specs.Reports.{IsHeldUp, IsNextEntry}
 use Rattle.runner.specs.Walks.{FailsAfter}
 use Rattle.runner.specs.declared.attempt.Attempt.{Attempt}
 use Rattle.runner.specs.declared.attempt.Attempt.TheVariants.{Accessed}
@@ -35,8 +35,8 @@ returns-clause-ends c = λ k w.
       enters = e.ensures.enters k w;
       grows = c.push_taken.ensures;
       costs = costs;
-      goes = and_on (1 ≤ e.result.0.local + event_cost event) (1 ≤ e.result.0.local + c.from.result) e.result.1 a.result
-          out.result out.ensures (e.ensures.goes k w) (λ more. omega (arith, more, costs));
+      next = and_on (IsNextEntry p k t e.result.0.local event) (IsNextEntry p k t e.result.0.local event) e.result.1 a.result
+          out.result out.ensures (e.ensures.next k w) (λ next. next);
       made = and_ok (λ (b : Attempt). (is_made b ≡ true) × (b ≢ Accessed)) e.result.1 a.result out.result out.ensures
           (a.ensures.made, a.ensures.other);
       fails = and_err (λ (f : RunFault). (IsHeldUp p k t → ⊥) → FailsAfter p k t n f) e.result.1 a.result out.result

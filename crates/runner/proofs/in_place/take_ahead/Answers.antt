@@ -1,17 +1,19 @@
 -- It goes on ahead of the machine first.
 use Rattle.std.proofs.Common.{◌∙◌, ◌≡◌, ap, arith, subst, sym}
+use Rattle.std.proofs.lemmas.Result.{on_ok_weaker}
 use Rattle.isa.specs.Programs.{Program}
 use Rattle.locals.specs.Looks.{look}
 use Rattle.locals.specs.Requests.{next_step_of}
+use Rattle.machine.specs.Accessing.{told_access}
 use Rattle.machine.specs.Views.{View}
 use Rattle.piece_machine.specs.PieceViews.{PieceView as MachineView, parts}
 use Rattle.runner.specs.Attempts.{WantsIf}
-use Rattle.runner.specs.Entries.{BreaksAfter, entry_end, taken_entry}
+use Rattle.runner.specs.Entries.{BreaksAfter, entry_end, taken_entry, taken_event}
 use Rattle.runner.specs.Logs.{EntersOwn}
-use Rattle.runner.specs.Reports.{IsHeldUp}
+use Rattle.runner.specs.Reports.{IsHeldUp, IsNextEntry}
 use Rattle.runner.proofs.Noting.{wants_if}
 use Rattle.runner.proofs.Walking.{ahead_of, ahead_still, free_ahead, from_enters, goes_to, held_ahead, if_err}
-use Rattle.runner.proofs.Walking.{moves_still, put_awake, put_made, put_next, walked_as, walked_put}
+use Rattle.runner.proofs.Walking.{moves_still, own_next, put_awake, put_made, put_next, walked_as, walked_put}
 use Rattle.runner.proofs.Wanting.{wants_so}
 use Rattle.runner.proofs.in_place.take_ahead.Goals as goal
 
@@ -42,6 +44,17 @@ returns-in-Some-clause-turn c =
     let here = c.run_ahead-local.new.ahead in
     let a = ahead_of m.view c.machine.result.now t n here c.machine.ensures.shows c.requires.thread c.run_ahead-local.ensures in
     a.turns.turn
+
+pub returns-in-Some-clause-next : goal.returns-in-Some-clause-next
+returns-in-Some-clause-next c =
+    let m = c.args.machine.now in
+    let t = c.args.t in
+    let n = c.run_ahead-local.result in
+    let here = c.run_ahead-local.new.ahead in
+    let a = ahead_of m.view c.machine.result.now t n here c.machine.ensures.shows c.requires.thread c.run_ahead-local.ensures in
+    own_next m.view.program (parts m) (parts c.access_from.new.self) t n (told_access c.in-Some.access)
+    (from_enters m c.access_from.new.self t n here c.access_from.new.local c.in-Some.access c.requires.thread a
+    c.in-Some.ensures.made) a.turns.turn
 
 pub returns-then-waits_for_bucket-clause-held : goal.returns-then-waits_for_bucket-clause-held
 returns-then-waits_for_bucket-clause-held c =
@@ -195,8 +208,8 @@ returns-clause-enters c =
     (subst (λ (q : Program). EntersOwn q (parts mid) (taken_entry t c.end_entry.result.0 c.end_entry.new.event)
     (parts c.end_entry.new.machine)) same (c.end_entry.ensures.enters (parts mid) w))
 
-pub returns-clause-goes : goal.returns-clause-goes
-returns-clause-goes c =
+pub returns-clause-next : goal.returns-clause-next
+returns-clause-next c =
     let m = c.args.machine.now in
     let t = c.args.t in
     let n = c.run_ahead-local.result in
@@ -211,7 +224,11 @@ returns-clause-goes c =
     let same = ap (λ (v : MachineView). v.view.program) c.copy_local.ensures in
     let w = walked_as mid.view.program new.view.program (parts mid) (parts new) t n same
     (walked_put mid new t n there moves b c.copy_local.ensures) in
-    c.end_entry.ensures.goes (parts mid) w
+    let event = taken_event c.end_entry.result.0.behind c.end_entry.new.event in
+    on_ok_weaker c.end_entry.result.1
+    (λ next. subst (λ (v : MachineView). IsNextEntry v.view.program (parts v) t c.end_entry.result.0.local event) still.0
+    (subst (λ (q : Program). IsNextEntry q (parts mid) t c.end_entry.result.0.local event) same next))
+    (c.end_entry.ensures.next (parts mid) w)
 
 pub returns-clause-breaks : goal.returns-clause-breaks
 returns-clause-breaks c =

@@ -9,7 +9,7 @@ use Rattle.runner.specs.Attempts.{AsksFirst}
 use Rattle.runner.specs.declared.attempt.Obstacle.TheVariants.{First}
 use Rattle.runner.proofs.Handing.{up}
 use Rattle.runner.proofs.Noting.{wants_if}
-use Rattle.runner.proofs.Walking.{breaks_there, fault_here, is_shared, turns_none, step_enters, waits_there, walk_enters}
+use Rattle.runner.proofs.Walking.{breaks_there, fault_here, is_shared, turns_none, step_enters, step_next, waits_there, walk_enters}
 use Rattle.runner.proofs.Walking.{walked_none}
 use Rattle.runner.proofs.Wanting.{wants_so}
 use Rattle.runner.proofs.in_place.take_at_once.Goals as goal
@@ -21,6 +21,15 @@ returns-in-Ok-clause-enters c =
     let u = up (parts m).concrete c.args.t c.requires.thread in
     let shared = is_shared p c.args.t u.thread c.args.next (c.requires.next u.thread u.stands) c.requires.shared in
     step_enters p (parts m) (parts m) (parts c.step_as.new.self) c.args.t 0 c.step_as.new.event
+    (walked_none p (parts m) c.args.t u.thread u.stands c.requires.thread shared) shared c.in-Ok.ensures.done
+
+pub returns-in-Ok-clause-next : goal.returns-in-Ok-clause-next
+returns-in-Ok-clause-next c =
+    let m = c.args.machine.now in
+    let p = m.view.program in
+    let u = up (parts m).concrete c.args.t c.requires.thread in
+    let shared = is_shared p c.args.t u.thread c.args.next (c.requires.next u.thread u.stands) c.requires.shared in
+    step_next p (parts m) (parts m) (parts c.step_as.new.self) c.args.t 0 c.step_as.new.event
     (walked_none p (parts m) c.args.t u.thread u.stands c.requires.thread shared) shared c.in-Ok.ensures.done
 
 pub returns-in-Err-Broken-clause-enters : goal.returns-in-Err-Broken-clause-enters

@@ -1,12 +1,14 @@
 -- Room for a number changes nothing else.
 use Rattle.std.proofs.Common.{◌≡◌, Err, true, sym, subst}
+use Rattle.std.proofs.lemmas.Result.{on_ok_weaker}
 use Rattle.isa.specs.Programs.{Program}
 use Rattle.machine.specs.ConcreteSteps.{can_move}
 use Rattle.machine.specs.declared.event.StepFault.TheVariants.{CannotMove}
 use Rattle.piece_machine.specs.PieceConcrete.{PieceConcrete}
 use Rattle.piece_machine.specs.PieceViews.{parts}
-use Rattle.runner.specs.Entries.{entry_end, taken_entry}
+use Rattle.runner.specs.Entries.{entry_end, taken_entry, taken_event}
 use Rattle.runner.specs.Logs.{EntersOwn}
+use Rattle.runner.specs.Reports.{IsNextEntry}
 use Rattle.runner.proofs.Walking.{fails_so, if_err, walk_enters, walked_at}
 use Rattle.runner.proofs.in_place.take_end.Goals as goal
 
@@ -30,12 +32,16 @@ returns-clause-enters c =
     (e.ensures.enters k (walked_at m.view.program n.view.program k (parts m) (parts n) c.args.t c.args.local same
     c.make_room.ensures.parts w))
 
-pub returns-clause-goes : goal.returns-clause-goes
-returns-clause-goes c =
+pub returns-clause-next : goal.returns-clause-next
+returns-clause-next c =
     let m = c.args.machine.now in
     let n = c.make_room.new.self in
-    λ k w. c.end_with_room.ensures.goes k (walked_at m.view.program n.view.program k (parts m) (parts n) c.args.t
-    c.args.local c.make_room.ensures.same.0 c.make_room.ensures.parts w)
+    let e = c.end_with_room in
+    let same = c.make_room.ensures.same.0 in
+    λ k w. on_ok_weaker e.result.1
+    (subst (λ (q : Program). IsNextEntry q k c.args.t e.result.0.local (taken_event e.result.0.behind e.new.event)) same)
+    (e.ensures.next k (walked_at m.view.program n.view.program k (parts m) (parts n) c.args.t c.args.local same
+    c.make_room.ensures.parts w))
 
 pub returns-clause-fails : goal.returns-clause-fails
 returns-clause-fails c =

@@ -2,6 +2,7 @@ use Rattle.std.proofs.Common.{◌≡◌, ◌∙◌, Bool, IfOk, true, false, ap,
 use Rattle.machine.specs.ConcreteSteps.{can_move}
 use Rattle.piece_machine.specs.PieceConcrete.{PieceConcrete}
 use Rattle.runner.specs.Attempts.{TriedSo, is_made}
+use Rattle.runner.specs.Orders.{HasMade}
 use Rattle.runner.specs.Reports.{IsStopped}
 use Rattle.runner.specs.Rounds.{HasGrown, HasTurned}
 use Rattle.runner.specs.Views.{log_state}
@@ -36,6 +37,17 @@ returns-then-attempt_entry-clause-waits g c =
 
 pub returns-then-attempt_entry-clause-turned : goal.returns-then-attempt_entry-clause-turned
 returns-then-attempt_entry-clause-turned g c = c.if-attempt_entry.ensures.made refl
+
+pub returns-then-attempt_entry-clause-entry : goal.returns-then-attempt_entry-clause-entry
+returns-then-attempt_entry-clause-entry g c = λ is. c.if-attempt_entry.ensures.entry refl
+
+pub returns-clause-entry : goal.returns-clause-entry
+returns-clause-entry g c = λ is.
+    let made = subst (λ o. IfOk o (λ (a : Attempt). is_made a ≡ true
+    → HasMade g.J.RunName.program c.args.t (log_state c.args.shared.now)
+    (log_state c.attempt_entry.new.shared))) c.in_ok-attempt.was
+    c.if-attempt_entry.ensures.entry in
+    made (sym c.is_made.ensures ∙ is)
 
 pub returns-clause-turned : goal.returns-clause-turned
 returns-clause-turned g c =

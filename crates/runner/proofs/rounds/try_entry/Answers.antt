@@ -6,6 +6,7 @@ use Rattle.runner.specs.Views.{LogState, log_state}
 use Rattle.runner.specs.Entries.{RefusesEntry}
 use Rattle.runner.specs.Rounds.{AllPast}
 use Rattle.runner.proofs.Growing.{enters, entry}
+use Rattle.runner.proofs.Ordering.{taken_next}
 use Rattle.runner.proofs.Passing.{all_past, one_past, passes, stops}
 use Rattle.runner.proofs.rounds.try_entry.Goals as goal
 
@@ -39,6 +40,19 @@ returns-in-Err-Limit-clause-past g c =
     r.whole in
     subst (λ (s : LogState). AllPast p limit s (slice_set c.args.refused.now c.args.t true)) (sym h.0)
     (one_past p limit (log_state c.args.shared.now) c.args.t c.args.refused.now now c.requires.past)
+
+pub returns-in-Ok-clause-entry : goal.returns-in-Ok-clause-entry
+returns-in-Ok-clause-entry g c = λ made.
+    let a = c.go_on.new.self in
+    let takes = c.in-Ok.ensures.ok in
+    let r = c.go_on.ensures in (
+      entry c.args.t a.count takes.event,
+      refl,
+      takes.moves,
+      taken_next g.J.RunName.program g.J.RunName.limit (log_state c.args.shared.now) (log_state c.enter.new.self) c.args.t a
+          takes r.reached r.within r.whole,
+      takes.log,
+    )
 
 pub returns-in-Ok-clause-tried : goal.returns-in-Ok-clause-tried
 returns-in-Ok-clause-tried g c =

@@ -1,6 +1,6 @@
 -- The log has one entry more.
 use Rattle.std.proofs.Common.{◌≡◌, true, ◌≤◌, ◌<◌, ◌+◌, ◌-◌, [], ◌∷◌, ◌++◌, ℕ, length, length-append, Some, ap, refl, sym, subst, ◌∙◌}
-use Rattle.std.proofs.Common.{IfOk, arith}
+use Rattle.std.proofs.Common.{IfOk, List, arith}
 use Rattle.std.proofs.lemmas.Result.{IfOk-weaker, on_ok_weaker}
 use Rattle.isa.specs.Programs.{Program}
 use Rattle.locals.specs.declared.access.Access.{Access}
@@ -12,16 +12,18 @@ use Rattle.piece_machine.specs.PieceViews.{parts}
 use Rattle.runner.specs.Attempts.{TriedSo, is_made}
 use Rattle.runner.specs.Legal.{IsLegal}
 use Rattle.runner.specs.Logs.{EntersOwn, cost, event_cost}
-use Rattle.runner.specs.Reports.{IsHeldUp}
-use Rattle.runner.specs.Views.{SharedView, log_state}
+use Rattle.runner.specs.Orders.{HasMade}
+use Rattle.runner.specs.Reports.{IsHeldUp, IsNextEntry}
+use Rattle.runner.specs.Views.{LogState, SharedView, log_state}
 use Rattle.runner.specs.Walks.{EndsWalk, FailsAfter}
 use Rattle.runner.specs.declared.attempt.Attempt.{Attempt}
 use Rattle.runner.specs.declared.fault.RunFault.{RunFault}
 use Rattle.runner.proofs.Growing.{cost_more, cost_small, entry, event_byte, fails_can, keeps_entry}
 use Rattle.runner.proofs.Noting.{made_so}
+use Rattle.runner.proofs.Ordering.{next_costs}
 use Rattle.runner.proofs.Passing.{mover_number}
 use Rattle.runner.proofs.Unrolling.{holds}
-use Rattle.runner.proofs.Walking.{if_err, none_so, some_so, walked_as}
+use Rattle.runner.proofs.Walking.{if_err, none_so, own_next, some_so, walked_as}
 use Rattle.runner.proofs.shared.Shared.go_on.Goals as goal
 
 -- threads have small numbers, and turns few steps
@@ -156,8 +158,58 @@ returns-clause-ok g c =
     ap cost ended.grows ∙ cost_more m.new.self.items one.thread one.local one.event in
     let before : cost m.new.self.items ≡ cost c.args.self.now.log =
     ap cost m.ensures.same ∙ ap (λ (v : SharedView). cost v.log) c.self.view_is in
-    on_ok_weaker {P = 1 ≤ e.result} {Q = cost c.args.self.now.log < cost e.new.log.items} e.new.told
-    (λ more. omega (arith, more, ended.costs, costs, before)) ended.goes
+    on_ok_weaker {Q = cost c.args.self.now.log < cost e.new.log.items} e.new.told
+    (λ next. omega (arith, next_costs w.new.machine.view.program k c.args.t one.local one.event next, costs, before)) ended.next
+
+pub returns-in-Some-clause-entry : goal.returns-in-Some-clause-entry
+returns-in-Some-clause-entry g c =
+    let p = g.J.RunName.program in
+    let s = c.self.inside in
+    let m = c.make_room in
+    let w = c.walk-local in
+    let t = c.args.t in
+    let n = w.result.0 in
+    let told = c.in-Some.access in
+    let q = s.machine.view.program in
+    let k = parts s.machine in
+    let new : LogState = record { log = c.push_small.new.self.items; concrete = parts w.new.machine } in
+    let e : Entry = entry t n (Some (told_access told)) in
+    let enters = some_so (λ (a : Access). EntersOwn q k (entry t n (Some (told_access a))) (parts w.new.machine)) w.result.1
+    told c.in-Some.is w.ensures.accessed in
+    let next = subst (λ (x : Program). IsNextEntry x k t n (Some (told_access told))) c.self.invariant.0.program
+    (own_next q k (parts w.new.machine) t n (told_access told) enters w.ensures.turn) in
+    let grows : new.log ≡ m.new.self.items ++ e ∷ [] = c.push_small.ensures.entries
+    ∙ ap (λ kind. m.new.self.items ++ entry t n (Some (plain kind told.value)) ∷ []) c.access_name-name.ensures in
+    let moves = subst (λ (x : SharedView). can_move (log_state x).concrete.concrete t ≡ true) (sym c.self.view_is)
+    c.requires.thread in
+    subst (λ (x : SharedView). HasMade p t (log_state x) new) c.self.view_is
+    (e, refl, moves, next, grows ∙ ap (λ (l : List Entry). l ++ e ∷ []) m.ensures.same)
+
+pub returns-clause-entry : goal.returns-clause-entry
+returns-clause-entry g c =
+    let p = g.J.RunName.program in
+    let s = c.self.inside in
+    let m = c.make_room in
+    let w = c.walk-local in
+    let e = c.end_walk in
+    let t = c.args.t in
+    let k = parts s.machine in
+    let q' = w.new.machine.view.program in
+    let new : LogState = record { log = e.new.log.items; concrete = parts e.new.machine } in
+    let walked = (none_so w.result.1 w.ensures.walked c.in_default.not-Some).0 in
+    let ended : EndsWalk q' k t w.result.0 m.new.self.items (parts e.new.machine) e.new.log.items e.result e.new.told =
+    e.ensures.ends k (walked_as s.machine.view.program q' k (parts w.new.machine) t w.result.0 w.ensures.program walked) in
+    let one : Entry = ended.entry in
+    let moves = subst (λ (x : SharedView). can_move (log_state x).concrete.concrete t ≡ true) (sym c.self.view_is)
+    c.requires.thread in
+    on_ok_weaker {P = IsNextEntry q' k t one.local one.event} {Q = HasMade p t (log_state c.args.self.now) new} e.new.told
+    (λ next. subst (λ (x : SharedView). HasMade p t (log_state x) new) c.self.view_is (
+      one,
+      ended.own,
+      moves,
+      subst (λ (x : Program). IsNextEntry x k t one.local one.event) (w.ensures.program ∙ c.self.invariant.0.program) next,
+      ended.grows ∙ ap (λ (l : List Entry). l ++ one ∷ []) m.ensures.same,
+    )) ended.next
 
 pub returns-clause-made : goal.returns-clause-made
 returns-clause-made g c =

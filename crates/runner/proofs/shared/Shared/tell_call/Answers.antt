@@ -1,6 +1,6 @@
 -- The log has one entry more, or nothing has changed.
 use Rattle.std.proofs.Common.{◌≡◌, true, ◌≤◌, ◌<◌, ◌+◌, ◌-◌, [], ◌∷◌, ℕ, length, length-append, ap, refl, sym, subst, ◌∙◌, arith}
-use Rattle.std.proofs.Common.{IfOk}
+use Rattle.std.proofs.Common.{IfOk, List, ◌++◌}
 use Rattle.std.proofs.lemmas.Result.{IfOk-weaker, on_ok_weaker}
 use Rattle.isa.specs.Programs.{Program}
 use Rattle.machine.specs.ConcreteSteps.{can_move}
@@ -9,12 +9,15 @@ use Rattle.piece_machine.specs.PieceViews.{parts}
 use Rattle.runner.specs.Attempts.{TriedSo}
 use Rattle.runner.specs.Legal.{IsLegal}
 use Rattle.runner.specs.Logs.{EntersOwn, cost, event_cost}
-use Rattle.runner.specs.Views.{SharedView, log_state}
+use Rattle.runner.specs.Orders.{HasMade}
+use Rattle.runner.specs.Reports.{IsNextEntry}
+use Rattle.runner.specs.Views.{LogState, SharedView, log_state}
 use Rattle.runner.specs.Walks.{EndsWalk}
 use Rattle.runner.specs.declared.attempt.Attempt.{Attempt}
 use Rattle.runner.proofs.Callings.{none_not, on_made}
 use Rattle.runner.proofs.Growing.{breaks_can, cost_more, cost_small, event_byte, keeps_entry}
 use Rattle.runner.proofs.Noting.{made_so, wants_at}
+use Rattle.runner.proofs.Ordering.{next_costs}
 use Rattle.runner.proofs.Passing.{mover_number}
 use Rattle.runner.proofs.Unrolling.{holds}
 use Rattle.runner.proofs.shared.Shared.tell_call.Goals as goal
@@ -85,8 +88,38 @@ returns-in-Ok-clause-made g c =
     ap cost ended.grows ∙ cost_more m.new.self.items one.thread one.local one.event in
     let before : cost m.new.self.items ≡ cost c.args.self.now.log =
     ap cost m.ensures.same ∙ ap (λ (v : SharedView). cost v.log) c.self.view_is in
-    on_made _ e.new.told (on_ok_weaker {P = 1 ≤ c.in-Ok.steps} {Q = cost c.args.self.now.log < cost e.new.log.items} e.new.told
-    (λ more. omega (arith, more, ended.costs, costs, before)) ended.goes)
+    on_made _ e.new.told (on_ok_weaker {Q = cost c.args.self.now.log < cost e.new.log.items} e.new.told
+    (λ next. omega (
+      arith,
+      next_costs s.machine.view.program (parts s.machine) c.args.t one.local one.event next,
+      costs,
+      before,
+    )) ended.next)
+
+pub returns-in-Ok-clause-entry : goal.returns-in-Ok-clause-entry
+returns-in-Ok-clause-entry g c =
+    let p = g.J.RunName.program in
+    let s = c.self.inside in
+    let m = c.make_room in
+    let e = c.take_call in
+    let t = c.args.t in
+    let q = s.machine.view.program in
+    let k = parts s.machine in
+    let new : LogState = record { log = e.new.log.items; concrete = parts e.new.machine } in
+    let ended : EndsWalk q k t 0 m.new.self.items (parts e.new.machine) e.new.log.items c.in-Ok.steps e.new.told =
+    c.in-Ok.ensures.ends in
+    let one : Entry = ended.entry in
+    let moves = subst (λ (x : SharedView). can_move (log_state x).concrete.concrete t ≡ true) (sym c.self.view_is)
+    c.requires.thread in
+    on_made _ e.new.told (on_ok_weaker {P = IsNextEntry q k t one.local one.event}
+    {Q = HasMade p t (log_state c.args.self.now) new} e.new.told
+    (λ next. subst (λ (x : SharedView). HasMade p t (log_state x) new) c.self.view_is (
+      one,
+      ended.own,
+      moves,
+      subst (λ (x : Program). IsNextEntry x k t one.local one.event) c.self.invariant.0.program next,
+      ended.grows ∙ ap (λ (l : List Entry). l ++ one ∷ []) m.ensures.same,
+    )) ended.next)
 
 pub returns-in-Ok-clause-none : goal.returns-in-Ok-clause-none
 returns-in-Ok-clause-none g c = none_not _ c.take_call.new.told c.in-Ok.ensures.ends.made
