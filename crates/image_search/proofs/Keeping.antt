@@ -1,16 +1,20 @@
 -- What is kept stays so while more is.
-use Rattle.std.proofs.Common.{◌≡◌, ◌∙◌, ◌++◌, ◌∷◌, ◌⊎◌, [], ℕ, All, Contains, List, Some, arith, inl, inr, length, refl}
+use Rattle.std.proofs.Common.{◌≡◌, ◌∙◌, ◌++◌, ◌∷◌, ◌⊎◌, ◌<◌, [], ℕ, zero, suc, All, Contains, List, Some, ap, arith, inl, inr, length, map, refl}
 use Rattle.std.proofs.Common.{slice_get, subst, sym}
 use Rattle.std.proofs.lemmas.List.Elements.{All-push, All-weaker, Contains-get_or, Contains-push}
 use Rattle.std.proofs.lemmas.List.Elements.{Contains-push_cases}
-use Rattle.std.proofs.lemmas.Option.{get_or_from_slice_get, slice_get_within}
-use Rattle.image_states.proofs.Growing.{grown_none, prefix_contains, prefix_none, prefix_twice, within_still}
-use Rattle.image_states.specs.Packed.{IsGrown, IsPrefix, IsSameKey, IsWithin}
+use Rattle.std.proofs.lemmas.List.{map-append}
+use Rattle.std.proofs.lemmas.Option.{get_or_from_slice_get, slice_get_within, slice_get-map}
+use Rattle.std.specs.Prelude.{option_map}
+use Rattle.isa.specs.Programs.{Program}
+use Rattle.proof_image_search.specs.Searching.{Kept}
+use Rattle.image_states.proofs.Growing.{kept_still, same_key, grown_none, prefix_contains, prefix_none, prefix_twice, within_still}
+use Rattle.image_states.specs.Packed.{IsGrown, IsPrefix, IsSameKey, IsWithin, kept_of}
 use Rattle.image_states.specs.declared.next.Next.{Next as NextOf}
 use Rattle.image_states.specs.declared.packed.Packed.{Packed as PackedOf}
 use Rattle.image_states.specs.declared.parts.Parts.{Parts as PartsOf}
 use Rattle.image_search.specs.declared.kept.KeptStates.{KeptStates as KeptOf}
-use Rattle.image_search.specs.Kept.{HasKey, IsMore, IsMoreOf}
+use Rattle.image_search.specs.Kept.{HasKey, IsMore, IsMoreOf, IsSound, states_in, states_of}
 
 -- a state at a place, and one of the same numbers
 pub has_key : (xs : List PackedOf) (i : ℕ) (x y : PackedOf) → slice_get xs i ≡ Some x → IsSameKey x y → HasKey xs y
@@ -84,3 +88,48 @@ pub kept_all : (left : List NextOf) (n : ℕ) (kept : KeptOf) → n ≡ length l
     → Contains left y ⊎ HasKey kept.states.items y.state → HasKey kept.states.items y.state
 kept_all left n kept long none y (inl is) = absurd (let less = is.1 in omega (arith, less, long, none))
 kept_all left n kept long none y (inr has) = has
+
+pub contains_map : {X Y : Type 0} (f : X → Y) (xs : List X) (x : X) → Contains xs x → Contains (map f xs) (f x)
+contains_map f [] x (k, l, e) = absurd (omega (arith, l))
+contains_map f (y ∷ ys) x (zero, l, e) = (zero, omega arith, ap f e)
+contains_map f (y ∷ ys) x (suc k, l, e) =
+    let rest : Contains (map f ys) (f x) = contains_map f ys x (k, omega (arith, l), e) in
+    let less : rest.0 < length (map f ys) = rest.1 in
+    (suc rest.0, omega (arith, less), rest.2)
+
+pub contains_at : {X : Type 0} (xs : List X) (i : ℕ) (x : X) → slice_get xs i ≡ Some x → Contains xs x
+contains_at xs i x is =
+    subst (Contains xs) (get_or_from_slice_get xs i x x is) (Contains-get_or xs i x (slice_get_within xs i x is))
+
+-- with more parts, the same is kept
+pub states_still : (p : Program) (a b : PartsOf) → IsGrown a b → (xs : List PackedOf) → All (IsWithin a) xs
+    → states_in p b xs ≡ states_in p a xs
+states_still p a b grows [] all = refl
+states_still p a b grows (x ∷ xs) all = λ i.
+    kept_still a b grows p x (all 0 x (omega arith)) i
+    ∷ states_still p a b grows xs (λ k d l. all (suc k) d (omega (arith, l))) i
+
+-- what is kept stands in front of what is kept later
+pub states_more : (p : Program) (kept kept' : KeptOf) → IsSound kept → IsMore kept kept'
+    → IsPrefix (states_of p kept) (states_of p kept')
+states_more p kept kept' sound more = (
+  states_in p kept'.parts more.states.0,
+  ap (states_in p kept'.parts) more.states.1
+      ∙ map-append (kept_of p kept'.parts) kept.states.items more.states.0
+      ∙ ap (λ l. l ++ states_in p kept'.parts more.states.0)
+      (states_still p kept.parts kept'.parts more.parts kept.states.items sound),
+)
+
+-- a state of the same numbers is kept
+pub key_kept : (p : Program) (kept : KeptOf) (mid : PartsOf) → kept.parts ≡ mid → (x : PackedOf)
+    → HasKey kept.states.items x → Contains (states_of p kept) (kept_of p mid x)
+key_kept p kept mid same x is =
+    subst (λ parts. Contains (states_in p parts kept.states.items) (kept_of p mid x)) (sym same)
+    (subst (Contains (states_in p mid kept.states.items)) (same_key p mid is.0 x is.2)
+    (contains_map (kept_of p mid) kept.states.items is.0 is.1))
+
+-- the state that stands at a place
+pub state_at : (p : Program) (kept : KeptOf) (place : ℕ) (x : PackedOf) → slice_get kept.states.items place ≡ Some x
+    → slice_get (states_of p kept) place ≡ Some (kept_of p kept.parts x)
+state_at p kept place x here =
+    slice_get-map (kept_of p kept.parts) kept.states.items place ∙ ap (option_map (kept_of p kept.parts)) here

@@ -1,7 +1,7 @@
 -- How far a search has come, and what it knows at its end.
 use Rattle.std.proofs.Common.{◌≡◌, ◌<◌, ◌≤◌, ◌∙◌, ◌+◌, ◌++◌, ◌⊎◌, ℕ, zero, suc, All, Contains, List, [], ◌∷◌, ap, arith, get_or, inl, inr}
 use Rattle.std.proofs.Common.{length, map, refl, slice_get, subst, sym, take, Some, None, Option}
-use Rattle.std.proofs.lemmas.List.{get_or_append_left, length-append, length-map, length-take, map-append, take-append-le, take_all}
+use Rattle.std.proofs.lemmas.List.{get_or_append_left, length-append, length-map, length-take, take-append-le, take_all}
 use Rattle.std.proofs.lemmas.List.Elements.{All-contains, All-more, All-weaker, Contains-get_or}
 use Rattle.std.proofs.lemmas.Option.{get_or_from_slice_get, slice_get_within, slice_get-map}
 use Rattle.std.specs.Prelude.{MatchBool, MatchOption, option_map, false, true}
@@ -26,46 +26,7 @@ use Rattle.image_search.specs.Ends.{AreAll, EndsSo, HasEnded, IsMet}
 use Rattle.image_search.specs.Kept.{AreEnds, HasKey, IsEnd, IsExpandedAt, IsLookedAt, IsMetBy, IsMore, IsPlain, IsSound}
 use Rattle.image_search.specs.Kept.{IsTold, IsToldAt, states_in, states_of}
 use Rattle.image_search.specs.Never.{NeverBreaks, NeverFails, NeverStuck}
-use Rattle.image_search.proofs.Keeping.{key_in}
-
-contains_map : {X Y : Type 0} (f : X → Y) (xs : List X) (x : X) → Contains xs x → Contains (map f xs) (f x)
-contains_map f [] x (k, l, e) = absurd (omega (arith, l))
-contains_map f (y ∷ ys) x (zero, l, e) = (zero, omega arith, ap f e)
-contains_map f (y ∷ ys) x (suc k, l, e) =
-    let rest : Contains (map f ys) (f x) = contains_map f ys x (k, omega (arith, l), e) in
-    let less : rest.0 < length (map f ys) = rest.1 in
-    (suc rest.0, omega (arith, less), rest.2)
-
-contains_at : {X : Type 0} (xs : List X) (i : ℕ) (x : X) → slice_get xs i ≡ Some x → Contains xs x
-contains_at xs i x is =
-    subst (Contains xs) (get_or_from_slice_get xs i x x is) (Contains-get_or xs i x (slice_get_within xs i x is))
-
--- with more parts, the same is kept
-states_still : (p : Program) (a b : PartsOf) → IsGrown a b → (xs : List PackedOf) → All (IsWithin a) xs
-    → states_in p b xs ≡ states_in p a xs
-states_still p a b grows [] all = refl
-states_still p a b grows (x ∷ xs) all = λ i.
-    kept_still a b grows p x (all 0 x (omega arith)) i
-    ∷ states_still p a b grows xs (λ k d l. all (suc k) d (omega (arith, l))) i
-
--- what is kept stands in front of what is kept later
-pub states_more : (p : Program) (kept kept' : KeptOf) → IsSound kept → IsMore kept kept'
-    → IsPrefix (states_of p kept) (states_of p kept')
-states_more p kept kept' sound more = (
-  states_in p kept'.parts more.states.0,
-  ap (states_in p kept'.parts) more.states.1
-      ∙ map-append (kept_of p kept'.parts) kept.states.items more.states.0
-      ∙ ap (λ l. l ++ states_in p kept'.parts more.states.0)
-      (states_still p kept.parts kept'.parts more.parts kept.states.items sound),
-)
-
--- a state of the same numbers is kept
-pub key_kept : (p : Program) (kept : KeptOf) (mid : PartsOf) → kept.parts ≡ mid → (x : PackedOf)
-    → HasKey kept.states.items x → Contains (states_of p kept) (kept_of p mid x)
-key_kept p kept mid same x is =
-    subst (λ parts. Contains (states_in p parts kept.states.items) (kept_of p mid x)) (sym same)
-    (subst (Contains (states_in p mid kept.states.items)) (same_key p mid is.0 x is.2)
-    (contains_map (kept_of p mid) kept.states.items is.0 is.1))
+use Rattle.image_search.proofs.Keeping.{contains_at, key_in, key_kept, state_at}
 
 -- where all that may come next of the state at a place is kept, it is expanded
 module _ (p : Program) (may : May) (kept kept' : KeptOf) (place : ℕ) (x : PackedOf) (mid : PartsOf) (found : List NextOf)
@@ -112,12 +73,6 @@ pub match_none : {X : Type 0} (A B : Type 0) (P : X → Type 0) (o : Option X) �
     → MatchOption o B P
 match_none A B P None f is = f is
 match_none A B P (Some x) f is = is
-
--- the state that stands at a place
-pub state_at : (p : Program) (kept : KeptOf) (place : ℕ) (x : PackedOf) → slice_get kept.states.items place ≡ Some x
-    → slice_get (states_of p kept) place ≡ Some (kept_of p kept.parts x)
-state_at p kept place x here =
-    slice_get-map (kept_of p kept.parts) kept.states.items place ∙ ap (option_map (kept_of p kept.parts)) here
 
 expanded_still : (p : Program) (may : May) (kept kept' : List Kept) → IsPrefix kept kept' → (r : Kept)
     → IsExpanded p may kept r → IsExpanded p may kept' r

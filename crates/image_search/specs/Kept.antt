@@ -16,6 +16,10 @@ use Rattle.image_search.specs.declared.ends.Ends.{Ends as EndsOf}
 abbrev pub HasKey : List PackedOf → PackedOf → Type 0
 HasKey states x = (y : PackedOf) × Contains states y × IsSameKey y x
 
+-- one is at a place
+abbrev pub HasKeyAt : List PackedOf → ℕ → PackedOf → Type 0
+HasKeyAt states n x = (y : PackedOf) × (slice_get states n ≡ Some y) × IsSameKey y x
+
 -- the states that these stand for
 abbrev pub states_in : Program → PartsOf → List PackedOf → List Kept
 states_in p parts states = map (kept_of p parts) states

@@ -27,6 +27,40 @@ pub enum Ending {
     Bounded(Bound),
 }
 
+/// Why it is not known whether a thread sleeps for good.
+#[derive(Clone, Copy)]
+pub enum Doubt {
+    /// Some choice of sleepers wakes each thread that sleeps, but from some state no thread's next step leads on whichever
+    /// sleepers it wakes or moves; or there are more threads than numbers. Where a thread can step and any choice leads on, a
+    /// run goes on so.
+    Wakes,
+    /// Some thread sleeps for good in a kept state, but the schedules that lead there need another choice of sleepers than
+    /// this machine's, which takes them from the front of each list.
+    Choice,
+    /// Not all that may come next of a kept state was found a second time, for this reason.
+    Nexts(image_states::Bound),
+}
+
+/// Whether a thread sleeps for good in a state that a schedule leads to: it sleeps there, and no run of the threads' own
+/// steps from there wakes it, though others may go on for ever.
+#[derive(Drop)]
+pub enum Sleeping {
+    /// It wasn't looked for: not all states were kept without an end, or wakes that nobody called for are searched, and
+    /// any sleeper may be woken so.
+    Unsought,
+    /// None does: from each state that a run comes to, a run of the threads' own steps wakes each thread that sleeps there.
+    Never,
+    /// By this schedule the machine comes to where these threads sleep for good.
+    ForGood {
+        /// The schedule.
+        turns: Vec<Turn>,
+        /// The threads, by rising numbers.
+        threads: Vec<u32>,
+    },
+    /// It isn't known.
+    Unknown(Doubt),
+}
+
 /// What a search over all schedules of an image found.
 #[derive(Drop)]
 pub struct ImageExploration {
@@ -34,4 +68,6 @@ pub struct ImageExploration {
     pub states: usize,
     /// How the search ended.
     pub ending: Ending,
+    /// Whether a thread sleeps for good.
+    pub sleeping: Sleeping,
 }

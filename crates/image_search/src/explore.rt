@@ -1,16 +1,18 @@
-ghost use Rattle.std.specs.Prelude.{◌≡◌, ℕ, IfOk, MatchOption, OnOk};
+ghost use Rattle.std.specs.Prelude.{◌≡◌, ℕ, IfOk, MatchBool, MatchOption, OnOk};
 ghost use Rattle.machine.specs.States.{opening_state};
-ghost use Rattle.proof_image_search.specs.Searching.{IsCovered};
+ghost use Rattle.proof_image_search.specs.Searching.{IsComplete, IsCovered};
 ghost use Rattle.image_states.specs.Nexts.{may_of};
 ghost use Rattle.image_search.specs.Ends.{HasSearched};
+ghost use Rattle.image_search.specs.Sleeping.{HasSlept};
 ghost use Rattle.image_search.specs.Kept.{IsMetBy, IsSound, states_of};
 ghost use Rattle.image_search.specs.Never.{NeverBreaks, NeverFails, NeverStuck};
 ghost use Rattle.image_search.specs.declared.ending.Ending.TheVariants.{Complete};
 
-use crate::ending::{Bound, Ending, ImageExploration};
+use crate::ending::{Bound, Ending, ImageExploration, Sleeping};
 use crate::kept::{KeptStates, Way};
 use crate::progress::Progress;
 use crate::search::search;
+use crate::sleeping::sleeping_of;
 use image_states::{Doing, Outside, Scratch};
 use isa::Image;
 use std::alloc::{AllocError, Global};
@@ -43,6 +45,32 @@ fn keep_opening(
     Ok(bound)
 }
 
+// Whether all states were kept, and none is an end.
+fn is_complete(ending: &Ending) -> bool
+    ensures { MatchBool result (ending.now ≡ Complete) (ending.now ≡ Complete → ⊥) }
+{
+    matches!(ending, Ending::Complete)
+}
+
+// Whether a thread sleeps for good, where the search ended so.
+fn sleeping_behind(
+    alloc: Global,
+    image: &Image,
+    kept: &mut KeptStates,
+    outside: Outside,
+    ending: &Ending,
+    scratch: &mut Scratch,
+) -> Result<Sleeping, AllocError>
+    requires sound { IsSound kept.old }
+    requires complete { ending.now ≡ Complete → IsComplete image.now (may_of outside) (states_of image.now kept.old) }
+    ensures { IfOk result (HasSlept image.now (may_of outside) ending.now) }
+{
+    if !is_complete(ending) {
+        return Ok(Sleeping::Unsought);
+    }
+    sleeping_of(alloc, image, kept, outside, scratch)
+}
+
 // What is found, where nothing is kept yet.
 fn explore_from<P: Progress>(
     alloc: Global,
@@ -53,18 +81,23 @@ fn explore_from<P: Progress>(
     progress: &mut P,
 ) -> Result<ImageExploration, AllocError>
     requires sound { IsSound kept.old }
-    ensures { IfOk result (HasSearched image.now (may_of outside) kept.old.most) }
+    ensures searched { IfOk result (HasSearched image.now (may_of outside) kept.old.most) }
+    ensures sleeping { IfOk result (λ e. HasSlept image.now (may_of outside) e.ending e.sleeping) }
 {
     if let Some(bound) = keep_opening(alloc, image, kept, scratch)? {
         return Ok(ImageExploration {
             states: kept.states.len(),
             ending: Ending::Bounded(bound),
+            sleeping: Sleeping::Unsought,
         });
     }
     let ending = search(alloc, image, kept, outside, scratch, progress)?;
+    let states = kept.states.len();
+    let sleeping = sleeping_behind(alloc, image, kept, outside, &ending, scratch)?;
     Ok(ImageExploration {
-        states: kept.states.len(),
+        states,
         ending,
+        sleeping,
     })
 }
 
@@ -77,7 +110,8 @@ fn explore_with<P: Progress>(
     progress: &mut P,
 ) -> Result<ImageExploration, AllocError>
     requires sound { IsSound kept.old }
-    ensures { IfOk result (HasSearched image.now (may_of outside) kept.old.most) }
+    ensures searched { IfOk result (HasSearched image.now (may_of outside) kept.old.most) }
+    ensures sleeping { IfOk result (λ e. HasSlept image.now (may_of outside) e.ending e.sleeping) }
 {
     let mut scratch = Scratch::new();
     explore_from(alloc, image, kept, outside, &mut scratch, progress)
@@ -92,6 +126,10 @@ fn explore_with<P: Progress>(
 /// The first end that is found, to which a schedule leads that `runner::follow` follows, ends the search, and the schedule is
 /// answered. Where all states were kept and none is such an end, there is no run to one. Else the bound that was met is
 /// named. How far the search has come is told as it goes.
+///
+/// Where all states were kept and none is an end, and strays aren't searched, it looks for a thread that sleeps for good: a
+/// state that a schedule leads to, in which the thread sleeps, and from which no run of the threads' own steps wakes it. Where
+/// there is none, some run wakes each thread that sleeps, wherever a run has come to.
 pub fn explore_image<P: Progress>(
     alloc: Global,
     image: &Image,
@@ -103,6 +141,7 @@ pub fn explore_image<P: Progress>(
     ensures never_stuck { IfOk result (λ e. e.ending ≡ Complete → NeverStuck image.now (may_of outside)) }
     ensures never_fails { IfOk result (λ e. e.ending ≡ Complete → NeverFails image.now (may_of outside)) }
     ensures never_breaks { IfOk result (λ e. e.ending ≡ Complete → NeverBreaks image.now (may_of outside)) }
+    ensures sleeping { IfOk result (λ e. HasSlept image.now (may_of outside) e.ending e.sleeping) }
 {
     let mut kept = KeptStates::new(alloc, most_states);
     explore_with(alloc, image, &mut kept, outside, progress)

@@ -1,7 +1,7 @@
-ghost use Rattle.std.specs.Prelude.{◌≡◌, Contains, IfOk, MatchBool, MatchOption, OnOk, true};
+ghost use Rattle.std.specs.Prelude.{◌≡◌, Contains, IfOk, IfSome, MatchBool, MatchOption, OnOk, true};
 ghost use Rattle.image_states.specs.Packed.{IsWithin};
 ghost use Rattle.image_states.specs.declared.next.Next.{Next as NextOf};
-ghost use Rattle.image_search.specs.Kept.{HasKey};
+ghost use Rattle.image_search.specs.Kept.{HasKey, HasKeyAt};
 
 use crate::ending::Bound;
 use digest_map::DigestMap;
@@ -37,24 +37,34 @@ pub(crate) struct KeptStates {
     pub most: u32,
 }
 
-// Whether this state, of this digest, is kept.
-fn is_kept(states: &[Packed], places: &DigestMap, digest: u64, packed: &Packed) -> bool
-    ensures { result ≡ true → HasKey states.now packed.now }
+// The place of this state, of this digest, where it is kept.
+fn find(states: &[Packed], places: &DigestMap, digest: u64, packed: &Packed) -> Option<u32>
+    ensures { IfSome result (λ n. HasKeyAt states.now n packed.now) }
 {
     let mut tried = 0;
     for _ in 0..TRIES {
         let Some(found) = places.next(digest, tried) else {
-            return false;
+            return None;
         };
         let Some(kept) = states.get(found.number as usize) else {
-            return false;
+            return None;
         };
         if kept.is_same(packed) {
-            return true;
+            return Some(found.number);
         }
         tried = found.tries.wrapping_add(1);
     }
-    false
+    None
+}
+
+// Whether this state, of this digest, is kept.
+fn is_kept(states: &[Packed], places: &DigestMap, digest: u64, packed: &Packed) -> bool
+    ensures { result ≡ true → HasKey states.now packed.now }
+{
+    match find(states, places, digest, packed) {
+        None => false,
+        Some(_) => true,
+    }
 }
 
 impl KeptStates {
@@ -163,5 +173,17 @@ impl KeptStates {
             }
         }
         Ok(None)
+    }
+
+    /// The place of a state, where it is kept.
+    pub fn place_of(&self, packed: &Packed) -> Option<u32>
+        ensures { IfSome result (λ n. HasKeyAt self.now.states.items n packed.now) }
+    {
+        find(
+            self.states.as_slice(),
+            &self.places,
+            packed.digest(),
+            packed,
+        )
     }
 }

@@ -1,18 +1,27 @@
-//! A search over all schedules of an image: whether one gets stuck, whether a thread fails in one, and whether one comes to a
-//! step that may not be.
+//! A search over all schedules of an image: whether one gets stuck, whether a thread fails in one, whether one comes to a
+//! step that may not be, and whether a thread sleeps for good.
 #![tactic(auto)]
 
+mod closing;
 mod ending;
 mod ends;
 mod explore;
+mod flagged;
+mod graph;
 mod kept;
+mod lasting;
+mod living;
+mod matching;
+mod nexts;
 mod progress;
+mod reaching;
 mod search;
 mod shown;
+mod sleeping;
 mod spelling;
 mod turns;
 
-pub use ending::{Bound, Ending, ImageExploration};
+pub use ending::{Bound, Doubt, Ending, ImageExploration, Sleeping};
 pub use explore::explore_image;
 pub use image_states::{Bound as NextsBound, Outside};
 pub use progress::{Progress, Untold};

@@ -1,18 +1,16 @@
-ghost use Rattle.std.specs.Prelude.{◌≡◌, ◌<◌, All, IfOk, IfSome, List, MatchOption, None, OnOk, Some, ℕ};
-ghost use Rattle.std.specs.List.{slice_get};
+ghost use Rattle.std.specs.Prelude.{◌≡◌, ◌<◌, IfOk, IfSome, List, MatchOption, None, OnOk, ℕ};
 ghost use Rattle.machine.specs.States.{opening_state};
 ghost use Rattle.proof_image_search.specs.Searching.{IsCovered, Kept as KeptOf};
-ghost use Rattle.image_states.specs.Nexts.{AreNexts, may_of};
-ghost use Rattle.image_states.specs.Packed.{IsGrown, IsWithin};
-ghost use Rattle.image_states.specs.declared.packed.Packed.{Packed as PackedOf};
+ghost use Rattle.image_states.specs.Nexts.{may_of};
 ghost use Rattle.image_search.specs.Ends.{EndsSo, HasEnded};
 ghost use Rattle.image_search.specs.Kept.{IsExpandedAt, IsLookedAt, IsMetBy, IsMore, IsSound, IsToldAt, states_of};
 
 use crate::ending::{Bound, Ending};
 use crate::ends::{ends_of, shown};
 use crate::kept::KeptStates;
+use crate::nexts::nexts_at;
 use crate::progress::Progress;
-use image_states::{Next, Outside, Packed, Parts, Scratch};
+use image_states::{Outside, Scratch};
 use isa::Image;
 use std::alloc::{AllocError, Global};
 
@@ -55,28 +53,6 @@ fn look_at_ends(
     }
     let ending = shown(alloc, image, kept, place, outside, ends)?;
     Ok(ending)
-}
-
-// What may come next of the state at a place; else why not all was found.
-fn nexts_at(
-    alloc: Global,
-    image: &Image,
-    parts: &mut Parts,
-    states: &[Packed],
-    place: u32,
-    outside: Outside,
-    scratch: &mut Scratch,
-    found: &mut Vec<Next>,
-) -> Result<Option<image_states::Bound>, AllocError>
-    requires { All (IsWithin parts.old) states.now }
-    ensures grown { OnOk result (IsGrown parts.old parts.new) }
-    ensures nexts { IfOk result (λ o. o ≡ None → (x : PackedOf) × (slice_get states.now place ≡ Some x)
-        × AreNexts image.now (may_of outside) parts.new x found.new.items) }
-{
-    let Some(packed) = states.get(place as usize) else {
-        return Ok(Some(image_states::Bound::Foreign));
-    };
-    parts.nexts(alloc, image, packed, outside, scratch, found)
 }
 
 // Keeps what may come next of the state that is kept at a place; else answers why not all is.
@@ -162,6 +138,7 @@ pub(crate) fn search<P: Progress>(
 ) -> Result<Ending, AllocError>
     requires sound { IsSound kept.old }
     requires opens { (m : ℕ) × IsCovered image.now (states_of image.now kept.old) m (opening_state image.now) 0 }
+    ensures sound { OnOk result (IsSound kept.new) }
     ensures most { OnOk result (kept.new.most ≡ kept.old.most) }
     ensures ended { IfOk result (HasEnded image.now (may_of outside) kept.old.most (states_of image.now kept.new)) }
 {

@@ -54,8 +54,8 @@ fn is_stuck(verdict: Verdict) -> bool
     matches!(verdict, Verdict::Stuck)
 }
 
-// No run, where a turn was refused.
-fn no_run(fault: ScheduleFault) -> Result<bool, AllocError>
+/// No run, where a turn was refused.
+pub(crate) fn no_run(fault: ScheduleFault) -> Result<bool, AllocError>
     ensures { IfOk result (λ is. is ≡ false) }
 {
     match fault {

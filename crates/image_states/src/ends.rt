@@ -31,8 +31,8 @@ fn is_failing(image: &Image, local: &Local) -> bool
 }
 
 impl Parts {
-    // The local state of the thread behind so many others.
-    pub(crate) fn thread(&self, packed: &Packed, k: usize) -> Option<&Local>
+    /// The local state of the thread behind so many others.
+    pub fn thread(&self, packed: &Packed, k: usize) -> Option<&Local>
         ensures some { IfSome result (λ l. thread_at self.now.locals.items packed.now.parts.items (suc k) ≡ Some l.now) }
         ensures none { IfNone result (thread_at self.now.locals.items packed.now.parts.items (suc k) ≡ None) }
     {
@@ -53,8 +53,8 @@ impl Parts {
         }
     }
 
-    // Whether it is awake besides.
-    fn can_step(&self, packed: &Packed, k: usize) -> bool
+    /// Whether the thread behind so many others was made, is awake and has not ended.
+    pub fn can_step(&self, packed: &Packed, k: usize) -> bool
         ensures { (p : Program) → MatchBool result (CanStep (unpacked p self.now packed.now) (suc k))
             (CanStep (unpacked p self.now packed.now) (suc k) → ⊥) }
     {
@@ -179,8 +179,8 @@ impl Parts {
         }
     }
 
-    // The same of the thread behind so many others.
-    fn is_broken_at(&self, image: &Image, packed: &Packed, k: usize, t: u32) -> bool
+    /// Whether the next step of the thread behind so many others may not be.
+    pub fn is_broken_at(&self, image: &Image, packed: &Packed, k: usize, t: u32) -> bool
         requires { t ≡ suc k }
         ensures { MatchBool result
             (NextIsBroken image.now (unpacked image.now self.now packed.now) (suc k))

@@ -59,8 +59,8 @@ impl Packed {
         })
     }
 
-    // Where the thread behind so many others sleeps.
-    pub(crate) fn place(&self, k: usize) -> u32
+    /// Where the thread behind so many others sleeps: 0 where it is awake, else one more than the address.
+    pub fn place(&self, k: usize) -> u32
         ensures { result ≡ slice_index self.now.places.items k }
     {
         match self.places.get(k) {

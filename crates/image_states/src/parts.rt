@@ -93,8 +93,8 @@ impl Parts {
         self.locals.get(number as usize)
     }
 
-    // The memory of this number.
-    pub(crate) fn memory(&self, number: u32) -> Option<&Mem>
+    /// The memory of this number.
+    pub fn memory(&self, number: u32) -> Option<&Mem>
         ensures { MatchOption result (slice_get self.now.memories.items number ≡ None)
             (λ m. slice_get self.now.memories.items number ≡ Some m.now) }
     {

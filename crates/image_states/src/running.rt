@@ -26,15 +26,22 @@ impl Scratch {
         }
     }
 
-    // The local state that is looked at is this one.
-    pub(crate) fn look_at(&mut self, local: &Local)
+    /// The local state that is looked at is this one.
+    pub fn look_at(&mut self, local: &Local)
         ensures { self.new.here ≡ local.now }
     {
         self.here.copy_from(local);
     }
 
-    // Takes it on by local steps of thread `t`, by none of which it begins to die.
-    pub(crate) fn run_on(&mut self, image: &Image, t: u32)
+    /// The local state that is looked at.
+    pub fn here(&self) -> &Local
+        ensures { result.now ≡ self.now.here }
+    {
+        &self.here
+    }
+
+    /// Takes it on by local steps of thread `t`, by none of which it begins to die.
+    pub fn run_on(&mut self, image: &Image, t: u32)
         ensures { (count : ℕ) × RunsOn image.now t count self.old.here self.new.here }
     {
         self.ahead.copy_from(&self.here);

@@ -80,8 +80,9 @@ impl Parts {
         }
     }
 
-    // The steps of its own of the thread behind `k` others.
-    fn own_nexts(
+    /// What the steps of its own of the thread behind `k` others may lead to, put behind what is found. Answers why not all
+    /// was found, where it wasn't.
+    pub fn own_nexts(
         &mut self,
         alloc: Global,
         image: &Image,

@@ -7,7 +7,9 @@
 //! which they are.
 #![tactic(auto)]
 
-use image_search::{Bound, Ending, ImageExploration, Outside, Untold, explore_image};
+use image_search::{
+    Bound, Doubt, Ending, ImageExploration, Outside, Sleeping, Untold, explore_image,
+};
 use isa::decode;
 use std::alloc::{AllocError, Global};
 use std::io;
@@ -77,10 +79,27 @@ fn bound_name(bound: Bound) -> &'static str {
     }
 }
 
+// What is told of threads that sleep for good.
+fn sleeping_name(sleeping: &Sleeping) -> &'static str {
+    match sleeping {
+        Sleeping::Unsought => "",
+        Sleeping::Never => ", all are woken",
+        Sleeping::ForGood { .. } => ", some sleep for good",
+        Sleeping::Unknown(Doubt::Wakes) => ", some may sleep for good",
+        Sleeping::Unknown(_) => ", unknown",
+    }
+}
+
 // Prints how a search ended.
 fn show<R: Print>(rt: &R, name: &str, found: &ImageExploration) -> io::Result<()> {
     match &found.ending {
-        Ending::Complete => println!(rt; "{name}: {} states", found.states),
+        Ending::Complete => {
+            println!(rt;
+                "{name}: {} states{}",
+                found.states,
+                sleeping_name(&found.sleeping)
+            )
+        }
         Ending::Stuck(_) => println!(rt; "{name}: stuck"),
         Ending::Failed(_) => println!(rt; "{name}: failed"),
         Ending::Broken(_) => println!(rt; "{name}: broken"),

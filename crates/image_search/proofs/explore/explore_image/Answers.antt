@@ -11,7 +11,7 @@ returns-clause-never_stuck g c =
     let may = may_of c.args.outside in
     IfOk-weaker c.explore_with.result _ _ (λ e found done.
     never_stuck_so p may found.kept (subst (HasEnded p may c.new-kept.result.most found.kept) done found.ended))
-    c.explore_with.ensures
+    c.explore_with.ensures.searched
 
 pub returns-clause-never_fails : goal.returns-clause-never_fails
 returns-clause-never_fails g c =
@@ -19,7 +19,7 @@ returns-clause-never_fails g c =
     let may = may_of c.args.outside in
     IfOk-weaker c.explore_with.result _ _ (λ e found done.
     never_fails_so p may found.kept (subst (HasEnded p may c.new-kept.result.most found.kept) done found.ended))
-    c.explore_with.ensures
+    c.explore_with.ensures.searched
 
 pub returns-clause-never_breaks : goal.returns-clause-never_breaks
 returns-clause-never_breaks g c =
@@ -27,4 +27,4 @@ returns-clause-never_breaks g c =
     let may = may_of c.args.outside in
     IfOk-weaker c.explore_with.result _ _ (λ e found done.
     never_breaks_so p may found.kept (subst (HasEnded p may c.new-kept.result.most found.kept) done found.ended))
-    c.explore_with.ensures
+    c.explore_with.ensures.searched

@@ -1,11 +1,8 @@
-use Rattle.std.proofs.Common.{length, refl}
-use Rattle.std.proofs.lemmas.Option.{slice_get_read}
-use Rattle.image_search.proofs.Keeping.{has_key}
+use Rattle.image_search.specs.Kept.{HasKeyAt}
+use Rattle.image_search.proofs.Keeping.{contains_at}
 use Rattle.image_search.proofs.kept.is_kept.Goals as goal
 
-pub returns-then-is_same : goal.returns-then-is_same
-returns-then-is_same c = λ e.
-    has_key c.args.states.now c.in-Some.found.number c.in-Some-get.kept.now c.args.packed.now
-    (slice_get_read c.args.states.now (length c.args.states.now) c.in-Some.found.number c.in-Some-get.kept.now refl
-    c.in-Some-get.ensures.lookup.3.0 c.in-Some-get.ensures.lookup.1)
-    (c.is_same.ensures c.if-is_same.true)
+pub returns-in-Some : goal.returns-in-Some
+returns-in-Some c = λ e.
+    let at : HasKeyAt c.args.states.now c.in-Some.field-0 c.args.packed.now = c.in-Some.ensures in
+    (at.0, contains_at c.args.states.now c.in-Some.field-0 at.0 at.1, at.2)

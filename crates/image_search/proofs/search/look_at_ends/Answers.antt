@@ -1,7 +1,8 @@
 use Rattle.std.proofs.Common.{◌≡◌, Some, inl, inr, length, refl, slice_get, subst}
 use Rattle.std.proofs.lemmas.Option.{slice_get_read}
 use Rattle.image_states.specs.Packed.{kept_of}
-use Rattle.image_search.proofs.Searched.{end_so, plain_so, state_at}
+use Rattle.image_search.proofs.Keeping.{state_at}
+use Rattle.image_search.proofs.Searched.{end_so, plain_so}
 use Rattle.image_search.proofs.search.look_at_ends.Goals as goal
 
 pub returns-then-not-is_any-clause-told : goal.returns-then-not-is_any-clause-told

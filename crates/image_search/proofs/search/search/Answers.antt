@@ -3,7 +3,8 @@ use Rattle.std.proofs.lemmas.List.{length-map}
 use Rattle.image_states.specs.Nexts.{may_of}
 use Rattle.image_states.specs.Packed.{kept_of}
 use Rattle.image_search.specs.Kept.{IsLookedAt, states_of}
-use Rattle.image_search.proofs.Searched.{at_first, ended_so, goes_on, states_more}
+use Rattle.image_search.proofs.Keeping.{states_more}
+use Rattle.image_search.proofs.Searched.{at_first, ended_so, goes_on}
 use Rattle.image_search.proofs.search.search.Goals as goal
 
 pub loop-place-init : goal.loop-place-init

@@ -1,7 +1,7 @@
 use Rattle.std.proofs.Common.{length, refl}
 use Rattle.std.proofs.lemmas.Option.{slice_get_read}
 use Rattle.std.proofs.lemmas.Result.{IfOk-weaker}
-use Rattle.image_search.proofs.search.nexts_at.Goals as goal
+use Rattle.image_search.proofs.nexts.nexts_at.Goals as goal
 
 pub returns-clause-nexts : goal.returns-clause-nexts
 returns-clause-nexts c =

@@ -1,0 +1,7 @@
+use Rattle.image_search.proofs.Flagging.{leads_of}
+use Rattle.image_search.proofs.living.leads_on.Goals as goal
+
+pub returns-clause-leads : goal.returns-clause-leads
+returns-clause-leads c = λ e.
+    leads_of c.args.image.now c.args.kept.now c.own_flagged.new.kept c.args.flags.now c.args.place _ c.requires.made
+    c.in_ok-own_flagged.ensures.still (c.in_ok-own_flagged.ensures.leads c.if-not-branch.false) (c.can_go-can.ensures e)
