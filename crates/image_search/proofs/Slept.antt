@@ -18,6 +18,7 @@ use Rattle.proof_image_liveness.proofs.Going.{whole_base}
 use Rattle.proof_image_liveness.proofs.Quieting.{never_sleeps, outside_of}
 use Rattle.image_states.specs.Packed.{kept_of}
 use Rattle.image_search.specs.declared.ending.Ending.{Ending}
+use Rattle.image_search.specs.declared.ending.Ending.TheVariants.{Complete}
 use Rattle.image_search.specs.declared.ending.Sleeping.{Sleeping}
 use Rattle.image_search.specs.declared.ending.Sleeping.TheVariants.{ForGood, Never, Unknown, Unsought}
 use Rattle.image_search.specs.declared.kept.KeptStates.{KeptStates as KeptOf}
@@ -29,11 +30,12 @@ use Rattle.image_search.proofs.Flagging.{states_same}
 use Rattle.image_search.proofs.Keeping.{state_at}
 use Rattle.image_search.proofs.Matched.{reached}
 
-pub told_slept : (p : Program) (may : May) (ending : Ending) (s : Sleeping) → TellsOfSleepers p may s → HasSlept p may ending s
-told_slept p may ending Unsought is = λ e. is
-told_slept p may ending Never is = is
-told_slept p may ending (ForGood turns threads) is = is
-told_slept p may ending (Unknown why) is = tt
+pub told_slept : (p : Program) (may : May) (ending : Ending) (s : Sleeping) → ending ≡ Complete → TellsOfSleepers p may s
+    → HasSlept p may ending s
+told_slept p may ending Unsought complete is = λ e. is
+told_slept p may ending Never complete is = is
+told_slept p may ending (ForGood turns threads) complete is = is
+told_slept p may ending (Unknown why) complete is = complete
 
 pub complete_still : (p : Program) (may : May) (a b : KeptOf) → IsSound a → IsStill a b → IsComplete p may (states_of p a)
     → IsComplete p may (states_of p b)

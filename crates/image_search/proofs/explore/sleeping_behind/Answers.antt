@@ -11,4 +11,5 @@ sleeping_of-requires-clause-complete c = c.requires.complete (rw c.if-not-is_com
 
 pub returns : goal.returns
 returns c = IfOk-weaker c.sleeping_of.result _ _
-    (λ s is. told_slept c.args.image.now (may_of c.args.outside) c.args.ending.now s is) c.sleeping_of.ensures.told
+    (λ s is. told_slept c.args.image.now (may_of c.args.outside) c.args.ending.now s
+    (rw c.if-not-is_complete.false at c.is_complete.ensures) is) c.sleeping_of.ensures.told
