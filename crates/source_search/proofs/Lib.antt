@@ -10,4 +10,5 @@ pub mod Keeping
 pub mod Coverage
 pub mod Remembered
 pub mod Searched
+pub mod Lively
 pub mod Bounded

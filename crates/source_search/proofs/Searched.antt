@@ -1,6 +1,6 @@
 -- How far a search has come, and what it knows at its end.
 use Rattle.std.proofs.Common.{◌≡◌, ◌<◌, ◌≤◌, ◌+◌, ℕ, zero, suc, Bool, List, [], ◌∷◌, ◌++◌, length, get_or, take, All}
-use Rattle.std.proofs.Common.{Option, Some, None, sym, refl, ap, ◌∙◌, subst, arith, true, false, inl, inr}
+use Rattle.std.proofs.Common.{Contains, Option, Some, None, sym, refl, ap, ◌∙◌, subst, arith, true, false, inl, inr}
 use Rattle.std.specs.Prelude.{IsSome, is_some}
 use Rattle.std.proofs.lemmas.List.{get_or_append_left, length-append, length-take, take-append-le, take_all}
 use Rattle.std.proofs.lemmas.List.Elements.{All-contains, All-more, All-weaker}
@@ -18,7 +18,7 @@ use Rattle.meaning.proofs.Keeping.{OptionWaits}
 use Rattle.meaning.proofs.Led.{leads_more}
 use Rattle.meaning.proofs.Offered.{IsOwn, own_kind, plain}
 use Rattle.proof_exploration.specs.Exploring.{AreOwn, HasAborted, IsFromOutside, IsLike, IsStuck}
-use Rattle.proof_exploration.specs.Searching.{IsComplete, IsCovered, IsKept}
+use Rattle.proof_exploration.specs.Searching.{IsComplete, IsCovered, IsExpanded as IsExpandedBy, IsKept}
 use Rattle.proof_exploration.proofs.Alike.{like_back, like_stuck}
 use Rattle.proof_exploration.proofs.Representing.{own_leads}
 use Rattle.proof_exploration.proofs.Searching.{never_aborted, never_stuck}
@@ -142,7 +142,7 @@ not_outside may (Stray c) none named few outside = none_strays may none named
 not_outside may (Kill resumed last) none named few outside = none_kills may 0 none (omega (arith, few))
 not_outside may other none named few outside = outside
 
-are_own : (may : Outside) (actions : List Action) → is_any may ≡ false → AreNamed may actions
+pub are_own : (may : Outside) (actions : List Action) → is_any may ≡ false → AreNamed may actions
     → kills_of actions ≤ may.kills → AreOwn actions
 are_own may [] none named few = tt
 are_own may (a ∷ actions) none named few = (
@@ -156,6 +156,16 @@ from_run : (may : Outside) (s : SourceState) (k : Kind) → IsNamed may k → ki
 from_run may s (Stray c) named few = named
 from_run may s (Kill resumed last) named few = omega (arith, few)
 from_run may s other named few = tt
+
+-- where nothing from outside is searched, what comes next of each kept state is covered
+pub closed : (p : Program) (may : Outside) (kept : List SourceState) → All (IsExpanded p may kept) kept
+    → is_any may ≡ false → (s : SourceState) → Contains kept s → IsExpandedBy p kept s
+closed p may kept expanded none s is a s' x =
+    subst (λ (b : Bool). IsSeen p b kept s') none
+    (All-contains (IsExpanded p may kept) kept s expanded is a (ap is_some x.stands)
+    (own_from may s a.kind (subst IsOwn (sym x.named)
+    (own_kind (offer p s.variable x.before) x.label x.effect x.after (plain p s.variable x.before) x.acts)))
+    s' (inl x))
 
 -- then each run leads to what is kept, where something from outside is searched; else the search is complete
 module _ (p : Program) (wf : WellFormed p) (may : Outside) (kept : List SourceState) where
@@ -181,16 +191,11 @@ module _ (p : Program) (wf : WellFormed p) (may : Outside) (kept : List SourceSt
           let none = killed_opening p in
           goes_to_kept actions [] (opening p) s refl opens led from.0 (omega (arith, from.1, none))
 
-  complete : (n : ℕ) × IsCovered p kept n (opening p) → All (IsExpanded p may kept) kept → is_any may ≡ false
+  pub complete : (n : ℕ) × IsCovered p kept n (opening p) → All (IsExpanded p may kept) kept → is_any may ≡ false
       → IsComplete p kept
   complete opens expanded none = record {
     opens = opens;
-    expanded = λ s is a s' x.
-        subst (λ (b : Bool). IsSeen p b kept s') none
-        (All-contains (IsExpanded p may kept) kept s expanded is a (ap is_some x.stands)
-        (own_from may s a.kind (subst IsOwn (sym x.named)
-        (own_kind (offer p s.variable x.before) x.label x.effect x.after (plain p s.variable x.before) x.acts)))
-        s' (inl x));
+    expanded = closed p may kept expanded none;
   }
 
   module _ (expanded : All (IsExpanded p may kept) kept) where

@@ -6,3 +6,5 @@ pub mod Spots
 pub mod Covered
 pub mod Known
 pub mod Bounds
+pub mod Living
+pub mod Blocking

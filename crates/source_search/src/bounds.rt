@@ -1,7 +1,9 @@
-ghost use Rattle.std.specs.Prelude.{◌≡◌, Contains, IfOk, List, true, ℕ};
+ghost use Rattle.std.specs.Prelude.{◌≡◌, ◌<◌, Contains, IfOk, List, length, true, ℕ};
+ghost use Rattle.program.specs.Trees.{Program as ProgramOf};
 ghost use Rattle.meaning.specs.States.{SourceState as SourceStateOf};
 ghost use Rattle.source_states.specs.States.{state_of};
 ghost use Rattle.source_search.specs.Bounds.{IsCrowded, IsMet};
+ghost use Rattle.source_search.specs.declared.outside.Outside.{Outside as OutsideOf};
 
 use source_states::SourceState;
 use std::alloc::{AllocError, Global};
@@ -47,8 +49,8 @@ fn is_crowded(alloc: Global, state: &SourceState) -> Result<bool, AllocError>
 
 /// Why a search ended that couldn't keep all that comes next of this state, though it may keep more.
 pub(crate) fn bound_at(alloc: Global, state: &SourceState) -> Result<Bound, AllocError>
-    ensures { IfOk result (λ b. (most : ℕ) (kept : List SourceStateOf)
-        → Contains kept (state_of state.now) → IsMet most kept b) }
+    ensures { IfOk result (λ b. (p : ProgramOf) (may : OutsideOf) (most : ℕ) (kept : List SourceStateOf)
+        → Contains kept (state_of state.now) → length kept < most → IsMet p may most kept b) }
 {
     if is_crowded(alloc, state)? {
         return Ok(Bound::Waiters);

@@ -18,8 +18,8 @@ use sourcemeaning::movers;
 use std::alloc::{AllocError, Global};
 use words::Cause;
 
-// Whether a process is over.
-fn is_over(process: &Process) -> bool
+/// Whether a process is over.
+pub(crate) fn is_over(process: &Process) -> bool
     ensures { MatchBool result (IsOver (process_of process.now))
         (IsOver (process_of process.now) → ⊥) }
 {
@@ -51,8 +51,8 @@ fn has_failed_so(process: &Process, outside: Outside) -> bool
     }
 }
 
-// Whether there is such a process, and it isn't over.
-fn goes_on_at(state: &SourceState, number: u64) -> bool
+/// Whether there is such a process, and it isn't over.
+pub(crate) fn goes_on_at(state: &SourceState, number: u64) -> bool
     ensures { MatchBool result (GoesOn (state_of state.now) number)
         (GoesOn (state_of state.now) number → ⊥) }
 {

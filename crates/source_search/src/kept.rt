@@ -1,4 +1,4 @@
-ghost use Rattle.std.specs.Prelude.{◌≡◌, IfOk, IfSome, OnOk, Some, true};
+ghost use Rattle.std.specs.Prelude.{◌≡◌, [], IfOk, IfSome, OnOk, Some, true};
 ghost use Rattle.std.specs.List.{slice_get};
 ghost use Rattle.proof_exploration.specs.Searching.{IsKept as IsKeptIn};
 ghost use Rattle.source_states.specs.States.{state_of};
@@ -197,6 +197,32 @@ impl<'a> Kept<'a> {
             place,
             outcome,
         )
+    }
+
+    /// Whether a state of these parts, of this digest, is kept.
+    pub fn is_noted(&self, digest: u64, packed: &Packed) -> bool
+        ensures { result ≡ true → HasKey self.now.states.items packed.now }
+    {
+        is_kept(self.states.as_slice(), &self.places, digest, packed)
+    }
+
+    /// Notes the digest of the state that is kept next.
+    pub fn note_place(&mut self, alloc: Global, digest: u64) -> Result<(), AllocError>
+        ensures parts { OnOk result (self.new.parts ≡ self.old.parts) }
+        ensures states { OnOk result (self.new.states ≡ self.old.states) }
+    {
+        let place = short(self.states.len() as u64);
+        self.places.note(alloc, digest, place)
+    }
+
+    /// Begins anew, with the same parts: no states yet, and a search may keep none.
+    pub fn begin(&mut self, alloc: Global)
+        ensures parts { self.new.parts ≡ self.old.parts }
+        ensures states { self.new.states.items ≡ [] }
+    {
+        self.states = Vec::new(alloc);
+        self.places = DigestMap::new(alloc);
+        self.most = 0;
     }
 
     /// Keeps a state of these parts, of this digest, that isn't kept; false, where no more can be kept.

@@ -1,15 +1,19 @@
-//! A search over all runs of a source program: whether one gets stuck, and whether a process aborts in one.
+//! A search over all runs of a source program: whether one gets stuck, whether a process aborts in one, and
+//! whether one is blocked for good.
 #![tactic(auto)]
 
+mod blocking;
 mod bounds;
 mod choices;
 mod covering;
 mod digest;
 mod ends;
 mod held_up;
+mod holding;
 mod kept;
 mod killing;
 mod learning;
+mod living;
 mod making;
 mod memo;
 mod merging;
@@ -22,7 +26,9 @@ mod replay;
 mod runs;
 mod search;
 mod spot;
+mod walking;
 
+pub use blocking::Blocked;
 pub use bounds::Bound;
 pub use outside::Outside;
 pub use progress::{Progress, Untold};

@@ -1,4 +1,4 @@
-ghost use Rattle.std.specs.Prelude.{◌≡◌, IfOk, IfSome, None, OnOk, Some, true, ℕ};
+ghost use Rattle.std.specs.Prelude.{◌≡◌, ◌<◌, All, IfOk, IfSome, IsSome, None, OnOk, Some, length, true, ℕ};
 ghost use Rattle.source_offers.specs.Stages.{process_of};
 ghost use Rattle.source_offers.specs.Stores.{variables_of};
 ghost use Rattle.source_table.specs.Tables.{table_of};
@@ -36,7 +36,7 @@ pub(crate) struct Parts<'a> {
 
 impl<'a> Parts<'a> {
     ghost use Rattle.source_search.specs.Packed.{ArePacked, IsGrown, IsPackedOf, process_in, processes_at, table_in};
-    ghost use Rattle.source_search.specs.Packed.{unpacked, variables_in};
+    ghost use Rattle.source_search.specs.Packed.{IsWithin, unpacked, variables_in};
 
     /// No parts yet.
     pub fn new(alloc: Global) -> Parts<'a> {
@@ -282,9 +282,10 @@ impl<'a> Parts<'a> {
         state: &mut SourceState<'a>,
     ) -> Result<bool, AllocError>
         requires { (q : ℕ) → (state_of state.old).process q ≡ None }
-        ensures { IfOk result (λ b. b ≡ true → state_of state.new ≡ record (state_of state.old) {
+        ensures all { IfOk result (λ b. b ≡ true → state_of state.new ≡ record (state_of state.old) {
           process = processes_at self.now.processes.items parts.now;
         }) }
+        ensures there { All (λ n. n < length self.now.processes.items) parts.now → IfOk result (λ b. b ≡ true) }
     {
         for k in 0..parts.len() {
             let Some(process) = self.processes.get(parts[k] as usize) else {
@@ -295,13 +296,14 @@ impl<'a> Parts<'a> {
         Ok(true)
     }
 
-    /// A kept state, whole.
+    /// A kept state, whole; None where a part of it isn't there.
     pub fn unpack(
         &self,
         alloc: Global,
         packed: &Packed,
     ) -> Result<Option<SourceState<'a>>, AllocError>
-        ensures { IfOk result (λ o. IfSome o (λ s. state_of s ≡ unpacked self.now packed.now)) }
+        ensures state { IfOk result (λ o. IfSome o (λ s. state_of s ≡ unpacked self.now packed.now)) }
+        ensures there { IsWithin self.now packed.now → IfOk result (λ o. IsSome o) }
     {
         let Some(table) = self.tables.get(packed.table as usize) else {
             return Ok(None);

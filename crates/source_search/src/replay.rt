@@ -1,3 +1,6 @@
+ghost use Rattle.std.specs.Prelude.{OnOk};
+ghost use Rattle.source_search.specs.Packed.{IsGrown};
+
 use crate::choices::choices;
 use crate::kept::{Kept, Way};
 use crate::making::follow_made;
@@ -80,8 +83,24 @@ fn go_way<'a>(
     Ok(true)
 }
 
-// The actions of a way from a kept state to another.
-fn go_between<'a>(
+/// The actions of a way from a kept state to another, as far as they are possible.
+pub(crate) fn go_between<'a>(
+    alloc: Global,
+    checked: &'a Checked,
+    parts: &mut Parts<'a>,
+    before: &Packed,
+    after: &Packed,
+    way: Way,
+) -> Result<Vec<Action>, AllocError>
+    ensures { OnOk result (IsGrown parts.old parts.new) }
+{
+    let mut actions = Vec::new(alloc);
+    append_between(alloc, checked, parts, before, after, way, &mut actions)?;
+    Ok(actions)
+}
+
+// Appends them.
+fn append_between<'a>(
     alloc: Global,
     checked: &'a Checked,
     parts: &mut Parts<'a>,
@@ -89,7 +108,9 @@ fn go_between<'a>(
     after: &Packed,
     way: Way,
     actions: &mut Vec<Action>,
-) -> Result<(), AllocError> {
+) -> Result<(), AllocError>
+    ensures { OnOk result (IsGrown parts.old parts.new) }
+{
     let Some(spot) = before.spot((way.process as usize).saturating_sub(1)) else {
         return Ok(());
     };
@@ -111,12 +132,14 @@ fn go_from<'a>(
     way: Way,
     small: &mut SourceState<'a>,
     actions: &mut Vec<Action>,
-) -> Result<(), AllocError> {
+) -> Result<(), AllocError>
+    ensures { OnOk result (IsGrown parts.old parts.new) }
+{
     let made = before.processes.len();
-    if go_through(alloc, checked, small, way, made, actions)? {
-        settle_behind(alloc, checked, parts, before, after, small, actions)?;
+    if !go_through(alloc, checked, small, way, made, actions)? {
+        return Ok(());
     }
-    Ok(())
+    settle_behind(alloc, checked, parts, before, after, small, actions)
 }
 
 // Appends the actions of a way, and those of the processes that it makes; says whether it is possible.
@@ -145,13 +168,16 @@ fn settle_behind<'a>(
     after: &Packed,
     small: &SourceState<'a>,
     actions: &mut Vec<Action>,
-) -> Result<(), AllocError> {
+) -> Result<(), AllocError>
+    ensures { OnOk result (IsGrown parts.old parts.new) }
+{
     let Some(next) = parts.merge(alloc, checked.program(), before, small)? else {
         return Ok(());
     };
-    if !next.is_same(after) {
-        let _settled = parts.settle(alloc, checked, next, actions)?;
+    if next.is_same(after) {
+        return Ok(());
     }
+    let _settled = parts.settle(alloc, checked, next, actions)?;
     Ok(())
 }
 
@@ -227,7 +253,7 @@ fn follow_way<'a>(
     let Some(after) = kept.packed_at(alloc, at)? else {
         return Ok(false);
     };
-    go_between(
+    append_between(
         alloc,
         checked,
         &mut kept.parts,

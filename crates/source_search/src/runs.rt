@@ -1,11 +1,15 @@
 ghost use Rattle.std.specs.Prelude.{◌≡◌, IfOk, IfSome, List, MatchOption, None, OnOk, false, length, true};
+ghost use Rattle.program.specs.Trees.{Program as ProgramOf};
 ghost use Rattle.program.specs.Views.{program_of};
 ghost use Rattle.proof_exploration.specs.Exploring.{IsStuck};
 ghost use Rattle.meaning.specs.States.{SourceState as SourceStateOf, opening};
-ghost use Rattle.source_search.specs.Bounds.{HasSearched, IsMet};
+ghost use Rattle.source_search.specs.Blocking.{IsTold};
+ghost use Rattle.source_search.specs.Bounds.{AreAll, HasSearched, IsMet};
 ghost use Rattle.source_search.specs.Found.{HasFailed, LeadsNowhere, LeadsTo, is_any};
+ghost use Rattle.source_search.specs.declared.outside.Outside.{Outside as OutsideOf};
 ghost use Rattle.source_search.specs.Kept.{IsSeen, IsSound, states_of};
 
+use crate::blocking::{Blocked, look_for_resting, told_blocked};
 use crate::bounds::Bound;
 use crate::ends::{has_failed, is_stuck};
 use crate::kept::Kept;
@@ -29,6 +33,8 @@ pub struct Exploration {
     pub stuck: Option<Vec<Action>>,
     /// A run at whose end some process has aborted, and not of a kill where kills are searched, where one was found.
     pub aborted: Option<Vec<Action>>,
+    /// A run at whose end some processes are blocked for good, where it was looked for and found.
+    pub blocked: Blocked,
     /// Why the search wasn't complete, where it wasn't.
     pub bound: Option<Bound>,
 }
@@ -172,8 +178,9 @@ fn is_complete(opens: bool, findings: &Findings, told: &Told) -> bool
 
 // What kept a search from its end that may keep so many states, and keeps so many.
 fn met_bound(opens: bool, findings: &Findings, most: usize, states: usize) -> Bound
-    ensures { (kept : List SourceStateOf) → length kept ≡ states
-        → (findings.now.complete ≡ false → IsMet most kept findings.now.bound) → IsMet most kept result }
+    ensures { (p : ProgramOf) (may : OutsideOf) (kept : List SourceStateOf) → length kept ≡ states
+        → (findings.now.complete ≡ false → IsMet p may most kept findings.now.bound)
+        × (opens ≡ true → findings.now.complete ≡ true → AreAll p may kept) → IsMet p may most kept result }
 {
     if states >= most {
         return Bound::States;
@@ -195,9 +202,10 @@ fn bound_unless(
     most: usize,
     states: usize,
 ) -> Option<Bound>
-    ensures { MatchOption result (complete ≡ true) (λ b. (complete ≡ false) × ((kept : List SourceStateOf)
-        → length kept ≡ states → (findings.now.complete ≡ false → IsMet most kept findings.now.bound)
-        → IsMet most kept b)) }
+    ensures { MatchOption result (complete ≡ true) (λ b. (complete ≡ false)
+        × ((p : ProgramOf) (may : OutsideOf) (kept : List SourceStateOf) → length kept ≡ states
+        → (findings.now.complete ≡ false → IsMet p may most kept findings.now.bound)
+        × (opens ≡ true → findings.now.complete ≡ true → AreAll p may kept) → IsMet p may most kept b)) }
 {
     if complete {
         return None;
@@ -239,6 +247,8 @@ fn explore_from<'a, P: Progress>(
         → LeadsNowhere (program_of checked.now.tree) outside (IsStuck (program_of checked.now.tree))) }
     ensures never_aborted { IfOk result (λ e. e.complete ≡ true → e.aborted ≡ None
         → LeadsNowhere (program_of checked.now.tree) outside (HasFailed outside)) }
+    ensures blocked { IfOk result
+        (λ e. IsTold (program_of checked.now.tree) outside e.complete e.blocked) }
     ensures searched { IfOk result (HasSearched (program_of checked.now.tree) outside most_states) }
 {
     let _program = checked.program();
@@ -246,8 +256,10 @@ fn explore_from<'a, P: Progress>(
     let findings = search(alloc, checked, kept, most_states, outside, progress)?;
     let all = kept.states.as_slice();
     let states = all.len();
+    let found = look_for_resting(alloc, checked, kept, findings.complete, outside)?;
     let told = runs_found(alloc, checked, kept, &findings, outside)?;
     let complete = is_complete(opens, &findings, &told);
+    let blocked = told_blocked(alloc, checked, kept, found, complete, most_states, outside)?;
     let bound = bound_unless(complete, opens, &findings, most_states, states);
     let Told { stuck, aborted } = told;
     Ok(Exploration {
@@ -255,6 +267,7 @@ fn explore_from<'a, P: Progress>(
         complete,
         stuck,
         aborted,
+        blocked,
         bound,
     })
 }
@@ -264,7 +277,8 @@ fn explore_from<'a, P: Progress>(
 /// most are killed, wherever they stand; breadth first, keeping at most so many states: for one that gets stuck, and for
 /// one in which a process aborts. Where nothing comes from outside a process whose next action is calm, so that none of
 /// the others races with it, is followed alone. What is found is such a run. Where the search came to its end and none
-/// was found, there is none. It comes to its end unless it meets a bound, which is named: as many states are kept as may
+/// was found, there is none. Where nothing from outside is searched, a complete search tells a run at whose end some
+/// processes are blocked for good, or that there is none. It comes to its end unless it meets a bound, which is named: as many states are kept as may
 /// be, or one of the others. How far it has come is told as it goes.
 pub fn explore<P: Progress>(
     alloc: Global,
@@ -281,6 +295,8 @@ pub fn explore<P: Progress>(
         → LeadsNowhere (program_of checked.now.tree) outside (IsStuck (program_of checked.now.tree))) }
     ensures never_aborted { IfOk result (λ e. e.complete ≡ true → e.aborted ≡ None
         → LeadsNowhere (program_of checked.now.tree) outside (HasFailed outside)) }
+    ensures blocked { IfOk result
+        (λ e. IsTold (program_of checked.now.tree) outside e.complete e.blocked) }
     ensures searched { IfOk result (HasSearched (program_of checked.now.tree) outside most_states) }
 {
     let mut kept = Kept::new(alloc, most_states);

@@ -388,11 +388,13 @@ impl Findings {
 }
 
 impl<'a> Kept<'a> {
+    ghost use Rattle.program.specs.Trees.{Program as ProgramOf};
     ghost use Rattle.source_search.specs.Bounds.{IsMet};
+    ghost use Rattle.source_search.specs.declared.outside.Outside.{Outside as OutsideOf};
 
     // Why a search ended that may keep so many states, and couldn't keep all that comes next of the state at a place.
     fn bound_met(&self, alloc: Global, place: usize, most: usize) -> Result<Bound, AllocError>
-        ensures { IfOk result (IsMet most (states_of self.now)) }
+        ensures { IfOk result (λ b. (p : ProgramOf) (may : OutsideOf) → IsMet p may most (states_of self.now) b) }
     {
         if self.states.len() >= most {
             return Ok(Bound::States);
@@ -414,8 +416,10 @@ pub(crate) fn search<'a, P: Progress>(
     progress: &mut P,
 ) -> Result<Findings, AllocError>
     requires sound { IsSound kept.old }
+    ensures sound { OnOk result (IsSound kept.new) }
     ensures longer { OnOk result (IsLonger (states_of kept.old) (states_of kept.new)) }
-    ensures bound { IfOk result (λ f. f.complete ≡ false → IsMet most (states_of kept.new) f.bound) }
+    ensures bound { IfOk result (λ f. f.complete ≡ false
+        → IsMet (program_of checked.now.tree) outside most (states_of kept.new) f.bound) }
     ensures expanded { IfOk result (λ f. f.complete ≡ true
         → All (IsExpanded (program_of checked.now.tree) outside (states_of kept.new))
         (states_of kept.new)) }

@@ -3,13 +3,14 @@
 use crate::failure::Failure;
 use compiler::compile_checked;
 use program::Checked;
-use source_search::{Exploration, Outside, Untold, explore};
+use source_search::{Blocked, Exploration, Outside, Untold, explore};
 use source_states::Action;
 use std::alloc::Global;
 use std::io;
 
 /// Searches all runs of a program, and prints whether the search came to its end, how many actions the run has that it
-/// found to get stuck, and how many the one in which it found a process to abort, where it found one.
+/// found to get stuck, and how many the one in which it found a process to abort, where it found one. Where it looked for
+/// them it prints which processes it found to be blocked for good, and how many actions the run has at whose end they are.
 pub fn show_search<R: AllocGlobal + Print>(rt: &R, said: &str) -> Result<(), Failure> {
     let found = search(rt.alloc(), said)?;
     show(rt, &found)
@@ -59,7 +60,8 @@ fn show<R: Print>(rt: &R, found: &Exploration) -> Result<(), Failure> {
     };
     print!(rt; "{extent}, ")?;
     show_stuck(rt, length_of(&found.stuck))?;
-    Ok(show_aborted(rt, length_of(&found.aborted))?)
+    show_aborted(rt, length_of(&found.aborted))?;
+    Ok(show_blocked(rt, &found.blocked)?)
 }
 
 // Prints how many actions the run has that gets stuck, if there is one.
@@ -73,9 +75,28 @@ fn show_stuck<R: Print>(rt: &R, length: Option<usize>) -> io::Result<()> {
 // The same of the run in which a process aborts.
 fn show_aborted<R: Print>(rt: &R, length: Option<usize>) -> io::Result<()> {
     match length {
-        None => println!(rt; "none aborts"),
-        Some(count) => println!(rt; "aborted after {count} actions"),
+        None => print!(rt; "none aborts"),
+        Some(count) => print!(rt; "aborted after {count} actions"),
     }
+}
+
+// Prints which processes are blocked for good, where it was looked for.
+fn show_blocked<R: Print>(rt: &R, blocked: &Blocked) -> io::Result<()> {
+    match blocked {
+        Blocked::NotLookedFor => println!(rt; ""),
+        Blocked::Never => println!(rt; ", none is blocked"),
+        Blocked::NotTold => println!(rt; ", it isn't told who is blocked"),
+        Blocked::Found { processes, run } => show_blocked_run(rt, processes, run.len()),
+    }
+}
+
+// Prints their numbers, and how many actions the run has.
+fn show_blocked_run<R: Print>(rt: &R, processes: &[u64], count: usize) -> io::Result<()> {
+    print!(rt; ", blocked")?;
+    for process in processes {
+        print!(rt; " {process}")?;
+    }
+    println!(rt; " after {count} actions")
 }
 
 // How many actions a run has, where there is one.

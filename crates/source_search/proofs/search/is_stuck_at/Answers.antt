@@ -14,6 +14,6 @@ returns-then-moves c = λ e stuck.
 pub returns : goal.returns
 returns c =
     let same : state_of c.in-Some.state ≡ unpacked c.args.parts.now c.args.packed.now =
-    rw c.in-Some.is at c.in_ok-state.ensures in
+    rw c.in-Some.is at c.in_ok-state.ensures.state in
     subst (λ s. IfOk c.told_stuck.result (λ o. IfSome o (λ stuck. stuck ≡ false
     → IsStuck (program_of c.args.checked.now.tree) s → ⊥))) same c.told_stuck.ensures

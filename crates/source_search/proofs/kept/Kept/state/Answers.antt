@@ -10,7 +10,7 @@ returns c =
     let parts = c.args.self.now.parts in
     let states = c.args.self.now.states.items in
     let is : state_of c.in-Some-2.state ≡ unpacked parts c.in-Some.packed.now =
-    rw c.in-Some-2.is at c.in_ok-state.ensures in
+    rw c.in-Some-2.is at c.in_ok-state.ensures.state in
     slice_get-map (unpacked parts) states c.args.place
     ∙ ap (option_map (unpacked parts)) (subst (λ xs. slice_get xs c.args.place ≡ Some c.in-Some.packed.now)
     c.deref.ensures.value

@@ -12,8 +12,8 @@ use Rattle.source_search.proofs.parts.Parts.unpack.Goals as goal
 pub unpack_processes-requires : goal.unpack_processes-requires
 unpack_processes-requires c = λ q. ap (λ (s : SourceState). s.process q) c.unpeopled-state.ensures
 
-pub returns : goal.returns
-returns c =
+pub returns-clause-state : goal.returns-clause-state
+returns-clause-state c =
     let parts = c.args.self.now in
     let x = c.args.packed.now in
     let t : table_in parts.tables.items x.table ≡ Some (table_of c.in_ok-copy.field-0) =
@@ -29,6 +29,6 @@ returns c =
     ∙ ap Some (sym c.in_ok-copy-2.ensures) in
     unpacked_of parts x (state_of c.unpack_processes.new.state) (table_of c.in_ok-copy.field-0)
     (variables_of c.in_ok-copy-2.field-0) c.as_slice.result.now t v
-    (c.in_ok-unpack_processes.ensures c.if-not-branch.false
+    (c.in_ok-unpack_processes.ensures.all c.if-not-branch.false
     ∙ ap (λ (s : SourceState). record s { process = processes_at parts.processes.items c.as_slice.result.now })
     c.unpeopled-state.ensures) c.as_slice.ensures.value

@@ -1,4 +1,5 @@
-use Rattle.std.proofs.Common.{◌≡◌, ◌∙◌, ℕ, Some, ap, get_or, length, refl, slice_get, subst, sym}
+use Rattle.std.proofs.Common.{◌≡◌, ◌<◌, ◌≤◌, ◌∙◌, ℕ, Some, ap, arith, get_or, length, refl, slice_get, subst, sym}
+use Rattle.std.proofs.lemmas.Bool.Decides.{nat_tests}
 use Rattle.std.specs.Prelude.{option_map}
 use Rattle.std.proofs.lemmas.List.{take_all}
 use Rattle.std.proofs.lemmas.Option.{slice_get-get_or, slice_get_read}
@@ -25,8 +26,15 @@ loop-k-preserved c =
     c.loop-k.k n (process_of c.in_ok-copy.field-0) c.loop-k.invariant c.in_ok-place.ensures
     (slice_get-get_or c.args.parts.now c.loop-k.k 0 c.loop-k-test.true) there
 
-pub returns : goal.returns
-returns c = λ e.
+pub returns-clause-all : goal.returns-clause-all
+returns-clause-all c = λ e.
     c.loop-k.invariant
     ∙ ap (λ xs. record (state_of c.args.state.now) { process = processes_at c.args.self.now.processes.items xs })
     (take_all c.loop-k.k c.args.parts.now c.loop-k-test.false)
+
+pub returns-in_default-clause-there : goal.returns-in_default-clause-there
+returns-in_default-clause-there c = λ all.
+    let n : ℕ = get_or c.args.parts.now c.loop-k.k 0 in
+    let less : n < length c.args.self.now.processes.items = all c.loop-k.k 0 c.loop-k-test.true in
+    let out : length c.deref.result.now ≤ n = grind (arith, nat_tests, c.in_default.ensures.lookup.0) in
+    absurd (omega (arith, less, out, ap length c.deref.ensures.value))

@@ -1,0 +1,28 @@
+use Rattle.std.proofs.Common.{◌≡◌, ◌∙◌, false, inl, inr, sym}
+use Rattle.std.proofs.lemmas.Result.{IfOk-weaker}
+use Rattle.program.specs.Views.{program_of}
+use Rattle.proof_exploration.specs.Blocking.{HasBlocked}
+use Rattle.source_search.specs.Blocking.{HasResting}
+use Rattle.source_search.specs.Found.{LeadsNowhere, is_any}
+use Rattle.source_search.proofs.blocking.told_blocked.Goals as goal
+
+pub returns-then-not-complete : goal.returns-then-not-complete
+returns-then-not-complete c = λ told. inr c.if-not-complete.true
+
+pub returns-then-is_any : goal.returns-then-is_any
+returns-then-is_any c = λ told. inl (sym c.is_any.ensures ∙ c.if-is_any.true)
+
+pub returns-in-None : goal.returns-in-None
+returns-in-None c = λ told.
+    let p = program_of c.args.checked.now.tree in
+    let none : is_any c.args.outside ≡ false = sym c.is_any.ensures ∙ c.if-is_any.false in
+    let never : LeadsNowhere p c.args.outside (HasBlocked p) =
+    rw c.in-None.is at (told c.if-not-complete.false none) in
+    never
+
+pub returns-in-Some : goal.returns-in-Some
+returns-in-Some c = λ told.
+    let p = program_of c.args.checked.now.tree in
+    let none : is_any c.args.outside ≡ false = sym c.is_any.ensures ∙ c.if-is_any.false in
+    let resting : HasResting p c.args.outside = rw c.in-Some.is at (told c.if-not-complete.false none) in
+    IfOk-weaker c.blocked_at.result _ _ (λ b is. is c.args.complete) (c.blocked_at.ensures resting)
