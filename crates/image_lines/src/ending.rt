@@ -1,6 +1,7 @@
+use crate::lines::{Doing, Lines};
 use crate::origin::Origin;
 use locals::Local;
-use machine::Machine;
+use machine::{Machine, ThreadSet};
 use text_writer::TextWriter;
 use words::Addr;
 
@@ -35,8 +36,10 @@ fn write_sleeper(machine: &Machine, t: u32, base: u32, origin: &Origin, writer: 
 }
 
 /// Writes who sleeps at the end of a run.
-pub(crate) fn write_end(machine: &Machine, base: u32, origin: &Origin, writer: &mut TextWriter) {
+pub(crate) fn write_end(machine: &Machine, base: u32, origin: &Origin, lines: &mut Lines) {
     for before in 0..machine.threads() {
-        write_sleeper(machine, before + 1, base, origin, writer);
+        let from = lines.writer.len();
+        write_sleeper(machine, before + 1, base, origin, &mut lines.writer);
+        lines.mark(from, before + 1, Doing::Stays, ThreadSet::new());
     }
 }

@@ -1,3 +1,4 @@
+use crate::lines::{Doing, Lines};
 use crate::origin::Origin;
 use locals::{NextStep, Request};
 use machine::{Event, ThreadSet};
@@ -181,9 +182,19 @@ fn write_requeued(event: &Event, writer: &mut TextWriter) {
     }
 }
 
-/// Writes the line of a shared step that was taken whole, or in its last piece. Of an exit's steps those alone have one that
-/// wake somebody.
-pub(crate) fn write_event(event: &Event, seen: Seen, origin: &Origin, writer: &mut TextWriter) {
+// What a step is, by what came next of its thread.
+fn doing_of(event: &Event, next: NextStep) -> Doing {
+    match next {
+        NextStep::Fork { .. } => Doing::Fork(event.value),
+        NextStep::Shared(Request::Wait { .. }) if event.value == 0 => Doing::Sleep,
+        NextStep::Shared(Request::Return) | NextStep::Shared(Request::ReturnValue(_)) => Doing::End,
+        NextStep::Shared(Request::Fault(_)) => Doing::Die,
+        _ => Doing::Other,
+    }
+}
+
+// Writes the line of a shared step. Of an exit's steps those alone have one that wake somebody.
+fn write_shared(event: &Event, seen: Seen, origin: &Origin, writer: &mut TextWriter) {
     let thread = u64::from(seen.thread);
     match seen.next {
         NextStep::Shared(request) => {
@@ -204,4 +215,11 @@ pub(crate) fn write_event(event: &Event, seen: Seen, origin: &Origin, writer: &m
         }
         _ => {}
     }
+}
+
+/// Writes the line of a shared step that was taken whole, or in its last piece, if it has one.
+pub(crate) fn write_event(event: &Event, seen: Seen, origin: &Origin, lines: &mut Lines) {
+    let from = lines.writer.len();
+    write_shared(event, seen, origin, &mut lines.writer);
+    lines.mark(from, seen.thread, doing_of(event, seen.next), event.woken)
 }

@@ -3,8 +3,10 @@
 
 mod ending;
 mod events;
+mod lines;
 mod origin;
 mod run;
 
+pub use lines::{Doing, Mark, RunLines};
 pub use origin::Origin;
 pub use run::run_lines;

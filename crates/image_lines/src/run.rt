@@ -1,12 +1,12 @@
 use crate::ending::write_end;
 use crate::events::{Seen, write_event};
+use crate::lines::{Doing, Lines, RunLines};
 use crate::origin::Origin;
 use isa::Image;
-use machine::{Event, EventName};
+use machine::{Event, EventName, ThreadSet};
 use piece_machine::PieceMachine;
 use runner::Turn;
 use std::alloc::{AllocError, Global};
-use text_writer::TextWriter;
 use words::BUCKETS;
 
 // What comes next of a thread; None where there is no such thread.
@@ -24,28 +24,37 @@ fn seen(machine: &PieceMachine, t: u32, base: u32) -> Option<Seen> {
 }
 
 // Writes the line of a step that may not be.
-fn write_refused(seen: Seen, origin: &Origin, writer: &mut TextWriter) {
-    writer.form(
+fn write_refused(seen: Seen, origin: &Origin, lines: &mut Lines) {
+    let from = lines.writer.len();
+    lines.writer.form(
         "$ comes to a step that may not be",
         &[u64::from(seen.thread)],
     );
-    origin.end_line(seen.place, writer);
+    origin.end_line(seen.place, &mut lines.writer);
+    lines.mark(from, seen.thread, Doing::Broken, ThreadSet::new())
+}
+
+// Writes the line of what comes from outside.
+fn write_outside(form: &str, thread: u32, doing: Doing, lines: &mut Lines) {
+    let from = lines.writer.len();
+    lines.writer.form(form, &[u64::from(thread)]);
+    lines.mark(from, thread, doing, ThreadSet::new())
 }
 
 // Takes a step of a thread, and writes its line, if it has one.
-fn write_step(machine: &mut PieceMachine, seen: Seen, origin: &Origin, writer: &mut TextWriter) {
+fn write_step(machine: &mut PieceMachine, seen: Seen, origin: &Origin, lines: &mut Lines) {
     let mut event = Event::new(EventName::Local, 0);
     if machine.make_room(1).is_err() {
-        writer.fail();
+        lines.writer.fail();
         return;
     }
     if machine.step(seen.thread, &mut event).is_err() {
-        write_refused(seen, origin, writer);
+        write_refused(seen, origin, lines);
         return;
     }
     match event.name {
         EventName::Local | EventName::FutexLock | EventName::FutexCompare => {}
-        _ => write_event(&event, seen, origin, writer),
+        _ => write_event(&event, seen, origin, lines),
     }
 }
 
@@ -55,22 +64,22 @@ fn write_turn(
     turn: Turn,
     base: u32,
     origin: &Origin,
-    writer: &mut TextWriter,
+    lines: &mut Lines,
 ) {
     let mut event = Event::new(EventName::Local, 0);
     match turn {
         Turn::Step(t) => {
             if let Some(seen) = seen(machine, t, base) {
-                write_step(machine, seen, origin, writer);
+                write_step(machine, seen, origin, lines);
             }
         }
         Turn::Stray(t) => {
             let _ = machine.stray(t, &mut event);
-            writer.form("$ is woken from outside\n", &[u64::from(t)]);
+            write_outside("$ is woken from outside\n", t, Doing::Stray, lines);
         }
         Turn::Kill(t) => {
             let _ = machine.kill(t, &mut event);
-            writer.form("$ is killed from outside\n", &[u64::from(t)]);
+            write_outside("$ is killed from outside\n", t, Doing::Kill, lines);
         }
     }
 }
@@ -81,33 +90,28 @@ fn write_turns(
     turns: &[Turn],
     base: u32,
     origin: &Origin,
-    writer: &mut TextWriter,
+    lines: &mut Lines,
 ) {
     for turn in turns {
-        write_turn(machine, *turn, base, origin, writer);
+        write_turn(machine, *turn, base, origin, lines);
     }
-    write_end(machine.machine(), base, origin, writer);
+    write_end(machine.machine(), base, origin, lines);
 }
 
 // Writes the run of an image by a schedule.
-fn write_run(
-    alloc: Global,
-    image: &Image,
-    turns: &[Turn],
-    origin: &Origin,
-    writer: &mut TextWriter,
-) {
+fn write_run(alloc: Global, image: &Image, turns: &[Turn], origin: &Origin, lines: &mut Lines) {
     match PieceMachine::new(alloc, image, BUCKETS) {
-        Err(_) => writer.fail(),
+        Err(_) => lines.writer.fail(),
         Ok(mut machine) => {
             let base = image.version().monitors_base();
-            write_turns(&mut machine, turns, base, origin, writer)
+            write_turns(&mut machine, turns, base, origin, lines)
         }
     }
 }
 
 /// The lines of the run of an image by a schedule: of each step of a thread that others can see, in order, what it did and
 /// where its instruction stands, and at the end who sleeps on which word. A futex call has one line, where it is over.
+/// Beside each line stands what its step did.
 ///
 /// # Errors
 ///
@@ -117,8 +121,10 @@ pub fn run_lines(
     image: &Image,
     turns: &[Turn],
     origin: &Origin,
-) -> Result<String, AllocError> {
-    let mut writer = TextWriter::new(alloc);
-    write_run(alloc, image, turns, origin, &mut writer);
-    writer.finish()
+) -> Result<RunLines, AllocError> {
+    let mut lines = Lines::new(alloc);
+    write_run(alloc, image, turns, origin, &mut lines);
+    let Lines { writer, marks } = lines;
+    let text = writer.finish()?;
+    Ok(RunLines { text, marks })
 }
