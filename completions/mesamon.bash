@@ -8,7 +8,7 @@ _mesamon_words() {
         compile) echo FILE OUT --workers=N --image=N --hints ;;
         list) echo IMAGE --source=FILE --hints ;;
         run) echo FILE --steps=N --in-order --seed=N --strays=N --kills=N --trace --log=OUT --page=OUT --hints ;;
-        exec) echo IMAGE --steps=N --in-order --seed=N --strays=N --kills=N --trace --log=OUT ;;
+        exec) echo IMAGE --steps=N --in-order --seed=N --strays=N --kills=N --trace --log=OUT --assembly ;;
         replay) echo FILE SCHEDULE --steps=N --trace --log=LOG --page=OUT --assembly --image --hints ;;
         explain)
             echo FILE --steps=N --seed=N --strays=N --kills=N --schedule=SCHEDULE --log=LOG

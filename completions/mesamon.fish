@@ -49,6 +49,7 @@ complete -c mesamon -n '__fish_seen_subcommand_from explain explore' -l places -
 complete -c mesamon -n '__fish_seen_subcommand_from explore' -l states -x -d 'The most states that are kept'
 complete -c mesamon -n '__fish_seen_subcommand_from explore' -l strays -d 'Searches the runs with stray wakes too'
 complete -c mesamon -n '__fish_seen_subcommand_from explore' -l kills -x -d 'Searches the runs too in which at most N processes are killed'
+complete -c mesamon -n '__fish_seen_subcommand_from exec' -l assembly -d 'IMAGE is an assembly text'
 complete -c mesamon -n '__fish_seen_subcommand_from replay explore' -l assembly -d 'FILE is an assembly text'
 complete -c mesamon -n '__fish_seen_subcommand_from replay explore' -l image -d 'FILE is an image'
 complete -c mesamon -n '__fish_seen_subcommand_from explore' -l schedule -r -F -d 'Beside --assembly or --image, where a schedule of what is found is written'

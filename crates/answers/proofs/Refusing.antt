@@ -4,14 +4,16 @@ use Rattle.std.specs.Prelude.{IsErr, IsErrAnd}
 use Rattle.scanner.specs.Refusals.{out_of_memory}
 use Rattle.scanner.specs.declared.refusal.Refusal.{Refusal}
 use Rattle.scanner.specs.declared.refusal.RefusalKind.TheVariants as kind
+use Rattle.isa.specs.Programs.{Program as Image}
+use Rattle.machine.specs.declared.event.Entry.{Entry}
 use Rattle.runner.specs.Logs.{Outside}
 use Rattle.runner.specs.declared.schedule.Turn.{Turn}
 use Rattle.compiler.specs.Accepts.{RefusesText}
 use Rattle.answers.specs.Explaining.{IsRefusedExplanation}
-use Rattle.answers.specs.Failures.{IsRefusalBy, OfExplain, OfRefusal, OfReplay, OfRun, OfSourceLog}
+use Rattle.answers.specs.Failures.{IsLeftBy, IsRefusalBy, OfExplain, OfRefusal, OfReplay, OfRun, OfSourceLog}
 use Rattle.answers.specs.Replaying.{IsRefusedReplay}
 use Rattle.answers.specs.Running.{IsRefusedRun}
-use Rattle.answers.specs.SourceLog.{IsRefusedLog, IsUnfollowedLog}
+use Rattle.answers.specs.SourceLog.{FollowsNot, IsRefusedLog, IsUnfollowedLog, ReadsNot}
 use Rattle.answers.specs.declared.explained_run.ExplainSourceFault.{ExplainSourceFault}
 use Rattle.answers.specs.declared.explained_run.ExplainSourceFault.TheVariants as explain
 use Rattle.answers.specs.declared.failure.Failure.{Failure}
@@ -76,3 +78,24 @@ log_not_followed text lines most (log.Line number) n known gives = fails (Refuse
 log_not_followed text lines most (log.Steps count) n known gives = fails (RefusesText text) n _ gives
 log_not_followed text lines most (log.Entry number) n known gives = fails (RefusesText text) n _ gives
 log_not_followed text lines most log.Memory n known gives = fails (RefusesText text) n _ gives
+
+-- a failure is no refusal of either kind
+fails_so : (n : NoAnswer) (f : Failure) → n ≡ Failed f → IsLeftBy (λ e. ⊥) (λ e. ⊥) n
+fails_so n f e = subst (IsLeftBy (λ e. ⊥) (λ e. ⊥)) (sym e) tt
+
+-- nor are lines that are no log's, or a log that an image can't follow
+pub not_read : (lines : List ℕ) (most : ℕ) (fault : SourceLogFault) (n : NoAnswer) → ReadsNot lines most fault
+    → OfSourceLog fault n → IsLeftBy (λ e. ⊥) (λ e. ⊥) n
+not_read lines most (log.Refused e) n known gives = absurd known
+not_read lines most (log.Line number) n known gives = fails_so n _ gives
+not_read lines most (log.Steps count) n known gives = fails_so n _ gives
+not_read lines most (log.Entry number) n known gives = fails_so n _ gives
+not_read lines most log.Memory n known gives = fails_so n _ gives
+
+pub not_taken : (image : Image) (entries : List Entry) (fault : SourceLogFault) (n : NoAnswer) → FollowsNot image entries fault
+    → OfSourceLog fault n → IsLeftBy (λ e. ⊥) (λ e. ⊥) n
+not_taken image entries (log.Refused e) n known gives = absurd known
+not_taken image entries (log.Line number) n known gives = fails_so n _ gives
+not_taken image entries (log.Steps count) n known gives = fails_so n _ gives
+not_taken image entries (log.Entry number) n known gives = fails_so n _ gives
+not_taken image entries log.Memory n known gives = fails_so n _ gives

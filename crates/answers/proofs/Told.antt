@@ -1,6 +1,7 @@
 -- What is told of a job, by what is told of what it made.
 use Rattle.std.proofs.Common.{◌≡◌, ◌⊎◌, ◌∙◌, ℕ, List, Option, None, Result, Ok, Err, IfOk, IfErr, inl, inr, ap, sym, subst}
 use Rattle.assembler.specs.declared.refusal.AssemblyRefusal.{AssemblyRefusal}
+use Rattle.isa.specs.Programs.{Program as Image}
 use Rattle.scanner.specs.declared.refusal.Refusal.{Refusal}
 use Rattle.commandline.specs.declared.options.ExplainedBy.{ExplainedBy}
 use Rattle.commandline.specs.declared.options.ReplayedBy.{ReplayedBy}
@@ -8,6 +9,7 @@ use Rattle.runner.specs.declared.report.Report.{Report}
 use Rattle.answers.specs.Answers.{ArePuts, Put, name_of, put_of}
 use Rattle.answers.specs.Asked.{IsExplainedAs, IsReplayedAs}
 use Rattle.answers.specs.Failures.{HasNoMemory, IsLeftBy, IsRefusalBy}
+use Rattle.answers.specs.Images.{IsFollowedAs}
 use Rattle.answers.specs.declared.answer.OutFile.{OutFile}
 use Rattle.answers.specs.declared.answer.OutFiles.{OutFiles}
 use Rattle.answers.specs.declared.explained_run.ExplainedRun.{ExplainedRun}
@@ -63,15 +65,21 @@ no_memory_left (Err n) P U h = memory_leaves P U n h
 
 -- the file that is made alone is this one
 pub are_puts : (made files : OutFiles) (out : Option OutFile) (put : Option Put) → files ≡ made → made.out ≡ out
-    → made.timeline ≡ None → made.page ≡ None → put_of out ≡ put → ArePuts put files
-are_puts made files out put is has none no_page same =
-    subst (ArePuts put) (sym is) (ap put_of has ∙ same, ap name_of none, ap name_of no_page)
+    → made.timeline ≡ None → made.page ≡ None → made.schedule ≡ None → put_of out ≡ put → ArePuts put files
+are_puts made files out put is has none no_page no_schedule same =
+    subst (ArePuts put) (sym is) (ap put_of has ∙ same, ap name_of none, ap name_of no_page, ap name_of no_schedule)
 
 -- a run again, by what is named
 pub replayed_as : {E : Type 0} (r : Result Report E) (by same : ReplayedBy) (second text : List ℕ) → by ≡ same
     → IfOk r (IsReplayedAs same second text) → IfOk r (IsReplayedAs by second text)
 replayed_as r by same second text is h =
     subst (λ (b : ReplayedBy). IfOk r (IsReplayedAs b second text)) (sym is) h
+
+-- the same of an image
+pub followed_as : {E : Type 0} (r : Result Report E) (by same : ReplayedBy) (image : Image) (second : List ℕ) → by ≡ same
+    → IfOk r (IsFollowedAs same image second) → IfOk r (IsFollowedAs by image second)
+followed_as r by same image second is h =
+    subst (λ (b : ReplayedBy). IfOk r (IsFollowedAs b image second)) (sym is) h
 
 -- a run that is explained, by what is named
 pub explained_as : {E : Type 0} (r : Result ExplainedRun E) (by same : ExplainedBy) (second text : List ℕ) → by ≡ same

@@ -16,6 +16,7 @@ use Rattle.actionlines.specs.Lines.{line}
 use Rattle.backend.specs.Refusals.{CodeFits}
 use Rattle.commandline.specs.declared.options.ChartOptions.{ChartOptions}
 use Rattle.commandline.specs.declared.options.ExplainedBy.{ExplainedBy}
+use Rattle.commandline.specs.declared.options.ImageForm.{ImageForm}
 use Rattle.commandline.specs.declared.options.RunOptions.{RunOptions}
 use Rattle.compiler.specs.Accepts.{AcceptsText, RefusesTextAs}
 use Rattle.compiler.specs.Compiles.{IsCompiledAs}
@@ -26,6 +27,7 @@ use Rattle.answers.specs.Answers.{AreDrawn, ArePuts, AreTold, TellsAlone, TellsR
 use Rattle.answers.specs.Answers.{status_of_verdict}
 use Rattle.answers.specs.Asked.{IsExplainedAs, outside_by}
 use Rattle.answers.specs.ImageLine.{image_line}
+use Rattle.answers.specs.Images.{IsImageOf}
 
 -- the text was checked, and it was told that it is a program
 pub record HasChecked (text : List ℕ) (a : Answer) : Type 0 where
@@ -85,11 +87,10 @@ pub record RunsImage (options : RunOptions) (image : Program) (a : Answer) : Typ
   pub run : IsReport image (outside_by options.order) options.steps report
   pub tells : TellsReport report options.trace options.log None a
 
--- the bytes spell an image that was run so
-pub record HasExecuted (options : RunOptions) (bytes : List ℕ) (a : Answer) : Type 0 where
+-- the image in a file of this form was run so
+pub record HasExecuted (form : ImageForm) (options : RunOptions) (bytes : List ℕ) (a : Answer) : Type 0 where
   pub image : Program
-  pub spelled : IsSpelled image
-  pub is : spelling image ≡ bytes
+  pub is : IsImageOf form bytes image
   pub runs : RunsImage options image a
 
 -- the lines of the actions of an explained run, by the names of its program

@@ -20,8 +20,11 @@ use Rattle.refinement.specs.Seen.{machine_end}
 use Rattle.image_ends.specs.Ending.{AllOver, IsSearched}
 use Rattle.source_states.specs.declared.action.Action.{Action}
 use Rattle.source_states.specs.Actions.{action_of}
+use Rattle.source_search.specs.Blocking.{IsTold}
 use Rattle.source_search.specs.Bounds.{HasSearched}
 use Rattle.source_search.specs.Found.{HasFailed, IsCounted, LeadsNowhere, LeadsTo}
+use Rattle.source_search.specs.declared.blocking.Blocked.{Blocked}
+use Rattle.source_search.specs.declared.blocking.Blocked.TheVariants.{Found as FoundBlocked, Never, NotLookedFor, NotTold}
 use Rattle.source_search.specs.declared.outside.Outside.{Outside}
 use Rattle.source_search.specs.declared.runs.Exploration.{Exploration}
 use Rattle.actionlines.specs.Lines.{line}
@@ -36,12 +39,14 @@ use Rattle.answers.specs.declared.status.Status.{Status}
 use Rattle.answers.specs.declared.status.Status.TheVariants.{Done, Stuck, Limit, Found}
 
 -- what was found of a program, with as much from outside as may be, keeping so many states at most: runs with such an end;
--- where the search was complete and found none, there is none; and it was complete unless it met the bound that it names
+-- where the search was complete and found none, there is none; what is told of processes that are blocked for good is so;
+-- and it was complete unless it met the bound that it names
 pub record IsFoundOf (p : Program) (may : Outside) (most : ℕ) (e : Exploration) : Type 0 where
   pub stuck : IfSome e.stuck (λ v. LeadsTo p may (IsStuck p) v.items)
   pub aborted : IfSome e.aborted (λ v. LeadsTo p may (HasFailed may) v.items)
   pub never_stuck : e.complete ≡ true → e.stuck ≡ None → LeadsNowhere p may (IsStuck p)
   pub never_aborted : e.complete ≡ true → e.aborted ≡ None → LeadsNowhere p may (HasFailed may)
+  pub blocked : IsTold p may e.complete e.blocked
   pub searched : HasSearched p may most e
 
 -- of each run of the program's image, under whatever schedule, of fewer than 2^32 steps, in which no more are killed than
@@ -85,11 +90,27 @@ abbrev pub none_aborts : Outside → List ℕ
 none_aborts may =
     if nat_lt 0 may.kills then codes "no process aborts but by a kill\n" else codes "no process aborts\n"
 
+-- the line of processes that are blocked for good
+abbrev pub process_word : ℕ → List ℕ
+process_word q = codes " " ++ decimal q
+
+abbrev pub blocked_line : List ℕ → List ℕ
+blocked_line processes = codes "blocked for good:" ++ (flat_map process_word processes ++ codes "\n")
+
+-- that line and those of a run at whose end they are; or that there are none; or nothing, where it isn't told
+abbrev pub blocked_lines : Naming → Blocked → List ℕ
+blocked_lines names (FoundBlocked processes run) =
+    blocked_line processes.items ++ flat_map (line names) (map action_of run.items)
+blocked_lines names Never = codes "no process is blocked for good\n"
+blocked_lines names NotLookedFor = []
+blocked_lines names NotTold = []
+
 -- all that is told
 abbrev pub explored_lines : Outside → ExploredText → List ℕ
 explored_lines may r =
     let e = r.exploration in
-    (states_line e.states e.complete ++ end_lines r.checked.names (codes "stuck\n") (codes "no run is stuck\n") e.complete e.stuck)
+    ((states_line e.states e.complete ++ end_lines r.checked.names (codes "stuck\n") (codes "no run is stuck\n") e.complete e.stuck)
+    ++ blocked_lines r.checked.names e.blocked)
     ++ end_lines r.checked.names (codes "aborted\n") (none_aborts may) e.complete e.aborted
 
 -- how the search ended, by whether a run gets stuck, whether one fails otherwise, and whether all were seen
@@ -99,16 +120,23 @@ found_status false true complete = Found
 found_status false false true = Done
 found_status false false false = Limit
 
--- whether a run fails in which nobody gets stuck
+-- whether a run was found at whose end some are blocked for good
+abbrev pub is_blocked : Blocked → Bool
+is_blocked (FoundBlocked processes run) = true
+is_blocked Never = false
+is_blocked NotLookedFor = false
+is_blocked NotTold = false
+
+-- whether a run was found that fails otherwise than by getting stuck
 abbrev pub is_failed : Exploration → Bool
-is_failed e = is_some e.aborted
+is_failed e = is_blocked e.blocked || is_some e.aborted
 
 abbrev pub explored_status : Exploration → Status
 explored_status e = found_status (is_some e.stuck) (is_failed e) e.complete
 
 -- whether a run was found
 abbrev pub is_found : Exploration → Bool
-is_found e = is_some e.stuck || is_some e.aborted
+is_found e = is_some e.stuck || is_failed e
 
 -- the run that was found is drawn, timed and shown on a page, to the files of these names; where none was, no file is
 -- written

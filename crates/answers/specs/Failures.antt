@@ -93,7 +93,3 @@ IsLeftBy Refuses Unassembles (Failed f) = Unit {0}
 -- it is want of memory
 abbrev pub HasNoMemory : NoAnswer → Type 0
 HasNoMemory n = n ≡ Failed Memory
-
--- it is no refusal
-abbrev pub IsNoRefusal : NoAnswer → Type 0
-IsNoRefusal n = IsRefusalBy (λ e. ⊥) n

@@ -1,6 +1,6 @@
--- What is done of an image: it is run by a schedule, or all its schedules are searched.
+-- What is done of an image: it is run by a schedule or a log, or all its schedules are searched.
 use Rattle.std.proofs.Common.{Bor}
-use Rattle.std.specs.Prelude.{ℕ, ◌≡◌, ◌++◌, Bool, true, false, List, [], Option, Some, None, codes, if◌then◌else◌, nat_lt, ⊤}
+use Rattle.std.specs.Prelude.{ℕ, ◌≡◌, ◌≤◌, ◌++◌, Bool, true, false, List, [], Option, Some, None, codes, if◌then◌else◌, nat_lt, ⊤}
 use Rattle.std.specs.Fmt.{decimal}
 use Rattle.std.specs.List.{flat_map}
 use Rattle.isa.specs.Programs.{Program}
@@ -9,21 +9,33 @@ use Rattle.assembler.specs.Listings.{IsAssembled, RefusesText}
 use Rattle.assembler.specs.declared.refusal.AssemblyRefusal.{AssemblyRefusal}
 use Rattle.commandline.specs.declared.options.ImageForm.{ImageForm}
 use Rattle.commandline.specs.declared.options.ImageForm.TheVariants as form
+use Rattle.commandline.specs.declared.options.ReplayedBy.{ReplayedBy}
+use Rattle.commandline.specs.declared.options.SearchFiles.{SearchFiles}
+use Rattle.commandline.specs.declared.options.ReplayedBy.TheVariants.{Schedule as BySchedule, Log as ByLog}
 use Rattle.image_search.specs.Ends.{HasSearched as IsSearchOf}
 use Rattle.image_search.specs.Never.{NeverBreaks, NeverFails, NeverStuck}
+use Rattle.image_search.specs.Sleeping.{HasSlept}
 use Rattle.image_search.specs.declared.ending.Ending.{Ending}
 use Rattle.image_search.specs.declared.ending.Ending.TheVariants as ending
 use Rattle.image_search.specs.declared.ending.ImageExploration.{ImageExploration}
+use Rattle.image_search.specs.declared.ending.Sleeping.{Sleeping}
+use Rattle.image_search.specs.declared.ending.Sleeping.TheVariants.{Unsought, Never, ForGood, Unknown}
 use Rattle.image_states.specs.Nexts.{may_of}
 use Rattle.image_states.specs.declared.outside.Outside.{Outside}
+use Rattle.log_text.specs.Spelled.{IsLogText}
+use Rattle.machine.specs.declared.event.Entry.{Entry}
+use Rattle.runner.specs.LogSchedules.{IsFollowedLog}
+use Rattle.runner.specs.Logs.{cost}
 use Rattle.runner.specs.Schedules.{IsFollowed}
 use Rattle.runner.specs.declared.report.Report.{Report}
 use Rattle.runner.specs.declared.schedule.Turn.{Turn}
 use Rattle.runner.specs.declared.schedule.Turn.TheVariants as turn
-use Rattle.answers.specs.Answers.{ArePuts, Put, TellsReport}
+use Rattle.answers.specs.Answers.{Put, TellsReport, name_of, put_of}
+use Rattle.answers.specs.Asked.{log_beside}
 use Rattle.answers.specs.Exploring.{states_line}
 use Rattle.answers.specs.Turns.{turns_in}
 use Rattle.answers.specs.declared.answer.Answer.{Answer}
+use Rattle.answers.specs.declared.answer.OutFiles.{OutFiles}
 use Rattle.answers.specs.declared.status.Status.{Status}
 use Rattle.answers.specs.declared.status.Status.TheVariants.{Done, Stuck, Limit, Found}
 
@@ -37,29 +49,44 @@ abbrev pub UnassemblesAs : ImageForm → List ℕ → AssemblyRefusal → Type 0
 UnassemblesAs form.Assembly text e = RefusesText text e
 UnassemblesAs form.Image bytes e = ⊥
 
--- the image was run by the schedule of these bytes, and that was told and logged
-pub record FollowsImage (image : Program) (trace : Bool) (log : Option (Bor (List ℕ))) (second : List ℕ) (a : Answer)
-    : Type 0
-  where
-    pub report : Report
-    pub followed : IsFollowed image (turns_in second) report
-    pub tells : TellsReport report trace log None a
+-- the report of the image, run by the threads and counts of the log of at most so many steps that the lines are
+pub record IsFollowedByLines (image : Program) (lines : List ℕ) (most : ℕ) (report : Report) : Type 0 where
+  pub entries : List Entry
+  pub reads : IsLogText lines entries
+  pub few : cost entries ≤ most
+  pub followed : IsFollowedLog image entries report
+
+-- the run of the image, by what is named, with these bytes
+abbrev pub IsFollowedAs : ReplayedBy → Program → (second : List ℕ) → Report → Type 0
+IsFollowedAs (BySchedule name log) image second r = IsFollowed image (turns_in second) r
+IsFollowedAs (ByLog name steps) image second r = IsFollowedByLines image second steps r
+
+-- the image was run so, and that was told and logged
+pub record FollowsImage (image : Program) (by : ReplayedBy) (trace : Bool) (second : List ℕ) (a : Answer) : Type 0 where
+  pub report : Report
+  pub followed : IsFollowedAs by image second report
+  pub tells : TellsReport report trace (log_beside by) None a
 
 -- the same of the image in a file
-pub record HasFollowed (form : ImageForm) (trace : Bool) (log : Option (Bor (List ℕ))) (bytes second : List ℕ) (a : Answer)
-    : Type 0
-  where
-    pub image : Program
-    pub is : IsImageOf form bytes image
-    pub follows : FollowsImage image trace log second a
+pub record HasFollowed (form : ImageForm) (by : ReplayedBy) (trace : Bool) (bytes second : List ℕ) (a : Answer) : Type 0 where
+  pub image : Program
+  pub is : IsImageOf form bytes image
+  pub follows : FollowsImage image by trace second a
+
+-- how a complete search ended
+abbrev pub sleeping_status : Sleeping → Status
+sleeping_status Unsought = Done
+sleeping_status Never = Done
+sleeping_status (ForGood turns threads) = Found
+sleeping_status (Unknown why) = Done
 
 -- how a search ended
-abbrev pub search_status : Ending → Status
-search_status ending.Complete = Done
-search_status (ending.Stuck turns) = Stuck
-search_status (ending.Failed turns) = Found
-search_status (ending.Broken turns) = Found
-search_status (ending.Bounded bound) = Limit
+abbrev pub search_status : Sleeping → Ending → Status
+search_status sleeping ending.Complete = sleeping_status sleeping
+search_status sleeping (ending.Stuck turns) = Stuck
+search_status sleeping (ending.Failed turns) = Found
+search_status sleeping (ending.Broken turns) = Found
+search_status sleeping (ending.Bounded bound) = Limit
 
 -- the line of a complete search in which no thread fails
 abbrev pub none_fails : Outside → List ℕ
@@ -74,16 +101,41 @@ is_whole (ending.Failed turns) = true
 is_whole (ending.Broken turns) = true
 is_whole (ending.Bounded bound) = false
 
+-- the line of a complete search in which no thread sleeps for good, where that is known
+abbrev pub none_sleeps : Sleeping → List ℕ
+none_sleeps Unsought = []
+none_sleeps Never = codes "no thread sleeps for good\n"
+none_sleeps (ForGood turns threads) = []
+none_sleeps (Unknown why) = []
+
+-- the line of threads that sleep for good
+abbrev pub thread_word : ℕ → List ℕ
+thread_word t = codes " " ++ decimal t
+
+abbrev pub sleepers_line : List ℕ → List ℕ
+sleepers_line threads = codes "sleeps for good:" ++ (flat_map thread_word threads ++ codes "\n")
+
+abbrev pub sleeping_lines : Sleeping → List ℕ
+sleeping_lines Unsought = []
+sleeping_lines Never = []
+sleeping_lines (ForGood turns threads) = sleepers_line threads.items
+sleeping_lines (Unknown why) = []
+
+-- what a complete search tells of threads that sleep for good, and of steps that may not be
+abbrev pub later_lines : Sleeping → List ℕ
+later_lines sleeping = none_sleeps sleeping ++ (codes "no step is broken\n" ++ sleeping_lines sleeping)
+
 -- what is told behind the line of how many states were kept
-abbrev pub ending_lines : Outside → Ending → List ℕ
-ending_lines may ending.Complete = codes "no schedule is stuck\n" ++ (none_fails may ++ codes "no step is broken\n")
-ending_lines may (ending.Stuck turns) = codes "stuck\n"
-ending_lines may (ending.Failed turns) = codes "failed\n"
-ending_lines may (ending.Broken turns) = codes "broken\n"
-ending_lines may (ending.Bounded bound) = []
+abbrev pub ending_lines : Outside → Sleeping → Ending → List ℕ
+ending_lines may sleeping ending.Complete =
+    codes "no schedule is stuck\n" ++ (none_fails may ++ later_lines sleeping)
+ending_lines may sleeping (ending.Stuck turns) = codes "stuck\n"
+ending_lines may sleeping (ending.Failed turns) = codes "failed\n"
+ending_lines may sleeping (ending.Broken turns) = codes "broken\n"
+ending_lines may sleeping (ending.Bounded bound) = []
 
 abbrev pub search_lines : Outside → ImageExploration → List ℕ
-search_lines may e = states_line e.states (is_whole e.ending) ++ ending_lines may e.ending
+search_lines may e = states_line e.states (is_whole e.ending) ++ ending_lines may e.sleeping e.ending
 
 -- the word of a turn, and the text of a schedule
 abbrev pub turn_line : Turn → List ℕ
@@ -99,12 +151,44 @@ abbrev pub schedule_put : Option (Bor (List ℕ)) → List Turn → Option Put
 schedule_put None turns = None
 schedule_put (Some name) turns = Some (name, schedule_text turns)
 
-abbrev pub found_put : Option (Bor (List ℕ)) → Ending → Option Put
-found_put name ending.Complete = None
-found_put name (ending.Stuck turns) = schedule_put name turns.items
-found_put name (ending.Failed turns) = schedule_put name turns.items
-found_put name (ending.Broken turns) = schedule_put name turns.items
-found_put name (ending.Bounded bound) = None
+abbrev pub sleeping_put : Option (Bor (List ℕ)) → Sleeping → Option Put
+sleeping_put name Unsought = None
+sleeping_put name Never = None
+sleeping_put name (ForGood turns threads) = schedule_put name turns.items
+sleeping_put name (Unknown why) = None
+
+abbrev pub found_put : Option (Bor (List ℕ)) → Sleeping → Ending → Option Put
+found_put name sleeping ending.Complete = sleeping_put name sleeping
+found_put name sleeping (ending.Stuck turns) = schedule_put name turns.items
+found_put name sleeping (ending.Failed turns) = schedule_put name turns.items
+found_put name sleeping (ending.Broken turns) = schedule_put name turns.items
+found_put name sleeping (ending.Bounded bound) = None
+
+-- whether a run was found
+abbrev pub finds_sleepers : Sleeping → Bool
+finds_sleepers Unsought = false
+finds_sleepers Never = false
+finds_sleepers (ForGood turns threads) = true
+finds_sleepers (Unknown why) = false
+
+abbrev pub finds_run : Sleeping → Ending → Bool
+finds_run sleeping ending.Complete = finds_sleepers sleeping
+finds_run sleeping (ending.Stuck turns) = true
+finds_run sleeping (ending.Failed turns) = true
+finds_run sleeping (ending.Broken turns) = true
+finds_run sleeping (ending.Bounded bound) = false
+
+-- the name of a file that is written where a run was found
+abbrev pub name_if : Bool → Option (Bor (List ℕ)) → Option (Bor (List ℕ))
+name_if true name = name
+name_if false name = None
+
+-- a picture and a timeline of the run that was found, and its schedule, are written to the files of these names
+abbrev pub AreShown : SearchFiles → Sleeping → Ending → OutFiles → Type 0
+AreShown wanted sleeping ending files =
+    (name_of files.out ≡ name_if (finds_run sleeping ending) wanted.chart)
+    × (name_of files.timeline ≡ name_if (finds_run sleeping ending) wanted.timeline) × (name_of files.page ≡ None)
+    × (put_of files.schedule ≡ found_put wanted.schedule sleeping ending)
 
 -- what a complete search says of all runs of the image in pieces, over any number of buckets
 abbrev pub SaysNever : Program → Outside → Ending → Type 0
@@ -118,27 +202,25 @@ SaysNever p may (ending.Bounded bound) = ⊤
 abbrev pub exit_line : Outside → List ℕ
 exit_line may = if nat_lt 0 may.kills then codes "by this machine's exit; Linux wakes less\n" else []
 
--- what was found is told: these lines, and more behind them; a schedule that leads there is written where that is wanted
-pub record TellsSearch (may : Outside) (schedule : Option (Bor (List ℕ))) (e : ImageExploration) (a : Answer) : Type 0 where
-  pub ended : a.status ≡ search_status e.ending
+-- what was found is told: these lines, and more behind them; it is shown in the files of these names
+pub record TellsSearch (may : Outside) (wanted : SearchFiles) (e : ImageExploration) (a : Answer) : Type 0 where
+  pub ended : a.status ≡ search_status e.sleeping e.ending
   pub output : (more : List ℕ) × (a.output.items ≡ search_lines may e ++ more)
   pub account : a.account.items ≡ exit_line may
-  pub files : ArePuts (found_put schedule e.ending) a.files
+  pub files : AreShown wanted e.sleeping e.ending a.files
 
 -- all schedules of the image were searched, keeping so many states at most, and that was told
-pub record SearchesImage (image : Program) (may : Outside) (most : ℕ) (schedule : Option (Bor (List ℕ))) (a : Answer)
-    : Type 0
-  where
-    pub exploration : ImageExploration
-    pub searched : IsSearchOf image (may_of may) most exploration
-    pub never : SaysNever image may exploration.ending
-    pub tells : TellsSearch may schedule exploration a
+pub record SearchesImage (image : Program) (may : Outside) (most : ℕ) (wanted : SearchFiles) (a : Answer) : Type 0 where
+  pub exploration : ImageExploration
+  pub searched : IsSearchOf image (may_of may) most exploration
+  pub never : SaysNever image may exploration.ending
+  pub slept : HasSlept image (may_of may) exploration.ending exploration.sleeping
+  pub tells : TellsSearch may wanted exploration a
 
 -- the same of the image in a file
-pub record HasSearched (form : ImageForm) (may : Outside) (most : ℕ) (schedule : Option (Bor (List ℕ))) (bytes : List ℕ)
-    (a : Answer)
+pub record HasSearched (form : ImageForm) (may : Outside) (most : ℕ) (wanted : SearchFiles) (bytes : List ℕ) (a : Answer)
     : Type 0
   where
     pub image : Program
     pub is : IsImageOf form bytes image
-    pub searches : SearchesImage image may most schedule a
+    pub searches : SearchesImage image may most wanted a

@@ -34,6 +34,8 @@ pub struct OutFiles<'a> {
     pub timeline: Option<OutFile<'a>>,
     /// That of the page.
     pub page: Option<OutFile<'a>>,
+    /// That of the schedule of what a search found.
+    pub schedule: Option<OutFile<'a>>,
 }
 
 impl<'a> OutFiles<'a> {
@@ -42,11 +44,13 @@ impl<'a> OutFiles<'a> {
         ensures out { result.out ≡ out.entry }
         ensures timeline { result.timeline ≡ None }
         ensures page { result.page ≡ None }
+        ensures schedule { result.schedule ≡ None }
     {
         OutFiles {
             out,
             timeline: None,
             page: None,
+            schedule: None,
         }
     }
 }
@@ -103,6 +107,7 @@ impl<'a> Answer<'a> {
                 out,
                 timeline: None,
                 page,
+                schedule: None,
             },
         })
     }

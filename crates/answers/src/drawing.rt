@@ -52,6 +52,7 @@ impl<'a> Drawings<'a> {
             out,
             timeline,
             page,
+            schedule: None,
         })
     }
 }

@@ -3,8 +3,10 @@ ghost use Rattle.scanner.specs.Refusals.{out_of_memory};
 ghost use Rattle.program.specs.Names.{naming_of, said_by};
 ghost use Rattle.compiler.specs.Accepts.{RefusesText};
 ghost use Rattle.answers.specs.Answers.{AreTold};
-ghost use Rattle.answers.specs.Exploring.{end_lines, explored_lines, explored_status, none_aborts, states_line};
-ghost use Rattle.answers.specs.Exploring.{AreDrawnIf, HasExplored, IsExploredText, IsFoundOf, TellsFound, is_found};
+ghost use Rattle.answers.specs.Exploring.{blocked_line, blocked_lines, end_lines, explored_lines, explored_status};
+ghost use Rattle.answers.specs.Exploring.{is_blocked, is_failed, is_found, none_aborts, process_word, states_line};
+ghost use Rattle.answers.specs.Exploring.{AreDrawnIf, HasExplored, IsExploredText, IsFoundOf, TellsFound};
+ghost use Rattle.std.specs.List.{flat_map};
 ghost use Rattle.answers.specs.Failures.{HasNoMemory, IsRefusalBy};
 
 use crate::answer::{Answer, OutFiles};
@@ -22,7 +24,7 @@ use packed_log::PackedLog;
 use program::{Checked, Names};
 use run_hints::asides_of;
 use scanner::Refusal;
-use source_search::{Exploration, Outside, Progress, explore};
+use source_search::{Blocked, Exploration, Outside, Progress, explore};
 use source_states::Action;
 use std::alloc::{AllocError, Global};
 use std::fmt::Write as _;
@@ -36,8 +38,8 @@ pub struct ExploredText<'a> {
     pub exploration: Exploration,
 }
 
-/// Searches all runs of the program of a source text, keeping at most so many states: for one that gets stuck, and for
-/// one in which a process aborts. With strays, processes that wait on a condition are also woken by nobody; with kills,
+/// Searches all runs of the program of a source text, keeping at most so many states: for one that gets stuck, for one in
+/// which a process aborts, and where nothing comes from outside for one at whose end a process is blocked for good. With strays, processes that wait on a condition are also woken by nobody; with kills,
 /// so many processes at most are killed, wherever they stand, and who was killed doesn't count as one that aborts.
 ///
 /// The search is complete unless it met a bound, which `Exploration::bound` names: as many states are kept as may be, or one
@@ -152,29 +154,63 @@ fn lines_beside(
     ensures { IfOk result (λ v. AreTold true lines.now v.items) }
 {
     let found = &explored.exploration;
+    let checked = &explored.checked;
+    let complete = found.complete;
+    let is_never = matches!(found.blocked, Blocked::Never);
     let mut tails = Vec::new(alloc);
     tails.push(String::new(alloc))?;
-    for run in [&found.stuck, &found.aborted] {
-        if run.is_some() || found.complete {
-            tails.push(String::new(alloc))?;
-        }
-        add_places(alloc, text, &explored.checked, run, &mut tails)?;
-    }
+    add_tails(
+        alloc,
+        text,
+        checked,
+        actions_of(&found.stuck),
+        complete,
+        &mut tails,
+    )?;
+    add_tails(
+        alloc,
+        text,
+        checked,
+        blocked_run(&found.blocked),
+        is_never,
+        &mut tails,
+    )?;
+    add_tails(
+        alloc,
+        text,
+        checked,
+        actions_of(&found.aborted),
+        complete,
+        &mut tails,
+    )?;
     put_beside(alloc, "", lines, tails.as_slice())
 }
 
-// Adds what stands behind each action of a run, where one was found.
-fn add_places(
+// The actions of a run, where one was found.
+fn actions_of(found: &Option<Vec<Action>>) -> Option<&[Action]> {
+    match found {
+        Some(actions) => Some(actions.as_slice()),
+        None => None,
+    }
+}
+
+// Adds what stands behind the line of one kind of end, and behind each action of its run, where one was found; where none was
+// and that is told, behind that line.
+fn add_tails(
     alloc: Global,
     text: &SourceText<'_>,
     checked: &Checked,
-    found: &Option<Vec<Action>>,
+    found: Option<&[Action]>,
+    none_is_told: bool,
     tails: &mut Vec<String>,
 ) -> Result<(), AllocError> {
+    if none_is_told || found.is_some() {
+        tails.push(String::new(alloc))?;
+    }
     let Some(actions) = found else {
         return Ok(());
     };
-    for aside in asides_of(alloc, text.file, text.bytes, checked, actions.as_slice())? {
+    for aside in asides_of(alloc, text.file, text.bytes, checked, actions)? {
         tails.push(aside)?;
     }
     Ok(())
@@ -193,8 +229,7 @@ fn drawn_found<'a>(
     let Some(actions) = shown(&explored.exploration) else {
         return Ok(OutFiles::only(None));
     };
-    let is_stuck = explored.exploration.stuck.is_some();
-    let title = title_of_found(alloc, text.file, is_stuck)?;
+    let title = title_of_found(alloc, text.file, end_of_found(&explored.exploration))?;
     let log = PackedLog::new(alloc);
     let run = ShownRun {
         file: text.file,
@@ -207,15 +242,44 @@ fn drawn_found<'a>(
     drawings.drawn(alloc, &run)
 }
 
-// The run that was found: the stuck one, where there are two.
+// The run that was found: of several the stuck one, or else the one at whose end some are blocked for good.
 fn shown(found: &Exploration) -> Option<&[Action]>
     ensures { is_some result ≡ is_found found.now }
 {
-    match (&found.stuck, &found.aborted) {
-        (Some(actions), _) => Some(actions.as_slice()),
-        (None, Some(actions)) => Some(actions.as_slice()),
-        (None, None) => None,
+    match (&found.stuck, blocked_run(&found.blocked), &found.aborted) {
+        (Some(actions), _, _) => Some(actions.as_slice()),
+        (None, Some(actions), _) => Some(actions),
+        (None, None, Some(actions)) => Some(actions.as_slice()),
+        (None, None, None) => None,
     }
+}
+
+// How that run ends.
+fn end_of_found(found: &Exploration) -> &'static str {
+    if found.stuck.is_some() {
+        "stuck"
+    } else if blocked_run(&found.blocked).is_some() {
+        "blocked for good"
+    } else {
+        "a process aborts"
+    }
+}
+
+// The run at whose end some are blocked for good, where one was found.
+fn blocked_run(blocked: &Blocked) -> Option<&[Action]>
+    ensures { is_some result ≡ is_blocked blocked.now }
+{
+    match blocked {
+        Blocked::Found { run, .. } => Some(run.as_slice()),
+        Blocked::Never | Blocked::NotLookedFor | Blocked::NotTold => None,
+    }
+}
+
+// Whether a run was found that fails otherwise than by getting stuck.
+fn is_failed(found: &Exploration) -> bool
+    ensures { result ≡ is_failed found.now }
+{
+    blocked_run(&found.blocked).is_some() || found.aborted.is_some()
 }
 
 // How a search ended.
@@ -224,7 +288,7 @@ fn status_of_found(found: &Exploration) -> Status
 {
     if found.stuck.is_some() {
         Status::Stuck
-    } else if found.aborted.is_some() {
+    } else if is_failed(found) {
         Status::Found
     } else if found.complete {
         Status::Done
@@ -254,6 +318,7 @@ fn lines_of(
         complete,
         &found.stuck,
     )?;
+    append_blocked(alloc, &mut lines, names, &found.blocked)?;
     append_end(
         alloc,
         &mut lines,
@@ -324,4 +389,48 @@ fn append_end(
         None if complete => lines.extend_from_slice(none.as_bytes()),
         None => Ok(()),
     }
+}
+
+// Appends what is told of processes that are blocked for good.
+fn append_blocked(
+    alloc: Global,
+    lines: &mut Vec<u8>,
+    names: &Names,
+    blocked: &Blocked,
+) -> Result<(), AllocError>
+    ensures { OnOk result (lines.new.items
+        ≡ lines.old.items ++ blocked_lines (naming_of names.now) blocked.now) }
+{
+    match blocked {
+        Blocked::Found { processes, run } => {
+            lines.extend_from_slice(line_of_blocked(alloc, processes.as_slice())?.as_slice())?;
+            let told = action_lines(alloc, names, run.as_slice())?;
+            lines.extend_from_slice(told.as_slice())
+        }
+        Blocked::Never => lines.extend_from_slice("no process is blocked for good\n".as_bytes()),
+        Blocked::NotLookedFor => Ok(()),
+        Blocked::NotTold => Ok(()),
+    }
+}
+
+// The line of processes that are blocked for good.
+fn line_of_blocked(alloc: Global, processes: &[u64]) -> Result<Vec<u8>, AllocError>
+    ensures { IfOk result (λ v. v.items ≡ blocked_line processes.now) }
+{
+    let mut line = String::new(alloc);
+    line.push_str("blocked for good:")?;
+    append_processes(&mut line, processes)?;
+    line.push_str("\n")?;
+    Ok(line.into_bytes())
+}
+
+// Appends the numbers of processes.
+fn append_processes(line: &mut String, processes: &[u64]) -> Result<(), AllocError>
+    ensures { OnOk result (string_bytes line.new
+        ≡ string_bytes line.old ++ flat_map process_word processes.now) }
+{
+    for process in processes {
+        write!(line, " {process}")?;
+    }
+    Ok(())
 }

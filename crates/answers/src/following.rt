@@ -1,6 +1,7 @@
 ghost use Rattle.std.specs.Prelude.{◌≡◌, IfOk, IfErr};
 ghost use Rattle.answers.specs.Failures.{IsLeftBy};
-ghost use Rattle.answers.specs.Images.{FollowsImage, HasFollowed, IsImageOf, UnassemblesAs};
+ghost use Rattle.answers.specs.Images.{FollowsImage, HasFollowed, IsFollowedAs, IsFollowedByLines};
+ghost use Rattle.answers.specs.Images.{IsImageOf, UnassemblesAs};
 ghost use Rattle.answers.specs.Turns.{turns_in};
 ghost use Rattle.runner.specs.Schedules.{IsFollowed};
 
@@ -8,27 +9,30 @@ use crate::answer::Answer;
 use crate::failure::{Failure, NoAnswer};
 use crate::hinting::SourceText;
 use crate::images::image_of;
+use crate::log_limits::log_bytes;
+use crate::running::log_beside;
 use crate::schedule::schedule_of;
+use crate::source_log::{entries_of, follow_entries};
 use assembler::{Assembled, assemble};
-use commandline::ImageForm;
+use commandline::{ImageForm, ReplayedBy};
 use isa::Image;
 use runner::{Report, ScheduleFault, follow};
 use std::alloc::Global;
 
-/// Runs an image by a schedule, of which `second` has the bytes.
+/// Runs an image by a schedule or a log, of which `second` has the bytes.
 pub fn answer_follow<'a>(
     alloc: Global,
     text: &SourceText<'_>,
     second: &[u8],
     form: ImageForm,
+    by: ReplayedBy<'a>,
     trace: bool,
-    log: Option<&'a str>,
 ) -> Result<Answer<'a>, NoAnswer<'a>>
-    ensures done { IfOk result (HasFollowed form trace log.entry text.now.bytes.now second.now) }
+    ensures done { IfOk result (HasFollowed form by.entry trace text.now.bytes.now second.now) }
     ensures refused { IfErr result (IsLeftBy (λ e. ⊥) (UnassemblesAs form text.now.bytes.now)) }
 {
     let formed = formed_image(alloc, text.bytes, form)?;
-    follow_image(alloc, &formed.image, second, trace, log)
+    follow_image(alloc, &formed.image, second, by, trace)
 }
 
 /// The image that these bytes are, in this form, and where it stands in its text, if it has one.
@@ -57,22 +61,57 @@ fn without_text<'t>(alloc: Global, image: Image) -> Assembled<'t>
     }
 }
 
-// Runs an image by the schedule that these bytes are, and tells that.
+// Runs an image by the schedule or the log that these bytes are, and tells that.
 fn follow_image<'a>(
     alloc: Global,
     image: &Image,
-    schedule: &[u8],
+    second: &[u8],
+    by: ReplayedBy<'a>,
     trace: bool,
-    log: Option<&'a str>,
 ) -> Result<Answer<'a>, NoAnswer<'a>>
-    ensures done { IfOk result (FollowsImage image.now trace log.entry schedule.now) }
+    ensures done { IfOk result (FollowsImage image.now by.entry trace second.now) }
     ensures refused { IfErr result (IsLeftBy (λ e. ⊥) (λ e. ⊥)) }
 {
-    let report = followed(alloc, image, schedule)?;
+    let report = followed_by(alloc, image, second, by)?;
+    let log = log_beside(by);
     Answer::of_report(alloc, &report, trace, log, None)
 }
 
 // The report of that run.
+fn followed_by<'a>(
+    alloc: Global,
+    image: &Image,
+    second: &[u8],
+    by: ReplayedBy<'a>,
+) -> Result<Report, NoAnswer<'a>>
+    ensures report { IfOk result (IsFollowedAs by.entry image.now second.now) }
+    ensures refused { IfErr result (IsLeftBy (λ e. ⊥) (λ e. ⊥)) }
+{
+    match by {
+        ReplayedBy::Schedule { .. } => followed(alloc, image, second),
+        ReplayedBy::Log { steps, .. } => followed_by_lines(alloc, image, second, steps),
+    }
+}
+
+// That of a run by the threads and counts of the log whose lines these are, of at most so many steps.
+fn followed_by_lines<'a>(
+    alloc: Global,
+    image: &Image,
+    lines: &[u8],
+    steps: u32,
+) -> Result<Report, NoAnswer<'a>>
+    ensures report { IfOk result (IsFollowedByLines image.now lines.now steps) }
+    ensures refused { IfErr result (IsLeftBy (λ e. ⊥) (λ e. ⊥)) }
+{
+    if lines.len() > log_bytes(steps) {
+        return Err(NoAnswer::Failed(Failure::LogBytes(log_bytes(steps))));
+    }
+    let entries = entries_of(alloc, lines, steps)?;
+    let report = follow_entries(alloc, image, entries.iter())?;
+    Ok(report)
+}
+
+// That of a run by the schedule that these bytes are.
 fn followed<'a>(alloc: Global, image: &Image, schedule: &[u8]) -> Result<Report, NoAnswer<'a>>
     ensures report { IfOk result (IsFollowed image.now (turns_in schedule.now)) }
     ensures refused { IfErr result (IsLeftBy (λ e. ⊥) (λ e. ⊥)) }

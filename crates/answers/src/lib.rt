@@ -22,6 +22,7 @@ mod run_entries;
 mod running;
 mod schedule;
 mod searching;
+mod showing;
 mod source_log;
 mod source_run;
 mod status;

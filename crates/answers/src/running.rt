@@ -3,7 +3,8 @@ ghost use Rattle.compiler.specs.Accepts.{RefusesText};
 ghost use Rattle.runner.specs.Reports.{IsReport};
 ghost use Rattle.answers.specs.Asked.{IsReplayedAs, IsRunAs, log_beside, outside_by};
 ghost use Rattle.answers.specs.Done.{HasExecuted, HasRun, RunsImage};
-ghost use Rattle.answers.specs.Failures.{IsNoRefusal, IsRefusalBy};
+ghost use Rattle.answers.specs.Failures.{IsLeftBy, IsRefusalBy};
+ghost use Rattle.answers.specs.Images.{UnassemblesAs};
 ghost use Rattle.answers.specs.Replaying.{IsReplayOfText};
 ghost use Rattle.answers.specs.Running.{IsRefusedRun, IsRunOfText};
 ghost use Rattle.answers.specs.LogLimits.{HasFewSteps};
@@ -12,8 +13,8 @@ ghost use Rattle.answers.specs.Turns.{turns_in};
 
 use crate::answer::Answer;
 use crate::failure::{Failure, NoAnswer};
+use crate::following::formed_image;
 use crate::hinting::SourceText;
-use crate::images::image_of;
 use crate::log_limits::log_bytes;
 use crate::paging::{Kept, report_answer};
 use crate::replaying::replay;
@@ -21,7 +22,7 @@ use crate::schedule::schedule_of;
 use crate::source_log::replay_log_text;
 use crate::source_run::{RunSourceFault, run_by_seed, run_in_order, run_source};
 use crate::telling::{tell_run, told_entry, told_turn};
-use commandline::{Order, ReplayedBy, RunOptions};
+use commandline::{ImageForm, Order, ReplayedBy, RunOptions};
 use isa::Image;
 use run_hints::Way;
 use runner::{Report, RunFault};
@@ -92,17 +93,18 @@ fn run_by<R: AllocGlobal + Threads + Wait + Sync>(
     }
 }
 
-/// Runs the image that these bytes spell.
+/// Runs the image that these bytes are, in this form.
 pub fn answer_exec<'a, R: AllocGlobal + Threads + Wait + Sync>(
     rt: &R,
     bytes: &[u8],
+    form: ImageForm,
     options: RunOptions<'a>,
 ) -> Result<Answer<'a>, NoAnswer<'a>>
-    ensures done { IfOk result (HasExecuted options.entry bytes.now) }
-    ensures refused { IfErr result IsNoRefusal }
+    ensures done { IfOk result (HasExecuted form options.entry bytes.now) }
+    ensures refused { IfErr result (IsLeftBy (λ e. ⊥) (UnassemblesAs form bytes.now)) }
 {
-    let image = image_of(rt.alloc(), bytes)?;
-    exec_image(rt, &image, options)
+    let formed = formed_image(rt.alloc(), bytes, form)?;
+    exec_image(rt, &formed.image, options)
 }
 
 // Runs an image, and tells that.
@@ -112,7 +114,7 @@ fn exec_image<'a, R: AllocGlobal + Threads + Wait + Sync>(
     options: RunOptions<'a>,
 ) -> Result<Answer<'a>, NoAnswer<'a>>
     ensures done { IfOk result (RunsImage options.entry image.now) }
-    ensures refused { IfErr result IsNoRefusal }
+    ensures refused { IfErr result (IsLeftBy (λ e. ⊥) (λ e. ⊥)) }
 {
     match run_image(rt, image, options.steps, options.order) {
         Ok(report) => Answer::of_report(rt.alloc(), &report, options.trace, options.log, None),
@@ -234,8 +236,8 @@ fn replay_log<'a>(
     }
 }
 
-// The file that the log of a replay is written to, where that is wanted.
-fn log_beside<'a>(by: ReplayedBy<'a>) -> Option<&'a str>
+/// The file that the log of a replay is written to, where that is wanted.
+pub fn log_beside<'a>(by: ReplayedBy<'a>) -> Option<&'a str>
     ensures { result ≡ log_beside by.entry }
 {
     match by {

@@ -1,21 +1,25 @@
-ghost use Rattle.std.specs.Prelude.{◌≡◌, ◌++◌, IfOk, IfErr, List, OnOk, ℕ, string_bytes};
+ghost use Rattle.std.specs.Prelude.{◌≡◌, ◌++◌, IfOk, IfErr, List, OnOk, is_some, ℕ, string_bytes};
 ghost use Rattle.answers.specs.Answers.{put_of};
 ghost use Rattle.answers.specs.Failures.{HasNoMemory, IsLeftBy};
-ghost use Rattle.answers.specs.Images.{HasSearched, SearchesImage, TellsSearch, UnassemblesAs};
-ghost use Rattle.answers.specs.Images.{ending_lines, exit_line, found_put, is_whole, none_fails};
-ghost use Rattle.answers.specs.Images.{schedule_put, schedule_text, search_lines, search_status, turn_line};
+ghost use Rattle.answers.specs.Images.{AreShown, HasSearched, SearchesImage, TellsSearch, UnassemblesAs, finds_run};
+ghost use Rattle.answers.specs.Images.{ending_lines, exit_line, found_put, is_whole, later_lines, none_fails};
+ghost use Rattle.answers.specs.Images.{none_sleeps};
+ghost use Rattle.answers.specs.Images.{schedule_put, schedule_text, search_lines, search_status, sleepers_line};
+ghost use Rattle.answers.specs.Images.{sleeping_lines, sleeping_put, sleeping_status, thread_word, turn_line};
+ghost use Rattle.std.specs.List.{flat_map};
 
 use crate::answer::{Answer, OutFile, OutFiles};
 use crate::exploring::append_states;
 use crate::failure::NoAnswer;
 use crate::following::formed_image;
 use crate::hinting::SourceText;
+use crate::showing::{found_run, picture_file, timeline_file};
 use crate::status::Status;
 use crate::telling::tell_bound;
 use assembler::Assembled;
-use commandline::ImageForm;
-use image_lines::{Origin, run_lines};
-use image_search::{Ending, ImageExploration, explore_image};
+use commandline::{ImageForm, SearchFiles};
+use image_lines::RunLines;
+use image_search::{Ending, ImageExploration, Sleeping, explore_image};
 use image_states::Outside;
 use runner::Turn;
 use source_search::Progress;
@@ -35,23 +39,24 @@ impl<P: Progress> image_search::Progress for Passed<'_, P> {
 }
 
 /// Searches all schedules of an image, with as much from outside as may be, keeping at most so many states, and tells what
-/// is found; a schedule that leads there is for the file of this name. What helps where a bound was met is appended to `told`. How far the search has come is told as it goes.
+/// is found, and shows it in the files that are wanted. What helps where a bound was met is appended to `told`. How far the
+/// search has come is told as it goes.
 pub fn answer_search<'a, P: Progress>(
     alloc: Global,
     text: &SourceText<'_>,
     form: ImageForm,
     states: u32,
     outside: Outside,
-    schedule: Option<&'a str>,
+    wanted: SearchFiles<'a>,
     told: &mut String,
     progress: &mut P,
 ) -> Result<Answer<'a>, NoAnswer<'a>>
-    ensures done { IfOk result (HasSearched form outside states schedule.entry text.now.bytes.now) }
+    ensures done { IfOk result (HasSearched form outside states wanted.entry text.now.bytes.now) }
     ensures refused { IfErr result (IsLeftBy (λ e. ⊥) (UnassemblesAs form text.now.bytes.now)) }
 {
     let formed = formed_image(alloc, text.bytes, form)?;
     search_formed(
-        alloc, text.file, &formed, states, outside, schedule, told, progress,
+        alloc, text.file, &formed, states, outside, wanted, told, progress,
     )
 }
 
@@ -62,17 +67,17 @@ fn search_formed<'a, P: Progress>(
     formed: &Assembled<'_>,
     states: u32,
     outside: Outside,
-    schedule: Option<&'a str>,
+    wanted: SearchFiles<'a>,
     told: &mut String,
     progress: &mut P,
 ) -> Result<Answer<'a>, NoAnswer<'a>>
-    ensures done { IfOk result (SearchesImage formed.now.image outside states schedule.entry) }
+    ensures done { IfOk result (SearchesImage formed.now.image outside states wanted.entry) }
     ensures failed { IfErr result HasNoMemory }
 {
     let mut passed = Passed { progress };
     let found = explore_image(alloc, &formed.image, states, outside, &mut passed)?;
-    tell_bound(told, &found.ending);
-    found_answer(alloc, file, formed, &found, outside, schedule)
+    tell_bound(told, &found);
+    found_answer(alloc, file, formed, &found, outside, wanted)
 }
 
 // Tells what was found.
@@ -82,19 +87,42 @@ fn found_answer<'a>(
     formed: &Assembled<'_>,
     found: &ImageExploration,
     outside: Outside,
-    schedule: Option<&'a str>,
+    wanted: SearchFiles<'a>,
 ) -> Result<Answer<'a>, NoAnswer<'a>>
-    ensures told { IfOk result (TellsSearch outside schedule.entry found.now) }
+    ensures told { IfOk result (TellsSearch outside wanted.entry found.now) }
     ensures failed { IfErr result HasNoMemory }
 {
-    let output = lines_of(alloc, file, formed, found, outside)?;
+    let run = found_run(alloc, file, formed, found)?;
+    let output = lines_of(alloc, &run, found, outside)?;
     let account = Vec::from_slice(alloc, exit_line(outside).as_bytes())?;
-    let out = found_file(alloc, schedule, &found.ending)?;
+    let files = found_files(alloc, file, &run, found, wanted)?;
     Ok(Answer {
-        status: status_of_search(&found.ending),
+        status: status_of_search(found),
         output,
         account,
-        files: OutFiles::only(out),
+        files,
+    })
+}
+
+// The files that show the run that was found.
+fn found_files<'a>(
+    alloc: Global,
+    file: &str,
+    run: &Option<RunLines>,
+    found: &ImageExploration,
+    wanted: SearchFiles<'a>,
+) -> Result<OutFiles<'a>, AllocError>
+    requires { is_some run.now ≡ finds_run found.now.sleeping found.now.ending }
+    ensures { IfOk result (AreShown wanted.entry found.now.sleeping found.now.ending) }
+{
+    let schedule = found_file(alloc, wanted.schedule, found)?;
+    let out = picture_file(alloc, file, run, &found.ending, wanted.chart)?;
+    let timeline = timeline_file(alloc, run, wanted.timeline)?;
+    Ok(OutFiles {
+        out,
+        timeline,
+        page: None,
+        schedule,
     })
 }
 
@@ -109,12 +137,22 @@ fn exit_line(outside: Outside) -> &'static str
     }
 }
 
-// How a search ended.
-fn status_of_search(ending: &Ending) -> Status
-    ensures { result ≡ search_status ending.now }
+// How a complete search ended.
+fn status_of_sleeping(sleeping: &Sleeping) -> Status
+    ensures { result ≡ sleeping_status sleeping.now }
 {
-    match ending {
-        Ending::Complete => Status::Done,
+    match sleeping {
+        Sleeping::ForGood { .. } => Status::Found,
+        Sleeping::Unsought | Sleeping::Never | Sleeping::Unknown(_) => Status::Done,
+    }
+}
+
+// How a search ended.
+fn status_of_search(found: &ImageExploration) -> Status
+    ensures { result ≡ search_status found.now.sleeping found.now.ending }
+{
+    match &found.ending {
+        Ending::Complete => status_of_sleeping(&found.sleeping),
         Ending::Stuck(_) => Status::Stuck,
         Ending::Failed(_) | Ending::Broken(_) => Status::Found,
         Ending::Bounded(_) => Status::Limit,
@@ -124,45 +162,22 @@ fn status_of_search(ending: &Ending) -> Status
 // What is told: how the search ended, and behind that the run that was found.
 fn lines_of(
     alloc: Global,
-    file: &str,
-    formed: &Assembled<'_>,
+    run: &Option<RunLines>,
     found: &ImageExploration,
     outside: Outside,
 ) -> Result<Vec<u8>, AllocError>
     ensures { IfOk result (λ v. (more : List ℕ) × (v.items ≡ search_lines outside found.now ++ more)) }
 {
     let mut lines = first_lines(alloc, found, outside)?;
-    let more = found_lines(alloc, file, formed, found)?;
-    lines.extend_from_slice(more.as_slice())?;
+    lines.extend_from_slice(text_of(run))?;
     Ok(lines)
 }
 
-// The lines of the run that was found, and who sleeps at its end.
-fn found_lines(
-    alloc: Global,
-    file: &str,
-    formed: &Assembled<'_>,
-    found: &ImageExploration,
-) -> Result<Vec<u8>, AllocError> {
-    let Some(turns) = turns_of(&found.ending) else {
-        return Ok(Vec::new(alloc));
-    };
-    let origin = Origin {
-        file,
-        lines: formed.lines.as_slice(),
-        names: formed.names.as_slice(),
-    };
-    let lines = run_lines(alloc, &formed.image, turns, &origin)?;
-    Ok(lines.into_bytes())
-}
-
-// The schedule of what was found.
-fn turns_of(ending: &Ending) -> Option<&[Turn]> {
-    match ending {
-        Ending::Stuck(turns) | Ending::Failed(turns) | Ending::Broken(turns) => {
-            Some(turns.as_slice())
-        }
-        Ending::Complete | Ending::Bounded(_) => None,
+// The lines of the run that was found.
+fn text_of(run: &Option<RunLines>) -> &[u8] {
+    match run {
+        Some(run) => run.text.as_bytes(),
+        None => &[],
     }
 }
 
@@ -176,7 +191,7 @@ fn first_lines(
 {
     let mut text = String::new(alloc);
     append_states(&mut text, found.states, is_whole(&found.ending))?;
-    append_ending(&mut text, &found.ending, outside)?;
+    append_ending(&mut text, found, outside)?;
     Ok(text.into_bytes())
 }
 
@@ -193,12 +208,16 @@ fn is_whole(ending: &Ending) -> bool
     }
 }
 
-fn append_ending(text: &mut String, ending: &Ending, outside: Outside) -> Result<(), AllocError>
+fn append_ending(
+    text: &mut String,
+    found: &ImageExploration,
+    outside: Outside,
+) -> Result<(), AllocError>
     ensures { OnOk result (string_bytes text.new
-        ≡ string_bytes text.old ++ ending_lines outside ending.now) }
+        ≡ string_bytes text.old ++ ending_lines outside found.now.sleeping found.now.ending) }
 {
-    match ending {
-        Ending::Complete => append_none(text, outside),
+    match &found.ending {
+        Ending::Complete => append_none(text, &found.sleeping, outside),
         Ending::Stuck(_) => text.push_str("stuck\n"),
         Ending::Failed(_) => text.push_str("failed\n"),
         Ending::Broken(_) => text.push_str("broken\n"),
@@ -206,14 +225,64 @@ fn append_ending(text: &mut String, ending: &Ending, outside: Outside) -> Result
     }
 }
 
-// What is told where nothing was found.
-fn append_none(text: &mut String, outside: Outside) -> Result<(), AllocError>
+// What is told of a complete search.
+fn append_none(text: &mut String, sleeping: &Sleeping, outside: Outside) -> Result<(), AllocError>
     ensures { OnOk result (string_bytes text.new
-        ≡ string_bytes text.old ++ ending_lines outside Ending.Complete) }
+        ≡ string_bytes text.old ++ ending_lines outside sleeping.now Ending.Complete) }
 {
     text.push_str("no schedule is stuck\n")?;
     text.push_str(none_fails(outside))?;
-    text.push_str("no step is broken\n")
+    append_later(text, sleeping)
+}
+
+// What it tells of threads that sleep for good, and of steps that may not be.
+fn append_later(text: &mut String, sleeping: &Sleeping) -> Result<(), AllocError>
+    ensures { OnOk result (string_bytes text.new
+        ≡ string_bytes text.old ++ later_lines sleeping.now) }
+{
+    text.push_str(none_sleeps(sleeping))?;
+    text.push_str("no step is broken\n")?;
+    append_sleeping(text, sleeping)
+}
+
+fn none_sleeps(sleeping: &Sleeping) -> &'static str
+    ensures { result.now ≡ none_sleeps sleeping.now }
+{
+    match sleeping {
+        Sleeping::Never => "no thread sleeps for good\n",
+        Sleeping::Unsought | Sleeping::ForGood { .. } | Sleeping::Unknown(_) => "",
+    }
+}
+
+// What is told of threads that sleep for good.
+fn append_sleeping(text: &mut String, sleeping: &Sleeping) -> Result<(), AllocError>
+    ensures { OnOk result (string_bytes text.new
+        ≡ string_bytes text.old ++ sleeping_lines sleeping.now) }
+{
+    match sleeping {
+        Sleeping::ForGood { threads, .. } => append_sleepers(text, threads.as_slice()),
+        Sleeping::Unsought | Sleeping::Never | Sleeping::Unknown(_) => Ok(()),
+    }
+}
+
+fn append_sleepers(text: &mut String, threads: &[u32]) -> Result<(), AllocError>
+    ensures { OnOk result (string_bytes text.new
+        ≡ string_bytes text.old ++ sleepers_line threads.now) }
+{
+    text.push_str("sleeps for good:")?;
+    append_threads(text, threads)?;
+    text.push_str("\n")
+}
+
+// Appends the numbers of threads.
+fn append_threads(text: &mut String, threads: &[u32]) -> Result<(), AllocError>
+    ensures { OnOk result (string_bytes text.new
+        ≡ string_bytes text.old ++ flat_map thread_word threads.now) }
+{
+    for thread in threads {
+        write!(text, " {thread}")?;
+    }
+    Ok(())
 }
 
 fn none_fails(outside: Outside) -> &'static str
@@ -230,16 +299,33 @@ fn none_fails(outside: Outside) -> &'static str
 fn found_file<'a>(
     alloc: Global,
     name: Option<&'a str>,
-    ending: &Ending,
+    found: &ImageExploration,
 ) -> Result<Option<OutFile<'a>>, AllocError>
-    ensures { IfOk result (λ file. put_of file ≡ found_put name.entry ending.now) }
+    ensures { IfOk result (λ file. put_of file
+        ≡ found_put name.entry found.now.sleeping found.now.ending) }
 {
-    match ending {
+    match &found.ending {
         Ending::Stuck(turns) => schedule_file(alloc, name, turns.as_slice()),
         Ending::Failed(turns) => schedule_file(alloc, name, turns.as_slice()),
         Ending::Broken(turns) => schedule_file(alloc, name, turns.as_slice()),
-        Ending::Complete => Ok(None),
+        Ending::Complete => sleeping_file(alloc, name, &found.sleeping),
         Ending::Bounded(_) => Ok(None),
+    }
+}
+
+// The same of a complete search.
+fn sleeping_file<'a>(
+    alloc: Global,
+    name: Option<&'a str>,
+    sleeping: &Sleeping,
+) -> Result<Option<OutFile<'a>>, AllocError>
+    ensures { IfOk result (λ file. put_of file ≡ sleeping_put name.entry sleeping.now) }
+{
+    match sleeping {
+        Sleeping::ForGood { turns, .. } => schedule_file(alloc, name, turns.as_slice()),
+        Sleeping::Unsought => Ok(None),
+        Sleeping::Never => Ok(None),
+        Sleeping::Unknown(_) => Ok(None),
     }
 }
 

@@ -64,8 +64,8 @@ impl From<AllocError> for SourceLogFault {
     }
 }
 
-// The entries of which a text has the lines, where they have at most so many steps.
-fn entries_of(alloc: Global, lines: &[u8], most: u32) -> Result<PackedLog, SourceLogFault>
+/// The entries of which a text has the lines, where they have at most so many steps.
+pub fn entries_of(alloc: Global, lines: &[u8], most: u32) -> Result<PackedLog, SourceLogFault>
     ensures { MatchResult result
         (λ entries. IsLogText lines.now entries.items × (cost entries.items ≤ most))
         (λ fault. ReadsNot lines.now most fault) }
@@ -109,8 +109,8 @@ fn explain_entries(
     }
 }
 
-// Runs an image by the threads and counts of a log.
-fn follow_entries(
+/// Runs an image by the threads and counts of a log.
+pub fn follow_entries(
     alloc: Global,
     image: &Image,
     entries: LogReader<'_>,

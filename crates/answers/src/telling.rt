@@ -8,7 +8,7 @@ use crate::run_ends::{explained_hints, report_hints};
 use crate::run_entries::{log_entry_hints, schedule_entry_hints};
 use crate::source_log::SourceLogFault;
 use commandline::ExplainedBy;
-use image_search::{Bound, Ending};
+use image_search::{Bound, Doubt, Ending, ImageExploration, Sleeping};
 use program::Checked;
 use run_hints::{Way, end_hints};
 use runner::{Report, Turn};
@@ -48,10 +48,28 @@ pub fn tell_more(told: &mut String, left: NoAnswer<'_>) {
     }
 }
 
-/// Appends which bound a search over an image met, where it met one.
-pub fn tell_bound(told: &mut String, ending: &Ending) {
-    if let Ending::Bounded(bound) = ending {
-        let _appended = told.push_str(words_of(*bound));
+/// Appends which bound a search over an image met, where it met one, or why it isn't known whether a thread sleeps for good.
+pub fn tell_bound(told: &mut String, found: &ImageExploration) {
+    let words = match (&found.ending, &found.sleeping) {
+        (Ending::Bounded(bound), _) => words_of(*bound),
+        (_, Sleeping::Unknown(doubt)) => doubtful_words(*doubt),
+        _ => "",
+    };
+    let _appended = told.push_str(words);
+}
+
+// What a doubt says.
+fn doubtful_words(doubt: Doubt) -> &'static str {
+    match doubt {
+        Doubt::Wakes => {
+            "  whether a thread sleeps for good isn't known: a requeue or an exit may wake another than it should\n"
+        }
+        Doubt::Choice => {
+            "  a thread sleeps for good, but by another choice of sleepers than this machine's\n"
+        }
+        Doubt::Nexts(_) => {
+            "  whether a thread sleeps for good isn't known: not all that comes next was found again\n"
+        }
     }
 }
 

@@ -95,18 +95,14 @@ pub fn title_of_run(
     Ok(title)
 }
 
-/// The title of a run that a search found: one that gets stuck, or else one in which a process aborts.
+/// The title of a run that a search found, which ends so.
 ///
 /// # Errors
 ///
 /// Where memory runs out, and for nothing else.
-pub fn title_of_found(alloc: Global, file: &str, is_stuck: bool) -> Result<String, AllocError> {
+pub fn title_of_found(alloc: Global, file: &str, end: &str) -> Result<String, AllocError> {
     let mut title = String::new(alloc);
     write!(title, "{file}: found by a search, ")?;
-    title.push_str(if is_stuck {
-        "stuck"
-    } else {
-        "a process aborts"
-    })?;
+    title.push_str(end)?;
     Ok(title)
 }

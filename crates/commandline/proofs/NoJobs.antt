@@ -45,8 +45,8 @@ no_run rows other missing h = h
 pub no_exec : (rows : List Row) (job : Job)
     → (first_of (codes "IMAGE") rows ≡ None) ⊎ ((o : RunOptions) → ReadsOptions rows o → ⊥) → AsksForExec rows job
     → ⊥
-no_exec rows (Exec image options) (inl none) h = no_value _ _ none h.0
-no_exec rows (Exec image options) (inr none) h = none options h.1
+no_exec rows (Exec image form options) (inl none) h = no_value _ _ none h.0
+no_exec rows (Exec image form options) (inr none) h = none options h.2
 no_exec rows other missing h = h
 
 pub no_replay : (rows : List Row) (job : Job) → ReadsForm rows None
@@ -54,23 +54,23 @@ pub no_replay : (rows : List Row) (job : Job) → ReadsForm rows None
     → ⊥
 no_replay rows (Replay file by trace page hints) source (inl none) h = no_value _ _ none h.0
 no_replay rows (Replay file by trace page hints) source (inr none) h = none by h.1
-no_replay rows (Follow file form schedule trace log hints) source missing h = no_source rows form source h.1
+no_replay rows (Follow file form by trace hints) source missing h = no_source rows form source h.1
 no_replay rows other source missing h = h
 
 pub no_follow : (rows : List Row) (job : Job) (form : ImageForm) → ReadsForm rows (Some form)
-    → (has_any (codes "steps" ∷ codes "page" ∷ []) rows ≡ true)
-    ⊎ ((first_of (codes "FILE") rows ≡ None) ⊎ (first_of (codes "SCHEDULE") rows ≡ None)) → AsksForReplay rows job
+    → (is_written (codes "page") rows ≡ true)
+    ⊎ ((first_of (codes "FILE") rows ≡ None) ⊎ ((r : ReplayedBy) → IsReplayedBy rows r → ⊥)) → AsksForReplay rows job
     → ⊥
 no_follow rows (Replay file by trace page hints) form image missing h = no_source rows form h.5 image
-no_follow rows (Follow file f schedule trace log hints) form image (inl more) h = clash _ more h.5
-no_follow rows (Follow file f schedule trace log hints) form image (inr (inl none)) h = no_value _ _ none h.0
-no_follow rows (Follow file f schedule trace log hints) form image (inr (inr none)) h = no_value _ _ none h.2
+no_follow rows (Follow file f by trace hints) form image (inl more) h = clash _ more h.4
+no_follow rows (Follow file f by trace hints) form image (inr (inl none)) h = no_value _ _ none h.0
+no_follow rows (Follow file f by trace hints) form image (inr (inr none)) h = none by h.2
 no_follow rows other form image missing h = h
 
 pub no_formed_replay : (rows : List Row) (job : Job) → ((f : Option ImageForm) → ReadsForm rows f → ⊥)
     → AsksForReplay rows job → ⊥
 no_formed_replay rows (Replay file by trace page hints) none h = none None h.5
-no_formed_replay rows (Follow file form schedule trace log hints) none h = none (Some form) h.1
+no_formed_replay rows (Follow file form by trace hints) none h = none (Some form) h.1
 no_formed_replay rows other none h = h
 
 pub no_explain : (rows : List Row) (job : Job)
@@ -100,7 +100,7 @@ no_explore rows (Explore file states strays kills chart timeline page places hin
     none kills h.3
 no_explore rows (Explore file states strays kills chart timeline page places hints) source (inr (inr (inr (inr none)))) h =
     none chart h.4
-no_explore rows (Search file form states strays kills schedule hints) source missing h = no_source rows form source h.1
+no_explore rows (Search file form states strays kills files hints) source missing h = no_source rows form source h.1
 no_explore rows other source missing h = h
 
 pub no_search : (rows : List Row) (job : Job) (form : ImageForm) → ReadsForm rows (Some form)
@@ -109,16 +109,16 @@ pub no_search : (rows : List Row) (job : Job) (form : ImageForm) → ReadsForm r
     ⊎ ((n : ℕ) → ReadsKills rows n → ⊥))) → IsExploreOf rows job → ⊥
 no_search rows (Explore file states strays kills chart timeline page places hints) form image missing h =
     no_source rows form h.9 image
-no_search rows (Search file f states strays kills schedule hints) form image (inl more) h = clash _ more h.6
-no_search rows (Search file f states strays kills schedule hints) form image (inr (inl none)) h = no_value _ _ none h.0
-no_search rows (Search file f states strays kills schedule hints) form image (inr (inr (inl none))) h = none states h.2
-no_search rows (Search file f states strays kills schedule hints) form image (inr (inr (inr none))) h = none kills h.4
+no_search rows (Search file f states strays kills files hints) form image (inl more) h = clash _ more h.6
+no_search rows (Search file f states strays kills files hints) form image (inr (inl none)) h = no_value _ _ none h.0
+no_search rows (Search file f states strays kills files hints) form image (inr (inr (inl none))) h = none states h.2
+no_search rows (Search file f states strays kills files hints) form image (inr (inr (inr none))) h = none kills h.4
 no_search rows other form image missing h = h
 
 pub no_formed_search : (rows : List Row) (job : Job) → ((f : Option ImageForm) → ReadsForm rows f → ⊥)
     → IsExploreOf rows job → ⊥
 no_formed_search rows (Explore file states strays kills chart timeline page places hints) none h = none None h.9
-no_formed_search rows (Search file form states strays kills schedule hints) none h = none (Some form) h.1
+no_formed_search rows (Search file form states strays kills files hints) none h = none (Some form) h.1
 no_formed_search rows other none h = h
 
 pub no_fmt : (rows : List Row) (job : Job) → first_of (codes "FILE") rows ≡ None → IsFmtOf rows job → ⊥

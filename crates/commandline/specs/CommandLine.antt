@@ -35,6 +35,7 @@ use Rattle.commandline.specs.declared.options.ChartOptions.{ChartOptions}
 use Rattle.commandline.specs.declared.options.ImageForm.{ImageForm}
 use Rattle.commandline.specs.declared.options.ImageForm.TheVariants as form
 use Rattle.commandline.specs.declared.options.RunOptions.{RunOptions}
+use Rattle.commandline.specs.declared.options.SearchFiles.{SearchFiles}
 use Rattle.commandline.specs.declared.job.Job.{Job}
 use Rattle.commandline.specs.declared.job.Job.TheVariants.{Check, Compile, List as List', Run, Exec, Replay}
 use Rattle.commandline.specs.declared.job.Job.TheVariants.{Explain, Emit, Explore, Search, Follow, Assemble, Fmt}
@@ -154,16 +155,17 @@ run_command =
     with_rule (with_rule (with_run_options (with_rule (new_app (codes "run")) (positional (codes "FILE"))))
     (valued (codes "page"))) (flag (codes "hints"))
 
--- `exec IMAGE [--steps N] [--in-order | --seed N [--strays N] [--kills N]] [--trace] [--log OUT]`
+-- `exec IMAGE [--steps N] [--in-order | --seed N [--strays N] [--kills N]] [--trace] [--log OUT] [--assembly]`
 abbrev pub exec_command : App
-exec_command = with_run_options (with_rule (new_app (codes "exec")) (positional (codes "IMAGE")))
+exec_command =
+    with_rule (with_run_options (with_rule (new_app (codes "exec")) (positional (codes "IMAGE")))) (flag (codes "assembly"))
 
 -- `[--assembly | --image]`
 abbrev pub with_form : App → App
 with_form app = with_rule (with_rule app (flag (codes "assembly"))) (flag (codes "image"))
 
 -- `replay FILE (SCHEDULE [--log OUT] | --log LOG [--steps N]) [--trace] [--page OUT] [--hints]`, or of an image
--- `replay FILE SCHEDULE [--log OUT] [--trace] (--assembly | --image) [--hints]`
+-- `replay FILE (SCHEDULE [--log OUT] | --log LOG [--steps N]) [--trace] (--assembly | --image) [--hints]`
 abbrev pub replay_command : App
 replay_command =
     with_rule (with_form (with_rule (with_rule (with_rule (with_rule (with_rule (with_rule (new_app (codes "replay"))
@@ -187,7 +189,8 @@ explain_command =
 
 -- `explore FILE [--states N] [--strays] [--kills N] [--chart OUT [--from N] [--to N]] [--timeline OUT] [--page OUT]
 -- [--places] [--hints]`, or of an image
--- `explore FILE [--states N] [--strays] [--kills N] (--assembly | --image) [--schedule OUT] [--hints]`
+-- `explore FILE [--states N] [--strays] [--kills N] (--assembly | --image) [--schedule OUT] [--chart OUT] [--timeline OUT]
+-- [--hints]`
 abbrev pub explore_command : App
 explore_command =
     with_rule (with_rule (with_form (with_rule (with_rule (with_rule (with_chart_options (with_rule (with_rule
@@ -346,10 +349,16 @@ ReadsOptions rows o =
     ReadsSteps rows o.steps × ReadsOrder rows o.order × ReadsFlag (codes "trace") rows o.trace
     × (first_of (codes "log") rows ≡ option_map (λ log. log.now) o.log)
 
--- how a run of a source text is shown beside its lines
+-- how a run is shown that is of a source text alone
 abbrev pub shows : List Text
-shows =
-    codes "chart" ∷ codes "from" ∷ codes "to" ∷ codes "timeline" ∷ codes "page" ∷ codes "places" ∷ []
+shows = codes "from" ∷ codes "to" ∷ codes "page" ∷ codes "places" ∷ []
+
+-- the files that show what a search over an image found
+abbrev pub ReadsSearchFiles : List Row → SearchFiles → Type 0
+ReadsSearchFiles rows files =
+    (first_of (codes "schedule") rows ≡ option_map (λ out. out.now) files.schedule)
+    × (first_of (codes "chart") rows ≡ option_map (λ out. out.now) files.chart)
+    × (first_of (codes "timeline") rows ≡ option_map (λ out. out.now) files.timeline)
 
 -- a file's form: where one of two flags stands it is an assembly text or an image, else a source text
 abbrev pub ReadsForm : List Row → Option ImageForm → Type 0
@@ -358,6 +367,11 @@ ReadsForm rows (Some form.Assembly) =
     (is_written (codes "assembly") rows ≡ true) × (is_written (codes "image") rows ≡ false)
 ReadsForm rows (Some form.Image) =
     (is_written (codes "assembly") rows ≡ false) × (is_written (codes "image") rows ≡ true)
+
+-- the form of a file of which an image is known: where a flag stands an assembly text, else the image itself
+abbrev pub ReadsImageForm : List Row → ImageForm → Type 0
+ReadsImageForm rows form.Assembly = is_written (codes "assembly") rows ≡ true
+ReadsImageForm rows form.Image = is_written (codes "assembly") rows ≡ false
 
 -- what a replay goes by: where a schedule stands, that one, its log is kept, and it has no limit of steps; else a log
 -- of at most so many
@@ -413,20 +427,19 @@ AsksForRun rows other = ⊥
 
 -- a job of running an image
 abbrev pub AsksForExec : List Row → Job → Type 0
-AsksForExec rows (Exec image options) = (first_of (codes "IMAGE") rows ≡ Some image.now) × ReadsOptions rows options
+AsksForExec rows (Exec image form options) =
+    (first_of (codes "IMAGE") rows ≡ Some image.now) × ReadsImageForm rows form × ReadsOptions rows options
 AsksForExec rows other = ⊥
 
--- a job of running again, or of running an image by a schedule
+-- a job of running again: a source text, or an image
 abbrev pub AsksForReplay : List Row → Job → Type 0
 AsksForReplay rows (Replay file by trace page hints) =
     (first_of (codes "FILE") rows ≡ Some file.now) × IsReplayedBy rows by × ReadsFlag (codes "trace") rows trace
     × (first_of (codes "page") rows ≡ option_map (λ out. out.now) page) × ReadsFlag (codes "hints") rows hints
     × ReadsForm rows None
-AsksForReplay rows (Follow file form schedule trace log hints) =
-    (first_of (codes "FILE") rows ≡ Some file.now) × ReadsForm rows (Some form)
-    × (first_of (codes "SCHEDULE") rows ≡ Some schedule.now) × ReadsFlag (codes "trace") rows trace
-    × (first_of (codes "log") rows ≡ option_map (λ log. log.now) log)
-    × (has_any (codes "steps" ∷ codes "page" ∷ []) rows ≡ false) × ReadsFlag (codes "hints") rows hints
+AsksForReplay rows (Follow file form by trace hints) =
+    (first_of (codes "FILE") rows ≡ Some file.now) × ReadsForm rows (Some form) × IsReplayedBy rows by
+    × ReadsFlag (codes "trace") rows trace × (is_written (codes "page") rows ≡ false) × ReadsFlag (codes "hints") rows hints
 AsksForReplay rows other = ⊥
 
 -- a job of explaining
@@ -453,10 +466,9 @@ IsExploreOf rows (Explore file states strays kills chart timeline page places hi
     × (first_of (codes "timeline") rows ≡ option_map (λ out. out.now) timeline)
     × (first_of (codes "page") rows ≡ option_map (λ out. out.now) page) × ReadsFlag (codes "places") rows places
     × ReadsFlag (codes "hints") rows hints × ReadsForm rows None × (is_written (codes "schedule") rows ≡ false)
-IsExploreOf rows (Search file form states strays kills schedule hints) =
+IsExploreOf rows (Search file form states strays kills files hints) =
     (first_of (codes "FILE") rows ≡ Some file.now) × ReadsForm rows (Some form) × ReadsStates rows states
-    × ReadsFlag (codes "strays") rows strays × ReadsKills rows kills
-    × (first_of (codes "schedule") rows ≡ option_map (λ out. out.now) schedule)
+    × ReadsFlag (codes "strays") rows strays × ReadsKills rows kills × ReadsSearchFiles rows files
     × (has_any shows rows ≡ false) × ReadsFlag (codes "hints") rows hints
 IsExploreOf rows other = ⊥
 

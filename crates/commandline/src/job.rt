@@ -9,9 +9,11 @@ ghost use Rattle.commandline.specs.declared.job.Job.{Job as JobOf};
 
 use crate::builder::command;
 use crate::fault::WordsFault;
-use crate::options::{ChartOptions, ExplainedBy, ImageForm, ReplayedBy, RunOptions};
+use crate::options::{ChartOptions, ExplainedBy, ImageForm, ReplayedBy, RunOptions, SearchFiles};
 use crate::refusing::refusal_of;
-use crate::sources::{explained_by, form_of, goes_by_log, names_pictures, replayed_by};
+use crate::sources::{
+    explained_by, form_of, image_form_of, replayed_by, search_files_of, shows_source,
+};
 use crate::values::{
     chart_of, is_written, kills_of, options_of, states_of, version_of, workers_of,
 };
@@ -64,8 +66,10 @@ pub enum Job<'a> {
     },
     /// Run an image.
     Exec {
-        /// The name of the image's file.
+        /// The name of the file of the image or the assembly text.
         image: &'a str,
+        /// Which of the two it is.
+        form: ImageForm,
         /// How it goes.
         options: RunOptions<'a>,
     },
@@ -132,7 +136,7 @@ pub enum Job<'a> {
         hints: bool,
     },
     /// Search all schedules of an image for one that gets stuck, for a thread that fails, and for a step that may not be;
-    /// print what is found, and write a schedule that leads there where that is wanted.
+    /// print what is found, and write a schedule that leads there, draw it and time it where that is wanted.
     Search {
         /// The name of the file of the image or the assembly text.
         file: &'a str,
@@ -144,23 +148,21 @@ pub enum Job<'a> {
         strays: bool,
         /// How many threads may be killed in a schedule that is searched, at most.
         kills: u32,
-        /// The name of the schedule's file, where one is wanted.
-        schedule: Option<&'a str>,
+        /// The files that show what is found.
+        files: SearchFiles<'a>,
         /// Whether hints stand behind a refusal of the text.
         hints: bool,
     },
-    /// Run an image by a schedule, and show the log where that is wanted.
+    /// Run an image by a schedule or by the threads and counts of a log, and show the log where that is wanted.
     Follow {
         /// The name of the file of the image or the assembly text.
         file: &'a str,
         /// Which of the two it is.
         form: ImageForm,
-        /// The name of the schedule's file.
-        schedule: &'a str,
+        /// What it goes by.
+        by: ReplayedBy<'a>,
         /// Whether the log is shown.
         trace: bool,
-        /// The name of the file that the log is written to, where that is wanted.
-        log: Option<&'a str>,
         /// Whether hints stand behind a refusal of the text.
         hints: bool,
     },
@@ -317,8 +319,13 @@ fn exec_of<'a>(matches: &ArgMatches<'a>) -> Option<Job<'a>>
         → ⊥ }
 {
     let image = matches.get_str("IMAGE")?;
+    let form = image_form_of(matches);
     let options = options_of(matches)?;
-    Some(Job::Exec { image, options })
+    Some(Job::Exec {
+        image,
+        form,
+        options,
+    })
 }
 
 fn replay_of<'a>(matches: &ArgMatches<'a>) -> Option<Job<'a>>
@@ -353,27 +360,25 @@ fn replayed_of<'a>(matches: &ArgMatches<'a>) -> Option<Job<'a>>
     })
 }
 
-// An image that is run by a schedule.
+// An image that is run again.
 fn follow_of<'a>(matches: &ArgMatches<'a>, form: ImageForm) -> Option<Job<'a>>
     requires { ReadsForm (rows_of (found_of matches.now)) (Some form) }
     ensures job { IfSome result (AsksForReplay (rows_of (found_of matches.now))) }
     ensures none { result ≡ None → (job : JobOf)
         → AsksForReplay (rows_of (found_of matches.now)) job → ⊥ }
 {
-    if goes_by_log(matches) {
+    if is_written(matches, "page") {
         return None;
     }
     let file = matches.get_str("FILE")?;
-    let schedule = matches.get_str("SCHEDULE")?;
+    let by = replayed_by(matches)?;
     let trace = matches.get_flag("trace");
-    let log = matches.get_str("log");
     let hints = matches.get_flag("hints");
     Some(Job::Follow {
         file,
         form,
-        schedule,
+        by,
         trace,
-        log,
         hints,
     })
 }
@@ -462,14 +467,14 @@ fn search_of<'a>(matches: &ArgMatches<'a>, form: ImageForm) -> Option<Job<'a>>
     ensures none { result ≡ None → (job : JobOf) → IsExploreOf (rows_of (found_of matches.now)) job
         → ⊥ }
 {
-    if names_pictures(matches) {
+    if shows_source(matches) {
         return None;
     }
     let file = matches.get_str("FILE")?;
     let states = states_of(matches)?;
     let strays = matches.get_flag("strays");
     let kills = kills_of(matches)?;
-    let schedule = matches.get_str("schedule");
+    let files = search_files_of(matches);
     let hints = matches.get_flag("hints");
     Some(Job::Search {
         file,
@@ -477,7 +482,7 @@ fn search_of<'a>(matches: &ArgMatches<'a>, form: ImageForm) -> Option<Job<'a>>
         states,
         strays,
         kills,
-        schedule,
+        files,
         hints,
     })
 }

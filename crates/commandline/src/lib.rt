@@ -13,4 +13,6 @@ mod values;
 
 pub use fault::WordsFault;
 pub use job::{Job, line};
-pub use options::{ChartOptions, ExplainedBy, ImageForm, Order, ReplayedBy, RunOptions};
+pub use options::{
+    ChartOptions, ExplainedBy, ImageForm, Order, ReplayedBy, RunOptions, SearchFiles,
+};

@@ -92,6 +92,17 @@ pub enum ExplainedBy<'a> {
     },
 }
 
+/// The files that show what a search over an image found, as far as they are wanted.
+#[derive(Clone, Copy)]
+pub struct SearchFiles<'a> {
+    /// The name of the schedule's file.
+    pub schedule: Option<&'a str>,
+    /// The name of the picture's file.
+    pub chart: Option<&'a str>,
+    /// The name of the timeline's file.
+    pub timeline: Option<&'a str>,
+}
+
 /// In which form an image is given.
 #[derive(Clone, Copy)]
 pub enum ImageForm {

@@ -17,13 +17,8 @@ const KILLS_WITHOUT_SEED: &str = "the argument '--kills <N>' cannot be used with
 // What is said of a replay by nothing.
 const NO_SCHEDULE: &str = "one of <SCHEDULE> and '--log <LOG>' has to be given";
 
-const NO_SCHEDULE_OF_IMAGE: &str = "an image is run by a <SCHEDULE>, which has to be given";
-
-// What is said of a limit of steps that a schedule or an image doesn't have.
+// What is said of a limit of steps that a schedule doesn't have.
 const STEPS_BY_SCHEDULE: &str = "the argument '--steps <N>' cannot be used with <SCHEDULE>";
-
-const STEPS_OF_IMAGE: &str =
-    "the argument '--steps <N>' cannot be used with '--assembly' or '--image'";
 
 // What is said of a file that is to be in two forms.
 const TWO_FORMS: &str = "the argument '--assembly' cannot be used with '--image'";
@@ -33,7 +28,7 @@ const PAGE_OF_IMAGE: &str =
     "the argument '--page <OUT>' cannot be used with '--assembly' or '--image'";
 
 const PICTURE_OF_IMAGE: &str =
-    "the arguments '--chart <OUT>', '--from <N>', '--to <N>', '--timeline <OUT>', '--page <OUT>' and '--places' cannot be used with '--assembly' or '--image'";
+    "the arguments '--from <N>', '--to <N>', '--page <OUT>' and '--places' cannot be used with '--assembly' or '--image'";
 
 // What is said of a schedule that is asked for of a source text's runs.
 const SCHEDULE_OF_SOURCE: &str =
@@ -91,23 +86,12 @@ fn no_replay(matches: &ArgMatches<'_>) -> (ErrorKind, &'static str) {
     let is_image = is_written(matches, "image");
     if is_assembly && is_image {
         (ErrorKind::ArgumentConflict, TWO_FORMS)
-    } else if is_assembly || is_image {
-        no_follow(matches)
+    } else if (is_assembly || is_image) && is_written(matches, "page") {
+        (ErrorKind::ArgumentConflict, PAGE_OF_IMAGE)
     } else if is_written(matches, "SCHEDULE") {
         (ErrorKind::ArgumentConflict, STEPS_BY_SCHEDULE)
     } else {
         (ErrorKind::MissingRequiredArgument, NO_SCHEDULE)
-    }
-}
-
-// Why an image isn't run again.
-fn no_follow(matches: &ArgMatches<'_>) -> (ErrorKind, &'static str) {
-    if is_written(matches, "page") {
-        (ErrorKind::ArgumentConflict, PAGE_OF_IMAGE)
-    } else if is_written(matches, "steps") {
-        (ErrorKind::ArgumentConflict, STEPS_OF_IMAGE)
-    } else {
-        (ErrorKind::MissingRequiredArgument, NO_SCHEDULE_OF_IMAGE)
     }
 }
 

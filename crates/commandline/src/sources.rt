@@ -1,13 +1,14 @@
 ghost use Rattle.std.specs.Prelude.{IfSome, None, Option as OptionOf, Some, [], ◌∷◌, codes, true, false, ◌≡◌};
 ghost use Rattle.clap.specs.Words.{first_of, found_of};
 ghost use Rattle.clap.specs.Walk.{rows_of};
-ghost use Rattle.commandline.specs.CommandLine.{IsExplainedBy, IsReplayedBy, ReadsForm, has_any, shows};
+ghost use Rattle.commandline.specs.CommandLine.{IsExplainedBy, IsReplayedBy, ReadsForm, ReadsImageForm, has_any, shows};
+ghost use Rattle.commandline.specs.CommandLine.{ReadsSearchFiles};
 ghost use Rattle.commandline.specs.CommandLine.{is_written as stands};
 ghost use Rattle.commandline.specs.declared.options.ExplainedBy.{ExplainedBy as Explained};
 ghost use Rattle.commandline.specs.declared.options.ImageForm.{ImageForm as FormOf};
 ghost use Rattle.commandline.specs.declared.options.ReplayedBy.{ReplayedBy as Replayed};
 
-use crate::options::{ExplainedBy, ImageForm, ReplayedBy};
+use crate::options::{ExplainedBy, ImageForm, ReplayedBy, SearchFiles};
 use crate::values::{is_written, kills_of, names_outside, seed_of, steps_of, strays_of};
 use clap::ArgMatches;
 
@@ -66,24 +67,39 @@ pub fn form_of(matches: &ArgMatches<'_>) -> Option<Option<ImageForm>>
     }
 }
 
-/// Whether the words of a replay have what stands beside a log or a source text alone.
-pub fn goes_by_log(matches: &ArgMatches<'_>) -> bool
-    ensures { result
-        ≡ has_any (codes "steps" ∷ codes "page" ∷ []) (rows_of (found_of matches.now)) }
+/// Whether a file of which an image is known has an assembly text or the image itself in it, as a flag says.
+pub fn image_form_of(matches: &ArgMatches<'_>) -> ImageForm
+    ensures { ReadsImageForm (rows_of (found_of matches.now)) result }
 {
-    is_written(matches, "steps") || is_written(matches, "page")
+    if is_written(matches, "assembly") {
+        ImageForm::Assembly
+    } else {
+        ImageForm::Image
+    }
 }
 
-/// Whether the words say how a run of a source text is shown in other files.
-pub fn names_pictures(matches: &ArgMatches<'_>) -> bool
+/// Whether the words say how a run is shown that is of a source text alone.
+pub fn shows_source(matches: &ArgMatches<'_>) -> bool
     ensures { result ≡ has_any shows (rows_of (found_of matches.now)) }
 {
-    is_written(matches, "chart")
-        || is_written(matches, "from")
+    is_written(matches, "from")
         || is_written(matches, "to")
-        || is_written(matches, "timeline")
         || is_written(matches, "page")
         || is_written(matches, "places")
+}
+
+/// The files that show what a search over an image found.
+pub fn search_files_of<'a>(matches: &ArgMatches<'a>) -> SearchFiles<'a>
+    ensures { ReadsSearchFiles (rows_of (found_of matches.now)) result }
+{
+    let schedule = matches.get_str("schedule");
+    let chart = matches.get_str("chart");
+    let timeline = matches.get_str("timeline");
+    SearchFiles {
+        schedule,
+        chart,
+        timeline,
+    }
 }
 
 /// Which run is explained. A schedule has no limit of steps beside it.

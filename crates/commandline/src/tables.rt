@@ -235,7 +235,25 @@ pub(crate) const RUN: Subcommand = Subcommand {
 pub(crate) const EXEC: Subcommand = Subcommand {
     name: "exec",
     about: "Runs an image and prints its output",
-    arguments: &[IMAGE, STEPS, IN_ORDER, SEED, STRAYS, KILLS, TRACE, RUN_LOG],
+    arguments: &[
+        Argument {
+            name: "IMAGE",
+            kind: Kind::Positional,
+            help: "The image; with a flag the assembly text",
+        },
+        STEPS,
+        IN_ORDER,
+        SEED,
+        STRAYS,
+        KILLS,
+        TRACE,
+        RUN_LOG,
+        Argument {
+            name: "assembly",
+            kind: Kind::Flag,
+            help: "IMAGE is an assembly text",
+        },
+    ],
 };
 
 /// `replay`.

@@ -20,9 +20,11 @@ use Rattle.mesamon.specs.Commands.{Devices, EndsSo, FinishesSo, HasAnswered, Has
 use Rattle.mesamon.specs.Commands.{IsToldLeft, RefusesJob, RefusesSome, UnassemblesJob, UnassemblesSome}
 use Rattle.image_search.specs.declared.ending.Ending.{Ending}
 use Rattle.image_search.specs.declared.ending.Ending.TheVariants as ending
+use Rattle.image_search.specs.declared.ending.Sleeping.{Sleeping}
+use Rattle.image_search.specs.declared.ending.Sleeping.TheVariants as sleeping
 use Rattle.answers.specs.Exploring.{found_status, is_failed}
 use Rattle.answers.specs.Formatting.{layout_status}
-use Rattle.answers.specs.Images.{search_status}
+use Rattle.answers.specs.Images.{search_status, sleeping_status}
 use Rattle.answers.specs.Failures.{IsLeftBy, IsRefusalBy}
 use Rattle.mesamon.specs.Overwriting.{overwrites}
 use Rattle.answers.specs.declared.answer.Answer.{Answer}
@@ -85,13 +87,13 @@ has_workers ws (Compile file out workers version hints) asks =
     compiling_workers ws (Compile file out workers version hints) file out workers version hints asks refl
 has_workers ws (ListImage image source hints) asks = tt
 has_workers ws (Run file options page hints) asks = tt
-has_workers ws (Exec image options) asks = tt
+has_workers ws (Exec image form options) asks = tt
 has_workers ws (Replay file by trace page hints) asks = tt
 has_workers ws (Explain file by chart timeline page places hints) asks = tt
 has_workers ws (Emit file out hints) asks = tt
 has_workers ws (Explore file states strays kills chart timeline page places hints) asks = tt
-has_workers ws (Search file form states strays kills schedule hints) asks = tt
-has_workers ws (Follow file form schedule trace log hints) asks = tt
+has_workers ws (Search file form states strays kills files hints) asks = tt
+has_workers ws (Follow file form by trace hints) asks = tt
 has_workers ws (Assemble file out hints) asks = tt
 has_workers ws (Fmt file check hints) asks = tt
 
@@ -117,12 +119,18 @@ found_end false true complete = tt
 found_end false false true = tt
 found_end false false false = tt
 
-search_end : (e : Ending) → IsEnd (search_status e)
-search_end ending.Complete = tt
-search_end (ending.Stuck turns) = tt
-search_end (ending.Failed turns) = tt
-search_end (ending.Broken turns) = tt
-search_end (ending.Bounded bound) = tt
+sleeping_end : (s : Sleeping) → IsEnd (sleeping_status s)
+sleeping_end sleeping.Unsought = tt
+sleeping_end sleeping.Never = tt
+sleeping_end (sleeping.ForGood turns threads) = tt
+sleeping_end (sleeping.Unknown why) = tt
+
+search_end : (s : Sleeping) (e : Ending) → IsEnd (search_status s e)
+search_end s ending.Complete = sleeping_end s
+search_end s (ending.Stuck turns) = tt
+search_end s (ending.Failed turns) = tt
+search_end s (ending.Broken turns) = tt
+search_end s (ending.Bounded bound) = tt
 
 layout_end : (check same : Bool) → IsEnd (layout_status check same)
 layout_end false same = tt
@@ -137,7 +145,7 @@ ends (Check file hints) bytes second a h = end_as a.status Done h.tells.ended tt
 ends (Compile file out workers version hints) bytes second a h = end_as a.status Done h.tells.ended tt
 ends (ListImage image source hints) bytes second a h = end_as a.status Done h.tells.ended tt
 ends (Run file options page hints) bytes second a h = end_as a.status _ h.tells.ended (verdict_end h.report.verdict)
-ends (Exec image options) bytes second a h = end_as a.status _ h.runs.tells.ended (verdict_end h.runs.report.verdict)
+ends (Exec image form options) bytes second a h = end_as a.status _ h.runs.tells.ended (verdict_end h.runs.report.verdict)
 ends (Replay file by trace page hints) bytes second a h = end_as a.status _ h.tells.ended (verdict_end h.report.verdict)
 ends (Explain file by chart timeline page places hints) bytes second a h =
     end_as a.status _ h.tells.ended (verdict_end h.explained_run.report.verdict)
@@ -145,9 +153,10 @@ ends (Emit file out hints) bytes second a h = end_as a.status Done h.tells.1.end
 ends (Explore file states strays kills chart timeline page places hints) bytes second a h =
     let e = h.explored_text.exploration in
     end_as a.status _ h.tells.ended (found_end (is_some e.stuck) (is_failed e) e.complete)
-ends (Search file form states strays kills schedule hints) bytes second a h =
-    end_as a.status _ h.searches.tells.ended (search_end h.searches.exploration.ending)
-ends (Follow file form schedule trace log hints) bytes second a h =
+ends (Search file form states strays kills files hints) bytes second a h =
+    let e = h.searches.exploration in
+    end_as a.status _ h.searches.tells.ended (search_end e.sleeping e.ending)
+ends (Follow file form by trace hints) bytes second a h =
     end_as a.status _ h.follows.tells.ended (verdict_end h.follows.report.verdict)
 ends (Fmt file check hints) bytes second a h =
     end_as a.status _ h.tells.ended (layout_end check (bytes_eq h.laid bytes))

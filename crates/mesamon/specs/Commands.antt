@@ -38,16 +38,16 @@ HasDone (Check file hints) bytes second a = HasChecked bytes a
 HasDone (Compile file out workers version hints) bytes second a = HasCompiled version out bytes a
 HasDone (ListImage image source hints) bytes second a = HasListed (is_some source) bytes a
 HasDone (Run file options page hints) bytes second a = HasRun (IsRunAs options) options.trace options.log page bytes a
-HasDone (Exec image options) bytes second a = HasExecuted options bytes a
+HasDone (Exec image form options) bytes second a = HasExecuted form options bytes a
 HasDone (Replay file by trace page hints) bytes second a = HasRun (IsReplayedAs by second) trace (log_beside by) page bytes a
 HasDone (Explain file by chart timeline page places hints) bytes second a =
     HasExplained by second places chart timeline page bytes a
 HasDone (Emit file out hints) bytes second a = HasEmitted out bytes a
 HasDone (Explore file states strays kills chart timeline page places hints) bytes second a =
     HasExplored (record { strays = strays; kills = kills }) states places chart timeline page bytes a
-HasDone (Search file form states strays kills schedule hints) bytes second a =
-    HasSearched form (record { strays = strays; kills = kills }) states schedule bytes a
-HasDone (Follow file form schedule trace log hints) bytes second a = HasFollowed form trace log bytes second a
+HasDone (Search file form states strays kills files hints) bytes second a =
+    HasSearched form (record { strays = strays; kills = kills }) states files bytes a
+HasDone (Follow file form by trace hints) bytes second a = HasFollowed form by trace bytes second a
 HasDone (Assemble file out hints) bytes second a = HasAssembled out bytes a
 HasDone (Fmt file check hints) bytes second a = HasLaidOut check bytes a
 
@@ -56,14 +56,14 @@ abbrev pub RefusesJob : Job → (bytes second : List ℕ) → Refusal → Type 0
 RefusesJob (Check file hints) bytes second e = RefusesProgram bytes e
 RefusesJob (Compile file out workers version hints) bytes second e = RefusesTextAs version bytes e
 RefusesJob (ListImage image source hints) bytes second e = RefusesBeside bytes second e
-RefusesJob (Exec image options) bytes second e = ⊥
+RefusesJob (Exec image form options) bytes second e = ⊥
 RefusesJob (Run file options page hints) bytes second e = RefusesText bytes e
 RefusesJob (Replay file by trace page hints) bytes second e = RefusesText bytes e
 RefusesJob (Explain file by chart timeline page places hints) bytes second e = RefusesText bytes e
 RefusesJob (Emit file out hints) bytes second e = RefusesText bytes e
 RefusesJob (Explore file states strays kills chart timeline page places hints) bytes second e = RefusesText bytes e
-RefusesJob (Search file form states strays kills schedule hints) bytes second e = ⊥
-RefusesJob (Follow file form schedule trace log hints) bytes second e = ⊥
+RefusesJob (Search file form states strays kills files hints) bytes second e = ⊥
+RefusesJob (Follow file form by trace hints) bytes second e = ⊥
 RefusesJob (Assemble file out hints) bytes second e = ⊥
 RefusesJob (Fmt file check hints) bytes second e = RefusesUnit bytes e
 
@@ -72,14 +72,14 @@ abbrev pub UnassemblesJob : Job → (bytes : List ℕ) → AssemblyRefusal → T
 UnassemblesJob (Check file hints) bytes e = ⊥
 UnassemblesJob (Compile file out workers version hints) bytes e = ⊥
 UnassemblesJob (ListImage image source hints) bytes e = ⊥
-UnassemblesJob (Exec image options) bytes e = ⊥
+UnassemblesJob (Exec image form options) bytes e = UnassemblesAs form bytes e
 UnassemblesJob (Run file options page hints) bytes e = ⊥
 UnassemblesJob (Replay file by trace page hints) bytes e = ⊥
 UnassemblesJob (Explain file by chart timeline page places hints) bytes e = ⊥
 UnassemblesJob (Emit file out hints) bytes e = ⊥
 UnassemblesJob (Explore file states strays kills chart timeline page places hints) bytes e = ⊥
-UnassemblesJob (Search file form states strays kills schedule hints) bytes e = UnassemblesAs form bytes e
-UnassemblesJob (Follow file form schedule trace log hints) bytes e = UnassemblesAs form bytes e
+UnassemblesJob (Search file form states strays kills files hints) bytes e = UnassemblesAs form bytes e
+UnassemblesJob (Follow file form by trace hints) bytes e = UnassemblesAs form bytes e
 UnassemblesJob (Assemble file out hints) bytes e = RefusesAssembly bytes e
 UnassemblesJob (Fmt file check hints) bytes e = ⊥
 

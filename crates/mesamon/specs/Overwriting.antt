@@ -44,11 +44,12 @@ overwrites (ListImage image source hints) = false
 overwrites (Compile file out workers version hints) = is_twice (Some file) None (Some out) None
 overwrites (Emit file out hints) = is_twice (Some file) None (Some out) None
 overwrites (Run file options page hints) = is_twice (Some file) None options.log page
-overwrites (Search file form states strays kills schedule hints) = is_twice (Some file) None schedule None
-overwrites (Follow file form schedule trace log hints) = is_twice (Some file) (Some schedule) log None
+overwrites (Search file form states strays kills files hints) =
+    draws_over (Some file) None files.chart files.timeline files.schedule
+overwrites (Follow file form by trace hints) = replay_overwrites file by None
 overwrites (Assemble file out hints) = is_twice (Some file) None (Some out) None
 overwrites (Fmt file check hints) = false
-overwrites (Exec image options) = is_twice (Some image) None options.log None
+overwrites (Exec image form options) = is_twice (Some image) None options.log None
 overwrites (Replay file by trace page hints) = replay_overwrites file by page
 overwrites (Explain file by chart timeline page places hints) = draws_over (Some file) (read_by by) (out_of chart) timeline page
 overwrites (Explore file states strays kills chart timeline page places hints) =

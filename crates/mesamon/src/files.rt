@@ -70,7 +70,8 @@ pub fn put_files<'a, R: Files + AllocGlobal>(
 {
     put_wanted(rt, &files.out)?;
     put_wanted(rt, &files.timeline)?;
-    put_wanted(rt, &files.page)
+    put_wanted(rt, &files.page)?;
+    put_wanted(rt, &files.schedule)
 }
 
 // Writes a file, where there is one, in place of what it held, as `put_file` does; the failure names it.

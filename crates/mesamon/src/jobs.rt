@@ -114,9 +114,8 @@ fn second_of<'a>(job: Job<'a>) -> Second<'a>
 {
     match job {
         Job::List { source, .. } => second_of_list(source),
-        Job::Replay { by, .. } => second_of_replay(by),
+        Job::Replay { by, .. } | Job::Follow { by, .. } => second_of_replay(by),
         Job::Explain { by, .. } => second_of_explained(by),
-        Job::Follow { schedule, .. } => Second::Text(schedule),
         Job::Check { .. }
         | Job::Compile { .. }
         | Job::Run { .. }
@@ -135,12 +134,13 @@ fn reads_all(job: Job<'_>) -> bool
 {
     match job {
         Job::Assemble { .. } => true,
-        Job::Search { form, .. } | Job::Follow { form, .. } => is_assembly(form),
+        Job::Exec { form, .. } | Job::Search { form, .. } | Job::Follow { form, .. } => {
+            is_assembly(form)
+        }
         Job::Check { .. }
         | Job::Compile { .. }
         | Job::List { .. }
         | Job::Run { .. }
-        | Job::Exec { .. }
         | Job::Replay { .. }
         | Job::Explain { .. }
         | Job::Emit { .. }
@@ -265,7 +265,7 @@ fn answer_of<'a, R: AllocGlobal + Threads + Wait + Sync, P: Progress>(
             answer_list(alloc, text.bytes, source, second, hints, told)
         }
         Job::Run { options, page, .. } => answer_run(rt, text, options, page, told),
-        Job::Exec { options, .. } => answer_exec(rt, text.bytes, options),
+        Job::Exec { form, options, .. } => answer_exec(rt, text.bytes, form, options),
         Job::Replay {
             by,
             trace,
@@ -292,20 +292,20 @@ fn answer_of<'a, R: AllocGlobal + Threads + Wait + Sync, P: Progress>(
         Job::Fmt { check, .. } => answer_fmt(alloc, text, check),
         Job::Follow {
             form,
+            by,
             trace,
-            log,
             ..
-        } => answer_follow(alloc, text, second, form, trace, log),
+        } => answer_follow(alloc, text, second, form, by, trace),
         Job::Search {
             form,
             states,
             strays,
             kills,
-            schedule,
+            files,
             ..
         } => {
             let outside = ImageOutside { strays, kills };
-            answer_search(alloc, text, form, states, outside, schedule, told, progress)
+            answer_search(alloc, text, form, states, outside, files, told, progress)
         }
         Job::Explore {
             states,

@@ -81,14 +81,17 @@ pub fn overwrites(job: &Job<'_>) -> bool
             ..
         } => is_twice(Some(file), None, options.log, page),
         Job::Assemble { file, out, .. } => is_twice(Some(file), None, Some(out), None),
-        Job::Search { file, schedule, .. } => is_twice(Some(file), None, schedule, None),
-        Job::Follow {
-            file,
-            schedule,
-            log,
-            ..
-        } => is_twice(Some(file), Some(schedule), log, None),
-        Job::Exec { image, options } => is_twice(Some(image), None, options.log, None),
+        Job::Search { file, files, .. } => {
+            draws_over(
+                Some(file),
+                None,
+                files.chart,
+                files.timeline,
+                files.schedule,
+            )
+        }
+        Job::Follow { file, by, .. } => replay_overwrites(file, by, None),
+        Job::Exec { image, options, .. } => is_twice(Some(image), None, options.log, None),
         Job::Replay { file, by, page, .. } => replay_overwrites(file, by, page),
         Job::Explain {
             file,

@@ -1,3 +1,5 @@
+use Rattle.std.proofs.Common.{List, ℕ, Option, Bor, None, subst}
+use Rattle.answers.specs.Answers.{TellsReport}
 use Rattle.answers.proofs.Told.{no_memory_left, ok_so}
 use Rattle.answers.proofs.following.follow_image.Goals as goal
 
@@ -7,7 +9,8 @@ returns-clause-done c =
     (λ a tells. record {
       report = c.in_ok-report.report;
       followed = c.in_ok-report.ensures.report;
-      tells = tells;
+      tells = subst (λ (log : Option (Bor (List ℕ))). TellsReport c.in_ok-report.report c.args.trace log None a)
+          c.log_beside-log.ensures tells;
     }) c.of_report.ensures.told
 
 pub returns-clause-refused : goal.returns-clause-refused

@@ -1,4 +1,4 @@
-use Rattle.answers.proofs.Told.{no_memory, ok_so}
+use Rattle.answers.proofs.Told.{no_memory_left, ok_so}
 use Rattle.answers.proofs.running.exec_image.Goals as goal
 
 pub returns-in-Ok-clause-done : goal.returns-in-Ok-clause-done
@@ -7,4 +7,4 @@ returns-in-Ok-clause-done g c =
     c.of_report.ensures.told
 
 pub returns-in-Ok-clause-refused : goal.returns-in-Ok-clause-refused
-returns-in-Ok-clause-refused g c = no_memory _ _ c.of_report.ensures.failed
+returns-in-Ok-clause-refused g c = no_memory_left c.of_report.result _ _ c.of_report.ensures.failed

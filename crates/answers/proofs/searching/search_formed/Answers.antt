@@ -10,5 +10,6 @@ returns-clause-done g c =
       searched = c.in_ok-found.ensures.searched;
       never = says_never c.args.formed.now.image c.args.outside c.in_ok-found.found.ending
           c.in_ok-found.ensures.never_stuck c.in_ok-found.ensures.never_fails c.in_ok-found.ensures.never_breaks;
+      slept = c.in_ok-found.ensures.sleeping;
       tells = tells;
     }) c.found_answer.ensures.told

@@ -17,4 +17,4 @@ returns-in_err-options-clause-none c =
 pub returns-clause-job : goal.returns-clause-job
 returns-clause-job c =
     let name = first_value-rows (found_of c.args.matches.now) (codes "IMAGE") in
-    (search rules, search rules)
+    (search rules, c.image_form_of-form.ensures, c.in_ok-options.ensures.options)

@@ -1,4 +1,4 @@
-use Rattle.std.proofs.Common.{rules, codes, inl, inr, refl, sym, ◌∙◌}
+use Rattle.std.proofs.Common.{rules, codes, inl, inr, refl}
 use Rattle.clap.proofs.WalkLemmas.{first_value-rows, one_text-rows}
 use Rattle.clap.specs.Words.{found_of}
 use Rattle.clap.specs.Walk.{rows_of}
@@ -25,14 +25,13 @@ returns-clause-job c =
     let found = found_of c.args.matches.now in
     let file = first_value-rows found (codes "FILE") in
     let strays = one_text-rows found (codes "strays") in
-    let schedule = first_value-rows found (codes "schedule") in
     let hints = one_text-rows found (codes "hints") in (
       search rules,
       c.requires,
       c.in_ok-states.ensures.number,
       (search rules, search rules),
       c.in_ok-kills.ensures.number,
-      sym schedule ∙ sym c.get_str-schedule.ensures,
+      c.search_files_of-files.ensures,
       search rules,
       (search rules, search rules),
     )

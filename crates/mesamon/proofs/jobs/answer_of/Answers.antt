@@ -34,7 +34,8 @@ pub returns-in-Exec-clause-done : goal.returns-in-Exec-clause-done
 returns-in-Exec-clause-done g c = done_as _ _ _ _ _ c.in-Exec.is c.answer_exec.ensures.done
 
 pub returns-in-Exec-clause-refused : goal.returns-in-Exec-clause-refused
-returns-in-Exec-clause-refused g c = refused_as _ _ _ _ _ c.in-Exec.is c.answer_exec.ensures.refused
+returns-in-Exec-clause-refused g c =
+    unassembled_as _ _ _ _ _ _ c.in-Exec.is (λ e h. h) c.answer_exec.ensures.refused
 
 pub returns-in-Replay-clause-done : goal.returns-in-Replay-clause-done
 returns-in-Replay-clause-done g c = done_as _ _ _ _ _ c.in-Replay.is c.answer_replay.ensures.done
