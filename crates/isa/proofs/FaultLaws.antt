@@ -10,7 +10,7 @@ use Rattle.isa.specs.declared.fault.DecodeFault.TheVariants.{BadMagic, Version, 
 use Rattle.isa.specs.declared.fault.DecodeFault.TheVariants.{Limit, Memory}
 use Rattle.isa.specs.FirstFault.{IsOfAByte, IsFirstFault}
 use Rattle.isa.specs.Programs.{Program}
-use Rattle.isa.specs.Spelling.{IsSpelled, spelling}
+use Rattle.isa.specs.Spelling.{HasByte, IsSpelled, spelling}
 use Rattle.isa.specs.Reading.{◌>>=◌, fixed_at, image_at, stays_inside, at_end, program_of}
 use Rattle.isa.proofs.Parts.{chosen}
 use Rattle.isa.proofs.ProgramLaws.{program_again}
@@ -66,12 +66,12 @@ program-stays : (a more : List ℕ) (e : DecodeFault) → IsOfAByte e → progra
 unfolding program_of
 program-stays a more e byte is = stays (image_at a) (image_at (a ++ more)) more e (image-stands a more) byte is
 
-pub short_beginning : (p : Program) (front : List ℕ) (b : ℕ) (behind : List ℕ) → IsSpelled p → spelling p ≡ front ++
-    b ∷ behind → program_of front ≡ Err Short
-short_beginning p front b behind is parts =
+pub short_beginning : (p : Program) (front : List ℕ) (b : ℕ) (behind : List ℕ) → HasByte p.version → IsSpelled p
+    → spelling p ≡ front ++ b ∷ behind → program_of front ≡ Err Short
+short_beginning p front b behind has is parts =
     elim (program-later front b behind) [
       | inl short ↦ short
-      | inr w ↦ let both : Ok p ≡ Err w.0 = sym (program_again p is) ∙ ap program_of parts ∙ w.1 in absurd cc
+      | inr w ↦ let both : Ok p ≡ Err w.0 = sym (program_again p has is) ∙ ap program_of parts ∙ w.1 in absurd cc
     ]
 
 -- where these are the first bytes of what has a fault of a byte

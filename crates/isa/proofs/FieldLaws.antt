@@ -25,7 +25,7 @@ use Rattle.isa.specs.Numbers.{number}
 use Rattle.isa.specs.Opcodes.{row_of, process_words, faults, slot_of, plain_opcodes, Form, with_one, with_two}
 use Rattle.isa.specs.Opcodes.{place_opcodes, operand_opcodes, opcode}
 use Rattle.words.specs.declared.version.ImageVersion.{ImageVersion}
-use Rattle.words.specs.declared.version.ImageVersion.TheVariants.{One, Two}
+use Rattle.words.specs.declared.version.ImageVersion.TheVariants.{One, Two, Linux}
 use Rattle.words.specs.declared.outcome.Fault.{Fault}
 use Rattle.words.specs.declared.outcome.Fault.TheVariants.{ResultOutOfRange, DivisionByZero, IndexOutOfRange}
 use Rattle.words.specs.declared.outcome.Fault.TheVariants.{HandleNotJoinable, ProcessTableFull, AbortStatement}
@@ -34,7 +34,7 @@ use Rattle.words.specs.declared.process.ProcessWord.{ProcessWord}
 use Rattle.words.specs.declared.process.ProcessWord.TheVariants.{Head, Pending, Id, Claim, Result, Outcome}
 use Rattle.words.specs.Outcomes.{fault_number}
 use Rattle.words.specs.Process.{number_of}
-use Rattle.isa.specs.Spelling.{version, numbers, instruction, instructions, monitor_table, code_table, AreWords}
+use Rattle.isa.specs.Spelling.{HasByte, version, numbers, instruction, instructions, monitor_table, code_table, AreWords}
 use Rattle.isa.specs.Reading.{◌>>=◌, fixed_at, version_at, number_at, limited_at, numbers_at, monitors_at, made_at}
 use Rattle.isa.specs.Reading.{operands_at, behind_opcode, instruction_at, instructions_at, code_at}
 use Rattle.isa.proofs.NumberLaws.{groups_take, groups_again}
@@ -93,10 +93,24 @@ version_takes (b ∷ bytes) x fits e =
           rest_fits = IsBytes-rest b bytes fits;
         })
 
-pub version_again : (v : ImageVersion) (rest : List ℕ) → version_at (version v ++ rest) ≡ Ok (v, rest)
+-- a version that was read has a byte
+pub version_written : (bytes : List ℕ) (x : ImageVersion × List ℕ) → version_at bytes ≡ Ok x → HasByte x.0
 unfolding version_at
-version_again One rest = refl
-version_again Two rest = refl
+version_written [] x e = absurd cc
+version_written (b ∷ bytes) x e =
+    elim (chosen (eqb b 1) (Ok (One, bytes)) (cond (eqb b 2) (Ok (Two, bytes)) (Err Version)) (Ok x) e) [
+      | inl w ↦ subst (λ (y : ImageVersion × List ℕ). HasByte y.0) (ok_is (One, bytes) x w.1) tt
+      | inr w ↦ elim (chosen (eqb b 2) (Ok (Two, bytes)) (Err Version) (Ok x) w.1) [
+        | inl v ↦ subst (λ (y : ImageVersion × List ℕ). HasByte y.0) (ok_is (Two, bytes) x v.1) tt
+        | inr v ↦ absurd (cc (v.1))
+      ]
+    ]
+
+pub version_again : (v : ImageVersion) (rest : List ℕ) → HasByte v → version_at (version v ++ rest) ≡ Ok (v, rest)
+unfolding version_at
+version_again One rest has = refl
+version_again Two rest has = refl
+version_again Linux rest has = absurd has
 
 -- ---- a number up to a limit
 

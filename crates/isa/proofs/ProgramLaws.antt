@@ -9,13 +9,17 @@ use Rattle.isa.specs.Limits.{most_monitors, most_member_words, most_instructions
 use Rattle.isa.specs.declared.fault.DecodeFault.{DecodeFault}
 use Rattle.isa.specs.declared.fault.DecodeFault.TheVariants.{BadMagic, Version, Short, BadInstr, BadTarget, Trailing}
 use Rattle.isa.specs.declared.fault.DecodeFault.TheVariants.{Limit, Memory}
+use Rattle.words.specs.declared.version.ImageVersion.{ImageVersion}
+use Rattle.words.specs.declared.version.ImageVersion.TheVariants.{One, Two, Linux}
 use Rattle.isa.specs.Numbers.{number}
 use Rattle.isa.specs.Instructions.{operands, IsInstruction}
 use Rattle.isa.specs.Programs.{Program, IsProgram}
-use Rattle.isa.specs.Spelling.{AreWords, magic, version, monitor_table, code_table, spelling, IsSpelled}
+use Rattle.isa.specs.Spelling.{AreWords, HasByte, magic, version, monitor_table, code_table, spelling}
+use Rattle.isa.specs.Spelling.{IsSpelled}
 use Rattle.isa.specs.Reading.{◌>>=◌, Gives, fixed_at, version_at, number_at, monitors_at, code_at, image_at, stays_inside}
 use Rattle.isa.specs.Reading.{at_end, program_of}
-use Rattle.isa.proofs.FieldLaws.{number_takes, number_again, fixed_takes, fixed_again, version_takes, version_again}
+use Rattle.isa.proofs.FieldLaws.{number_takes, number_again, fixed_takes, fixed_again, version_takes, version_written}
+use Rattle.isa.proofs.FieldLaws.{version_again}
 use Rattle.isa.proofs.FieldLaws.{monitors_take, monitors_bound, monitors_again, code_takes, code_bound, code_limit}
 use Rattle.isa.proofs.FieldLaws.{code_again}
 use Rattle.isa.proofs.TargetLaws.{lies, lies_again}
@@ -37,6 +41,7 @@ nothing_left bytes text rest parts none = sym (parts ∙ ap (λ (left : List ℕ
 
 -- what was read, but for the start and the targets
 record IsShort (p : Program) : Type 0 where
+  written : HasByte p.version
   few_monitors : length p.monitors ≤ most_monitors
   few_members : sum p.monitors ≤ most_member_words
   short : length p.code ≤ most_instructions
@@ -73,6 +78,7 @@ image_takes bytes x fits e =
     let few = monitors_bound b.0.1 m.0 m.1 in
     is_read bytes (record { version = b.0.0; monitors = m.0.0; start = s.0.0; code = i.0.0 }, i.0.1) x i.2 to4
     (record {
+      written = version_written a.0 b.0 b.1;
       few_monitors = few.0;
       few_members = few.1;
       short = code_bound s.0.1 i.0 i.1;
@@ -85,8 +91,8 @@ image_takes bytes x fits e =
     is_read bytes made x same taken short = subst (λ (y : Program × List ℕ). Takes bytes (spelling y.0) y.1 × IsShort
         y.0) (ok_is made x same) (taken, short)
 
-pub program_takes : (bytes : List ℕ) (p : Program) → IsBytes bytes → program_of bytes ≡ Ok p → IsSpelled p
-    × (spelling p ≡ bytes)
+pub program_takes : (bytes : List ℕ) (p : Program) → IsBytes bytes → program_of bytes ≡ Ok p
+    → HasByte p.version × IsSpelled p × (spelling p ≡ bytes)
 unfolding program_of
 program_takes bytes p fits e =
     let a = bind_ok (image_at bytes) (λ image. at_end image.0 image.1) p e in
@@ -102,15 +108,15 @@ program_takes bytes p fits e =
       instructions = t.1.instructions;
       targets = inside.1;
     } in
-    subst (λ (q : Program). IsSpelled q × (spelling q ≡ bytes)) last.2
-    (record { within = within; words = t.1.words }, whole)
+    subst (λ (q : Program). HasByte q.version × IsSpelled q × (spelling q ≡ bytes)) last.2
+    (t.1.written, record { within = within; words = t.1.words }, whole)
 
 regrouped : (v m s c rest : List ℕ) → magic ++ v ++ m ++ s ++ c ++ rest ≡ magic ++ (v ++ (m ++ (s ++ (c ++ rest))))
 regrouped v m s c rest = simp append_assoc
 
-pub image_again : (p : Program) (rest : List ℕ) → IsSpelled p → image_at (spelling p ++ rest) ≡ Ok (p, rest)
+pub image_again : (p : Program) (rest : List ℕ) → HasByte p.version → IsSpelled p → image_at (spelling p ++ rest) ≡ Ok (p, rest)
 unfolding image_at
-image_again p rest is =
+image_again p rest has is =
     let code : code_at (code_table p.code ++ rest) ≡ Ok (p.code, rest) = code_again p.code rest is.within.short
     is.words is.within.instructions in
     let start : number_at (number p.start ++ (code_table p.code ++ rest)) ≡ Ok (
@@ -126,22 +132,22 @@ image_again p rest is =
     (version p.version) (monitor_table p.monitors) (number p.start) (code_table p.code) rest in
     ap image_at apart ∙ rw (
       fixed_again magic BadMagic (version p.version ++ behind),
-      version_again p.version behind,
+      version_again p.version behind has,
       monitors,
       start,
       code,
     ) refl
 
-pub program_again : (p : Program) → IsSpelled p → program_of (spelling p) ≡ Ok p
+pub program_again : (p : Program) → HasByte p.version → IsSpelled p → program_of (spelling p) ≡ Ok p
 unfolding program_of
-program_again p is =
-    let read : image_at (spelling p) ≡ Ok (p, []) = ap image_at (sym (append-nil (spelling p))) ∙ image_again p [] is in
+program_again p has is =
+    let read : image_at (spelling p) ≡ Ok (p, []) = ap image_at (sym (append-nil (spelling p))) ∙ image_again p [] has is in
     rw read (rw (lies_again p is.within) refl)
 
 -- ---- what decoding answers
 
 pub is_found : (bytes : List ℕ) (r : Result Program DecodeFault) → IsBytes bytes → Gives (λ p. p) r
-    (program_of bytes) → IfOk r (λ p. IsSpelled p × (spelling p ≡ bytes))
+    (program_of bytes) → IfOk r (λ p. HasByte p.version × IsSpelled p × (spelling p ≡ bytes))
 is_found bytes (Ok p) fits given = program_takes bytes p fits given
 is_found bytes (Err e) fits given = tt
 
@@ -156,11 +162,57 @@ is_memory Limit h = absurd (h (λ e. absurd cc))
 is_memory Memory h = refl
 
 pub is_only : (bytes : List ℕ) (r : Result Program DecodeFault) → Gives (λ p. p) r (program_of bytes) → (p : Program)
-    → IsSpelled p → spelling p ≡ bytes → MatchResult r (λ i. i ≡ p) (λ e. e ≡ Memory)
-is_only bytes (Ok i) given p is same = ok_is i p (sym given ∙ ap program_of (sym same) ∙ program_again p is)
-is_only bytes (Err e) given p is same = is_memory e (λ other. let both : Err e ≡ Ok p = sym (given other)
-    ∙ ap program_of (sym same) ∙ program_again p is in absurd cc)
+    → HasByte p.version → IsSpelled p → spelling p ≡ bytes → MatchResult r (λ i. i ≡ p) (λ e. e ≡ Memory)
+is_only bytes (Ok i) given p has is same = ok_is i p (sym given ∙ ap program_of (sym same) ∙ program_again p has is)
+is_only bytes (Err e) given p has is same = is_memory e (λ other. let both : Err e ≡ Ok p = sym (given other)
+    ∙ ap program_of (sym same) ∙ program_again p has is in absurd cc)
 
 -- an image has one spelling
-pub one_program : (p q : Program) → IsSpelled p → IsSpelled q → spelling p ≡ spelling q → p ≡ q
-one_program p q is also same = ok_is p q (sym (program_again p is) ∙ ap program_of same ∙ program_again q also)
+pub one_program : (p q : Program) → HasByte p.version → HasByte q.version → IsSpelled p → IsSpelled q
+    → spelling p ≡ spelling q → p ≡ q
+one_program p q has too is also same =
+    ok_is p q (sym (program_again p has is) ∙ ap program_of same ∙ program_again q too also)
+
+-- the same program as one of version two, which has as many limits, and the bytes of the layout without a byte
+as_two : Program → Program
+as_two p = record p { version = Two }
+
+spelled_two : (p : Program) → IsSpelled p → IsSpelled (as_two p)
+unfolding as_two
+spelled_two p is = record {
+  within = record {
+    few_monitors = is.within.few_monitors;
+    few_members = is.within.few_members;
+    short = is.within.short;
+    starts = is.within.starts;
+    instructions = is.within.instructions;
+    targets = is.within.targets;
+  };
+  words = is.words;
+}
+
+bytes_two : (p : Program) → p.version ≡ Linux → spelling (as_two p) ≡ spelling p
+unfolding as_two
+bytes_two p linux = ap (λ (v : ImageVersion). magic ++ version v ++ monitor_table p.monitors ++ number p.start
+    ++ code_table p.code) (sym linux)
+
+-- an image of any version has bytes that no other of that version has
+pub same_program : (p q : Program) → p.version ≡ q.version → IsSpelled p → IsSpelled q → spelling p ≡ spelling q
+    → p ≡ q
+unfolding as_two
+same_program p q versions is also same = of_version p.version refl
+  where
+    of_version : (v : ImageVersion) → p.version ≡ v → p ≡ q
+    of_version One so = one_program p q (subst HasByte (sym so) tt) (subst HasByte (sym (sym versions ∙ so)) tt) is
+        also same
+    of_version Two so = one_program p q (subst HasByte (sym so) tt) (subst HasByte (sym (sym versions ∙ so)) tt) is
+        also same
+    of_version Linux so =
+        let e : as_two p ≡ as_two q = one_program (as_two p) (as_two q) tt tt (spelled_two p is) (spelled_two q also)
+        (bytes_two p so ∙ same ∙ sym (bytes_two q (sym versions ∙ so))) in
+        λ i. record {
+          version = versions i;
+          monitors = ap (λ (r : Program). r.monitors) e i;
+          start = ap (λ (r : Program). r.start) e i;
+          code = ap (λ (r : Program). r.code) e i;
+        }

@@ -2,7 +2,7 @@
 use Rattle.std.specs.Prelude.{ℕ, ◌<◌, ◌^◌, List, [], ◌∷◌, ◌++◌, length}
 use Rattle.std.specs.List.{flat_map, AllByRecursion}
 use Rattle.words.specs.declared.version.ImageVersion.{ImageVersion}
-use Rattle.words.specs.declared.version.ImageVersion.TheVariants.{One, Two}
+use Rattle.words.specs.declared.version.ImageVersion.TheVariants.{One, Two, Linux}
 use Rattle.isa.specs.declared.instr.Instr.{Instr}
 use Rattle.isa.specs.Numbers.{number}
 use Rattle.isa.specs.Instructions.{operands}
@@ -13,10 +13,17 @@ use Rattle.isa.specs.Programs.{Program, IsProgram}
 abbrev pub magic : List ℕ
 magic = 0x4d ∷ 0x46 ∷ 0x55 ∷ 0x54 ∷ []
 
--- the byte of a version
+-- a version that has a byte of its own
+abbrev pub HasByte : ImageVersion → Type 0
+HasByte One = Unit {0}
+HasByte Two = Unit {0}
+HasByte Linux = ⊥
+
+-- the byte of a version; an image of the layout without one is written as one of version two
 abbrev pub version : ImageVersion → List ℕ
 version One = 0x01 ∷ []
 version Two = 0x02 ∷ []
+version Linux = 0x02 ∷ []
 
 -- numbers, one after another
 abbrev pub numbers : List ℕ → List ℕ

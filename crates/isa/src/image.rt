@@ -118,6 +118,13 @@ impl Image {
         self.code.get(place as usize).copied()
     }
 
+    /// The same program as an image of another version.
+    pub fn as_version(self, version: ImageVersion) -> Image
+        ensures { result ≡ record self { version = version } }
+    {
+        Image { version, ..self }
+    }
+
     /// A copy.
     pub fn copy(&self, alloc: Global) -> Result<Image, AllocError>
         ensures { IfOk result (λ i. i ≡ self.now) }

@@ -5,7 +5,7 @@ ghost use Rattle.isa.specs.Programs.{Program};
 ghost use Rattle.isa.specs.Reading.{Gives, fixed_at, version_at, number_at, limited_at, numbers_at, monitors_at};
 ghost use Rattle.isa.specs.Reading.{operands_at, instruction_at, instructions_at, code_at, program_of};
 ghost use Rattle.isa.specs.Reading as Reading;
-ghost use Rattle.isa.specs.Spelling.{IsSpelled, spelling};
+ghost use Rattle.isa.specs.Spelling.{HasByte, IsSpelled, spelling};
 
 use crate::fault::DecodeFault;
 use crate::format::{MAGIC, VERSION_ONE, VERSION_TWO};
@@ -338,9 +338,9 @@ fn image(alloc: Global, bytes: &[u8]) -> Result<Image, DecodeFault>
 /// is tested at the last byte of its number. After the last instruction comes `Trailing`, then `BadTarget`.
 pub fn decode(alloc: Global, bytes: &[u8]) -> Result<Image, DecodeFault>
     // What is read is spelled so.
-    ensures found { IfOk result (λ i. IsSpelled i × (spelling i ≡ bytes.now)) }
+    ensures found { IfOk result (λ i. HasByte i.version × IsSpelled i × (spelling i ≡ bytes.now)) }
     // What is spelled so is read, unless memory runs out.
-    ensures only { (p : Program) → IsSpelled p → spelling p ≡ bytes.now
+    ensures only { (p : Program) → HasByte p.version → IsSpelled p → spelling p ≡ bytes.now
         → MatchResult result (λ i. i ≡ p) (λ e. e ≡ DecodeFault.Memory) }
     // Which fault it is.
     ensures exact { Gives (λ i. i) result (program_of bytes.now) }

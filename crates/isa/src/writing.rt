@@ -15,7 +15,7 @@ fn put_version(out: &mut Vec<u8>, version: ImageVersion) -> Result<(), AllocErro
 {
     match version {
         ImageVersion::One => out.push(VERSION_ONE)?,
-        ImageVersion::Two => out.push(VERSION_TWO)?,
+        ImageVersion::Two | ImageVersion::Linux => out.push(VERSION_TWO)?,
     }
     Ok(())
 }
@@ -65,7 +65,7 @@ fn put_instructions(out: &mut Vec<u8>, code: &[Instr]) -> Result<(), AllocError>
     Ok(())
 }
 
-/// The one spelling of an image. Each image has one.
+/// The one spelling of an image. Each image has one. One of the layout `Linux`, which has no byte, is written as of version two.
 pub fn encode(alloc: Global, image: &Image) -> Result<Vec<u8>, AllocError>
     ensures spelled { IsSpelled image.now }
     ensures bytes { IfOk result (λ bytes. bytes.items ≡ spelling image.now) }

@@ -3,13 +3,16 @@ ghost use Rattle.words.specs.Limits.{most_threads};
 ghost use Rattle.words.specs.Process.{process_word};
 ghost use Rattle.words.specs.Versions.{most_of, base_of, IsProcess};
 
-/// The version of an image, which says how many processes there can be, and so where the words of its monitors begin.
+/// The version of an image, which says how many processes there can be, and so where the words of its monitors begin. It
+/// also says how locks are given up and whom the exit of a thread wakes.
 #[derive(Clone, Copy, PartialEq, Eq, PartialOrd, Ord, Debug, Hash)]
 pub enum ImageVersion {
     /// 64 processes, monitors from word 385.
     One,
     /// 1,000 processes, monitors from word 6,001.
     Two,
+    /// The layout of version two, with a release and an exit as Linux has them (from 6.2 on). No image in bytes is of it.
+    Linux,
 }
 
 impl ImageVersion {
@@ -19,7 +22,7 @@ impl ImageVersion {
     {
         match self {
             ImageVersion::One => 64,
-            ImageVersion::Two => 1000,
+            ImageVersion::Two | ImageVersion::Linux => 1000,
         }
     }
 

@@ -5,4 +5,4 @@ pub returns-clause-first : goal.returns-clause-first
 returns-clause-first c = λ bytes fault byte is. first_fault bytes fault byte is
 
 pub returns-clause-short : goal.returns-clause-short
-returns-clause-short c = λ p front b behind is parts. short_beginning p front b behind is parts
+returns-clause-short c = λ p front b behind has is parts. short_beginning p front b behind has is parts
