@@ -22,13 +22,14 @@ use Rattle.futexcalls.specs.Progress.{PieceAnswer, Again, Acted, PieceProgress, 
 use Rattle.futexcalls.specs.Pieces.{after_lock, Acts}
 use Rattle.futexcalls.specs.PieceResults.{PieceSo, TakesSo, ComparesSo}
 use Rattle.robustexit.specs.RobustExit.{Shared, ExitStep, EntryStep, PendingStep, IsIdle}
-use Rattle.robustexit.specs.RobustExit.{IsPending, IsForeign, IsOwned, NoEntry, put}
+use Rattle.robustexit.specs.RobustExit.{IsPending, IsForeign, IsPassed, IsOwned, NoEntry, put}
 use Rattle.robustexit.specs.declared.phase.ExitPhase.{ExitPhase}
 use Rattle.robustexit.specs.declared.phase.ExitPhase.TheVariants.{Entry, Pending, ClearId, LastWake, Ended}
 use Rattle.locals.specs.Threads.{Thread, Exits}
 use Rattle.locals.specs.Looks.{Request, AskLoad, AskStore, AskSwap, AskCompareSwap, AskOr, AskAdd, AskFork, AskPrint}
 use Rattle.locals.specs.Looks.{AskWait, AskWake, AskRequeue, AskReturn, AskReturnValue, AskFault, Look, Goes, Asks}
 use Rattle.locals.specs.Looks.{Leaves, Breaks, Rests, look}
+use Rattle.robustexit.specs.ExitRules.{exit_of}
 use Rattle.machine.specs.declared.event.Event.{Event}
 use Rattle.machine.specs.declared.thread_set.ThreadSet.{ThreadSet}
 use Rattle.machine.specs.ThreadSets.{set_of, has, has_bit, IsMember, IsLeastFrom}
@@ -47,6 +48,7 @@ use Rattle.machine.proofs.Placing.{put-there, get_set_other}
 use Rattle.machine.proofs.Sets.{sets_so, none_set}
 use Rattle.machine.proofs.Sleeping.{placed, unplaced}
 use Rattle.machine.proofs.Stepping.{steps_so}
+use Rattle.robustexit.specs.declared.rule.ExitRule.{ExitRule}
 
 -- a thread that wasn't made can't move
 pub none_past : (k : ConcreteState) (t : ℕ) → length k.threads < t → can_move k t ≡ false
@@ -196,23 +198,26 @@ entry size t e before after woken (IsPending is h) = idles t before after woken 
 entry size t e before after woken (IsForeign other h) = idles t before after woken h
 entry size t e before after woken (IsOwned ne h) = wakes t _ _ before.asleep after.asleep woken h.wakes
 
-pending : (size t e : ℕ) (before after : Shared) (woken : List ℕ) → PendingStep size t e before woken after
+pending : (rule : ExitRule) (size t e : ℕ) (before after : Shared) (woken : List ℕ)
+    → PendingStep rule size t e before woken after
     → Rouses t before.asleep after.asleep woken
-pending size t e before after woken (NoEntry absent h) = idles t before after woken h
-pending size t e before after woken (IsForeign is other h) = wakes t _ _ before.asleep after.asleep woken h.wakes
-pending size t e before after woken (IsOwned is h) = wakes t _ _ before.asleep after.asleep woken h.wakes
+pending rule size t e before after woken (NoEntry absent h) = idles t before after woken h
+pending rule size t e before after woken (IsForeign is other so h) =
+    wakes t _ _ before.asleep after.asleep woken h.wakes
+pending rule size t e before after woken (IsPassed is other so h) = idles t before after woken h
+pending rule size t e before after woken (IsOwned is h) = wakes t _ _ before.asleep after.asleep woken h.wakes
 
-leaves : (size t : ℕ) (phase : ExitPhase) (before after : Shared) (woken : List ℕ) (next : ExitPhase)
-    → ExitStep size t phase before woken after next → Rouses t before.asleep after.asleep woken
-leaves size t (Entry e seen) before after woken next h = elim h [
+leaves : (rule : ExitRule) (size t : ℕ) (phase : ExitPhase) (before after : Shared) (woken : List ℕ) (next : ExitPhase)
+    → ExitStep rule size t phase before woken after next → Rouses t before.asleep after.asleep woken
+leaves rule size t (Entry e seen) before after woken next h = elim h [
   | inl here ↦ entry size t e.0 before after woken here.1
   | inr past ↦ idles t before after woken past.1
 ]
-leaves size t Pending before after woken next h = pending size t _ before after woken h.0
-leaves size t ClearId before after woken next h =
+leaves rule size t Pending before after woken next h = pending rule size t _ before after woken h.0
+leaves rule size t ClearId before after woken next h =
     still t before.asleep after.asleep woken h.0 (ap (λ (x : Shared). x.asleep) h.1)
-leaves size t LastWake before after woken next h = wakes t _ _ before.asleep after.asleep woken h.0.wakes
-leaves size t Ended before after woken next h = absurd h
+leaves rule size t LastWake before after woken next h = wakes t _ _ before.asleep after.asleep woken h.0.wakes
+leaves rule size t Ended before after woken next h = absurd h
 
 -- and its thread goes on
 goes_on : (s mid s' : State) (t : ℕ) (x : Thread) (woken : List ℕ) → Spares s mid t woken → s' ≡ with_thread mid t x
@@ -226,14 +231,15 @@ goes_on s mid s' t x woken h is =
       sleeps = subst (λ (f : ℕ → Option ℕ). Rouses t s.asleep f woken) (sym (ap (λ (y : State). y.asleep) is)) h.sleeps;
     }
 
-moves : (s s' : State) (t : ℕ) (woken : List ℕ) (l : Look) → Moves s t woken l s' → Spares s s' t woken
-moves s s' t woken (Goes x) h = goes_on s s s' t x woken (quiet s s s t woken h.0 refl refl refl refl) h.1
-moves s s' t woken (Asks request go) h =
+moves : (rule : ExitRule) (s s' : State) (t : ℕ) (woken : List ℕ) (l : Look) → Moves rule s t woken l s' → Spares s s' t woken
+moves rule s s' t woken (Goes x) h = goes_on s s s' t x woken (quiet s s s t woken h.0 refl refl refl refl) h.1
+moves rule s s' t woken (Asks request go) h =
     goes_on s h.1 s' t (go h.0) woken (serves t request s woken h.0 h.1 h.2) h.3
-moves s s' t woken (Leaves phase) h =
-    goes_on s _ s' t (Exits h.1) woken (sleeping s _ _ t woken h.0.asleep refl refl refl refl (leaves s.size t phase _ h.0 woken h.1 h.2)) h.3
-moves s s' t woken Breaks h = absurd h
-moves s s' t woken Rests h = absurd h
+moves rule s s' t woken (Leaves phase) h =
+    goes_on s _ s' t (Exits h.1) woken (sleeping s _ _ t woken h.0.asleep refl refl refl refl
+    (leaves rule s.size t phase _ h.0 woken h.1 h.2)) h.3
+moves rule s s' t woken Breaks h = absurd h
+moves rule s s' t woken Rests h = absurd h
 
 -- whether others can move
 same_can : (o o' : Option ℕ) (x x' : Option Thread) → is_some o' ≡ is_some o → x' ≡ x
@@ -304,7 +310,7 @@ pub shows_step : (p : Program) (k k' : ConcreteState) (t : ℕ) (e : Event) (old
 shows_step p k k' t e old new well done shows kept right =
     let s = steps_so p k k' t e well done in
     shows_after p k k' t s.0 e.woken old new well s.3
-    (moves (state_of k) (state_of k') t s.0 (look p t s.2.thread) s.2.moves) s.1 shows kept right
+    (moves (exit_of p.version) (state_of k) (state_of k') t s.0 (look p t s.2.thread) s.2.moves) s.1 shows kept right
 
 -- and where the step may be refused, which changes nothing
 pub shows_result : {A : Type 0} (p : Program) (k k' : ConcreteState) (t : ℕ) (r : Result A StepFault) (e : Event)

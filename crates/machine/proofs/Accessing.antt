@@ -11,6 +11,7 @@ use Rattle.locals.specs.Threads.{Thread, Runs, Dies, Exits}
 use Rattle.locals.specs.Looks.{Request, AskLoad, AskStore, AskSwap, AskCompareSwap, AskOr, AskAdd, AskFork, AskPrint}
 use Rattle.locals.specs.Looks.{AskWait, AskWake, AskRequeue, AskReturn, AskReturnValue, AskFault, Look, Goes, Asks}
 use Rattle.locals.specs.Looks.{Leaves, Breaks, Rests, look}
+use Rattle.robustexit.specs.declared.rule.ExitRule.{ExitRule}
 use Rattle.machine.specs.declared.event.Event.{Event}
 use Rattle.machine.specs.declared.event.EventName.TheVariants as name
 use Rattle.machine.specs.declared.event.StepFault.{StepFault}
@@ -90,13 +91,13 @@ goes made t c request go a None is h = absurd cc
 goes made t c request go a (Some f) is h =
     ap (go_on_with go) (found_serves made t c request f is) ∙ ap (stepped c) (same _ a h)
 
-pub accessing_steps : (made t : ℕ) (c : Common) (l : Look) (a : Accessing) → accessing l c.words ≡ Some a
-    → thread_step made t c l ≡ stepped c a
-accessing_steps made t c (Asks request go) a h = goes made t c request go a (found request c.words) refl h
-accessing_steps made t c (Goes x) a h = absurd cc
-accessing_steps made t c (Leaves phase) a h = absurd cc
-accessing_steps made t c Breaks a h = absurd cc
-accessing_steps made t c Rests a h = absurd cc
+pub accessing_steps : (rule : ExitRule) (made t : ℕ) (c : Common) (l : Look) (a : Accessing) → accessing l c.words ≡ Some a
+    → thread_step rule made t c l ≡ stepped c a
+accessing_steps rule made t c (Asks request go) a h = goes made t c request go a (found request c.words) refl h
+accessing_steps rule made t c (Goes x) a h = absurd cc
+accessing_steps rule made t c (Leaves phase) a h = absurd cc
+accessing_steps rule made t c Breaks a h = absurd cc
+accessing_steps rule made t c Rests a h = absurd cc
 
 -- who can move is awake
 awake_by : (o : Option ℕ) (x : Option Thread) → thread_can_move o x ≡ true → o ≡ None
@@ -113,7 +114,7 @@ access_steps v v' t e can m =
     let k = concrete v in
     ap (step_thread v.program k t) m.stands
     ∙ (ap (step_awake v.program k t m.origin) (awake k t can)
-    ∙ (ap (on_machine k t) (accessing_steps (length k.threads) t k.common (look v.program t m.origin) m.access m.makes)
+    ∙ (ap (on_machine k t) (accessing_steps _ (length k.threads) t k.common (look v.program t m.origin) m.access m.makes)
     ∙ (λ i. Ok (concrete (sym m.after i), sym m.told i))))
 
 -- a thread that hasn't ended can move as before

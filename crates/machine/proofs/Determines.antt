@@ -19,7 +19,7 @@ use Rattle.robustexit.specs.declared.phase.ExitPhase.{ExitPhase}
 use Rattle.robustexit.specs.declared.phase.ExitPhase.TheVariants.{Entry, Pending, ClearId, LastWake, Ended}
 use Rattle.robustexit.specs.Phases.{next_entry}
 use Rattle.robustexit.specs.RobustExit.{Shared, IsEntry, IsIdle, Abandons, WakesOne, EntryStep, PendingStep}
-use Rattle.robustexit.specs.RobustExit.{ExitStep, IsPending, IsForeign, IsOwned, NoEntry, put}
+use Rattle.robustexit.specs.RobustExit.{ExitStep, IsPending, IsForeign, IsPassed, IsOwned, NoEntry, put}
 use Rattle.robustexit.specs.Fronts.{shared_view, wake_word, TakesFront}
 use Rattle.robustexit.proofs.Steps.{word_of-set}
 use Rattle.machine.specs.ThreadSets.{IsThread}
@@ -30,6 +30,7 @@ use Rattle.machine.specs.RequestMeanings.{name_at, value_at}
 use Rattle.machine.specs.Views.{common_of}
 use Rattle.machine.proofs.Queues.{one_list, no_list}
 use Rattle.machine.proofs.Leaving.{entry_so, entry_test}
+use Rattle.robustexit.specs.declared.rule.ExitRule.{ExitRule}
 
 -- memories of one length with the same words are the same
 same_words : (ws ws' : List ℕ) → length ws' ≡ length ws → word_of ws' ≡ word_of ws → ws' ≡ ws
@@ -174,11 +175,12 @@ at_entry ws ws' s s' o t e seen next woken ok (IsOwned apart gone) takes long mo
     ∙ cond-false _ _ _ (or_from _ _ (ne_eqb _ _ apart) (ap not (eq-eqb _ _ gone.owned)))
     ∙ (λ i. record { common = m.common i; next = sym goes i; event = event_of name.Entry e (m.woke i) [] })
 
-at_pending : (ws ws' : List ℕ) (s s' : Sleepers) (o : List ℤ) (t e : ℕ) (woken : List ℕ)
-    → Agree (queue s) (place_of s) → PendingStep (length ws) t e (shared_view ws s) woken (shared_view ws' s')
+at_pending : (rule : ExitRule) (ws ws' : List ℕ) (s s' : Sleepers) (o : List ℤ) (t e : ℕ) (woken : List ℕ)
+    → Agree (queue s) (place_of s) → PendingStep rule (length ws) t e (shared_view ws s) woken
+    (shared_view ws' s')
     → TakesFront s s' (e + 1) woken → length ws' ≡ length ws → thread_count s' ≡ thread_count s
-    → leave_pending t e (common_of ws s o) ≡ left ws' s' o Pending ClearId e woken
-at_pending ws ws' s s' o t e woken ok (NoEntry out idle) takes long most =
+    → leave_pending rule t e (common_of ws s o) ≡ left ws' s' o Pending ClearId e woken
+at_pending rule ws ws' s s' o t e woken ok (NoEntry out idle) takes long most =
     cond-true _ _ _ (ap not (false_from_ne_true _ (λ h. out (entry_so (common_of ws s o) e h))))
     ∙ (λ i. record {
       common = sym (idle_is ws ws' s s' o (e + 1) woken idle takes long most) i;
@@ -186,11 +188,20 @@ at_pending ws ws' s s' o t e woken ok (NoEntry out idle) takes long most =
       event =
           event_of name.Pending e (sym idle.nobody i) [];
     })
-at_pending ws ws' s s' o t e woken ok (IsForeign entry other wakes) takes long most =
+at_pending rule ws ws' s s' o t e woken ok (IsForeign entry other so wakes) takes long most =
     let m = one_woken ws ws' s s' o (e + 1) woken ok wakes takes long most in
     cond-false _ _ _ (ap not (entry_test (common_of ws s o) e entry)) ∙ cond-false _ _ _ (ne_eqb _ _ other)
+    ∙ cond-true _ _ _ so
     ∙ (λ i. record { common = m.common i; next = ClearId; event = event_of name.Pending e (m.woke i) [] })
-at_pending ws ws' s s' o t e woken ok (IsOwned entry gone) takes long most =
+at_pending rule ws ws' s s' o t e woken ok (IsPassed entry other so idle) takes long most =
+    cond-false _ _ _ (ap not (entry_test (common_of ws s o) e entry)) ∙ cond-false _ _ _ (ne_eqb _ _ other)
+    ∙ cond-false _ _ _ so
+    ∙ (λ i. record {
+      common = sym (idle_is ws ws' s s' o (e + 1) woken idle takes long most) i;
+      next = ClearId;
+      event = event_of name.Pending e (sym idle.nobody i) [];
+    })
+at_pending rule ws ws' s s' o t e woken ok (IsOwned entry gone) takes long most =
     let m = marks ws ws' s s' o t (e + 1) woken ok gone takes long most entry.1 in
     cond-false _ _ _ (ap not (entry_test (common_of ws s o) e entry)) ∙ cond-true _ _ _ (eq-eqb _ _ gone.owned)
     ∙ (λ i. record { common = m.common i; next = ClearId; event = event_of name.Pending e (m.woke i) [] })
@@ -200,14 +211,14 @@ abbrev pub value_of : ℕ → ExitPhase → List ℕ → List ℕ → ℕ
 value_of t LastWake ws woken = length woken
 value_of t phase ws woken = value_at t phase ws
 
-pub left_is : (ws ws' : List ℕ) (s s' : Sleepers) (o : List ℤ) (t : ℕ) (phase next : ExitPhase) (woken : List ℕ)
+pub left_is : (rule : ExitRule) (ws ws' : List ℕ) (s s' : Sleepers) (o : List ℤ) (t : ℕ) (phase next : ExitPhase) (woken : List ℕ)
     → Agree (queue s) (place_of s) → process_word t 5 < length ws
-    → ExitStep (length ws) t phase (shared_view ws s) woken (shared_view ws' s') next
+    → ExitStep rule (length ws) t phase (shared_view ws s) woken (shared_view ws' s') next
     → TakesFront s s' (wake_word t phase (word_of ws)) woken → length ws' ≡ length ws
-    → thread_count s' ≡ thread_count s → leave t phase (common_of ws s o) ≡ left ws' s' o phase next (value_of t phase ws woken) woken
-left_is ws ws' s s' o t (Entry e seen) next woken ok block (inl r) takes long most =
+    → thread_count s' ≡ thread_count s → leave rule t phase (common_of ws s o) ≡ left ws' s' o phase next (value_of t phase ws woken) woken
+left_is rule ws ws' s s' o t (Entry e seen) next woken ok block (inl r) takes long most =
     at_entry ws ws' s s' o t e.0 seen next woken ok r.1 takes long most r.0 r.2
-left_is ws ws' s s' o t (Entry e seen) next woken ok block (inr r) takes long most =
+left_is rule ws ws' s s' o t (Entry e seen) next woken ok block (inr r) takes long most =
     cond-true _ _ _ (ap not (false_from_ne_true _ (λ h. r.0 (entry_so (common_of ws s o) e.0 h))))
     ∙ (λ i. record {
       common = sym (idle_is ws ws' s s' o (e.0 + 1) woken r.1 takes long most) i;
@@ -215,10 +226,10 @@ left_is ws ws' s s' o t (Entry e seen) next woken ok block (inr r) takes long mo
           sym r.2 i;
       event = event_of name.Entry e.0 (sym r.1.nobody i) [];
     })
-left_is ws ws' s s' o t Pending next woken ok block r takes long most =
-    at_pending ws ws' s s' o t (word_of ws (process_word t 1)) woken ok r.0 takes long most
+left_is rule ws ws' s s' o t Pending next woken ok block r takes long most =
+    at_pending rule ws ws' s s' o t (word_of ws (process_word t 1)) woken ok r.0 takes long most
     ∙ (λ i. left ws' s' o Pending (sym r.1 i) (word_of ws (process_word t 1)) woken)
-left_is ws ws' s s' o t ClearId next woken ok block r takes long most =
+left_is rule ws ws' s s' o t ClearId next woken ok block r takes long most =
     let words : ws' ≡ slice_set ws (process_word t 2) 0 =
     set_is ws ws' (process_word t 2) 0 long (omega (arith, block)) (ap (λ (x : Shared). x.word) r.1) in
     let queues : queue s' ≡ queue s = stays_list s s' (process_word t 2) woken takes r.0 in
@@ -228,7 +239,7 @@ left_is ws ws' s s' o t ClearId next woken ok block r takes long most =
       next = sym r.2 i;
       event = event_of name.Clear 0 (sym r.0 i) [];
     }
-left_is ws ws' s s' o t LastWake next woken ok block r takes long most =
+left_is rule ws ws' s s' o t LastWake next woken ok block r takes long most =
     let m = one_woken ws ws' s s' o (process_word t 2) woken ok r.0 takes long most in
     λ i. record {
       common = m.common i;
@@ -236,7 +247,7 @@ left_is ws ws' s s' o t LastWake next woken ok block r takes long most =
       event =
           event_of name.Last (length (m.woke i)) (m.woke i) [];
     }
-left_is ws ws' s s' o t Ended next woken ok block r takes long most = absurd r
+left_is rule ws ws' s s' o t Ended next woken ok block r takes long most = absurd r
 
 -- those woken are threads
 pub left_threads : (s s' : Sleepers) (a : ℕ) (woken : List ℕ) → Agree (queue s) (place_of s)

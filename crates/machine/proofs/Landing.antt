@@ -7,6 +7,7 @@ use Rattle.words.specs.Process.{process_word}
 use Rattle.isa.specs.Programs.{Program}
 use Rattle.locals.specs.Threads.{Thread}
 use Rattle.locals.specs.Looks.{Look}
+use Rattle.robustexit.specs.ExitRules.{exit_of}
 use Rattle.machine.specs.declared.event.Event.{Event}
 use Rattle.machine.specs.declared.event.StepFault.{StepFault}
 use Rattle.machine.specs.ThreadSets.{set_of}
@@ -21,7 +22,7 @@ use Rattle.machine.proofs.Keeping.{Holds}
 pub record Steps (p : Program) (k k' : ConcreteState) (t : ℕ) (e : Event) (l : Look) : Type 0 where
   pub woken : List ℕ
   pub set : e.woken ≡ set_of woken
-  pub moves : Moves (state_of k) t woken l (state_of k')
+  pub moves : Moves (exit_of p.version) (state_of k) t woken l (state_of k')
   pub concrete : IsWellFormed p k'
 
 -- the outcome of a step that is done

@@ -11,7 +11,7 @@ use Rattle.futexcalls.specs.FutexCalls.{IsChoice}
 use Rattle.robustexit.specs.declared.phase.ExitPhase.{ExitPhase}
 use Rattle.robustexit.specs.declared.phase.ExitPhase.TheVariants.{Entry, Pending, ClearId, LastWake, Ended}
 use Rattle.robustexit.specs.Phases.{next_entry}
-use Rattle.robustexit.specs.RobustExit.{IsEntry, Abandons, ExitStep, IsPending, IsForeign, IsOwned, NoEntry, put}
+use Rattle.robustexit.specs.RobustExit.{IsEntry, Abandons, ExitStep, IsPending, IsForeign, IsPassed, IsOwned, NoEntry, put}
 use Rattle.machine.specs.ThreadSets.{set_of}
 use Rattle.machine.specs.States.{Common, ConcreteState, state_of}
 use Rattle.machine.specs.AbstractServing.{shared_of}
@@ -23,16 +23,18 @@ use Rattle.machine.proofs.Placing.{words_put}
 use Rattle.futexcalls.proofs.Choices.{choice-front}
 use Rattle.machine.proofs.Keeping.{Holds, holds-concrete, holds-set, holds-woke}
 use Rattle.machine.proofs.Landing.{HasPlace}
+use Rattle.robustexit.specs.declared.rule.ExitRule.{ExitRule}
+use Rattle.robustexit.specs.ExitRules.{wakes}
 
 -- what a step of an exit leaves
-pub record Leaving (p : Program) (k : ConcreteState) (t : ℕ) (phase : ExitPhase) (l : Left) : Type 0 where
+pub record Leaving (rule : ExitRule) (p : Program) (k : ConcreteState) (t : ℕ) (phase : ExitPhase) (l : Left) : Type 0 where
   pub woken : List ℕ
   pub set : l.event.woken ≡ set_of woken
   pub word : ℕ → ℕ
   pub words : (b : ℕ) → slice_index l.common.words b ≡ word b
   pub holds : Holds p (length k.threads) l.common
   pub output : l.common.output ≡ k.common.output
-  pub step : ExitStep (length k.common.words) t phase (shared_of (state_of k)) woken
+  pub step : ExitStep rule (length k.common.words) t phase (shared_of (state_of k)) woken
       (record { word = word; asleep = l.common.asleep }) l.next
 
 both : (a b : Bool) → (a && b) ≡ true → (a ≡ true) × (b ≡ true)
@@ -124,10 +126,10 @@ abandoning p k t l concrete inside owned =
 idle : (p : Program) (k : ConcreteState) → IsWellFormed p k → Holds p (length k.threads) k.common
 idle p k concrete = holds-concrete p k concrete
 
-at_entry : (p : Program) (k : ConcreteState) (t e seen : ℕ) → IsWellFormed p k → HasPlace k t → (b : Bool)
+at_entry : (rule : ExitRule) (p : Program) (k : ConcreteState) (t e seen : ℕ) → IsWellFormed p k → HasPlace k t → (b : Bool)
     → is_entry k.common e ≡ b
     → (d : Bool) → (eqb (load k.common (process_word t 1)) e || not (eqb (owner_of (load k.common (e + 1))) t)) ≡ d
-    → Leaving p k t (Entry (record { 0 = e }) seen)
+    → Leaving rule p k t (Entry (record { 0 = e }) seen)
     (cond (not b) (record { common = k.common; next = Pending; event = plain name.Entry e })
     (cond d (record { common = k.common; next = next_entry (load k.common e) (seen + 1); event = plain name.Entry e })
     (record {
@@ -136,7 +138,7 @@ at_entry : (p : Program) (k : ConcreteState) (t e seen : ℕ) → IsWellFormed p
       event =
           event_of name.Entry e (abandon_wakes k.common (e + 1)) [];
     })))
-at_entry p k t e seen concrete place false is d so = record {
+at_entry rule p k t e seen concrete place false is d so = record {
   woken = [];
   set = refl;
   word = λ b. slice_index k.common.words b;
@@ -145,7 +147,7 @@ at_entry p k t e seen concrete place false is d so = record {
   output = refl;
   step = inr (no_entry_so k.common e is, record { nobody = refl; same = refl }, refl);
 }
-at_entry p k t e seen concrete place true is true so = record {
+at_entry rule p k t e seen concrete place true is true so = record {
   woken = [];
   set = refl;
   word = λ b. slice_index k.common.words b;
@@ -161,7 +163,7 @@ at_entry p k t e seen concrete place true is true so = record {
     refl,
   );
 }
-at_entry p k t e seen concrete place true is false so =
+at_entry rule p k t e seen concrete place true is false so =
     let i = entry_so k.common e is in
     let q = or_parts _ _ so in
     let owned : owner_of (load k.common (e + 1)) ≡ t = owner _ q.1 in
@@ -180,23 +182,24 @@ at_entry p k t e seen concrete place true is false so =
         not_not true g = refl
         not_not false g = absurd cc
 
-at_pending : (p : Program) (k : ConcreteState) (t e : ℕ) → IsWellFormed p k → HasPlace k t
+at_pending : (rule : ExitRule) (p : Program) (k : ConcreteState) (t e : ℕ) → IsWellFormed p k → HasPlace k t
     → load k.common (process_word t 1) ≡ e → (b : Bool) → is_entry k.common e ≡ b
     → (d : Bool) → eqb (owner_of (load k.common (e + 1))) t ≡ d
-    → Leaving p k t Pending (cond (not b) (record { common = k.common; next = ClearId; event = plain name.Pending e })
+    → (w : Bool) → wakes rule (load k.common (e + 1)) ≡ w
+    → Leaving rule p k t Pending (cond (not b) (record { common = k.common; next = ClearId; event = plain name.Pending e })
     (cond d (record {
       common = abandon k.common (e + 1);
       next = ClearId;
       event =
           event_of name.Pending e (abandon_wakes k.common (e + 1)) [];
     })
-    (record {
+    (cond w (record {
       common = wake_front k.common (e + 1) 1;
       next = ClearId;
       event =
           event_of name.Pending e (front k.common (e + 1) 1) [];
-    })))
-at_pending p k t e concrete place named false is d so = record {
+    }) (record { common = k.common; next = ClearId; event = plain name.Pending e }))))
+at_pending rule p k t e concrete place named false is d so w how = record {
   woken = [];
   set = refl;
   word = λ b. slice_index k.common.words b;
@@ -205,7 +208,7 @@ at_pending p k t e concrete place named false is d so = record {
   output = refl;
   step = (rw named (NoEntry (no_entry_so k.common e is) (record { nobody = refl; same = refl })), refl);
 }
-at_pending p k t e concrete place named true is true so =
+at_pending rule p k t e concrete place named true is true so w how =
     let i = entry_so k.common e is in
     let a = abandoning p k t (e + 1) concrete i.1 (eqb-true _ _ so) in record {
       woken = abandon_wakes k.common (e + 1);
@@ -216,7 +219,7 @@ at_pending p k t e concrete place named true is true so =
       output = a.output;
       step = (rw named (IsOwned i a.step), refl);
     }
-at_pending p k t e concrete place named true is false so =
+at_pending rule p k t e concrete place named true is false so true how =
     let i = entry_so k.common e is in record {
       woken = front k.common (e + 1) 1;
       set = refl;
@@ -225,7 +228,7 @@ at_pending p k t e concrete place named true is false so =
       holds = holds-woke _ _ k.common (e + 1) 1 (holds-concrete p k concrete);
       output = refl;
       step = (
-        rw named (IsForeign i (λ o. both_ways _ so (eq-eqb _ _ o))
+        rw named (IsForeign i (λ o. both_ways _ so (eq-eqb _ _ o)) how
             (record {
               same = refl;
               wakes =
@@ -238,19 +241,32 @@ at_pending p k t e concrete place named true is false so =
         refl,
       );
     }
+at_pending rule p k t e concrete place named true is false so false how =
+    let i = entry_so k.common e is in record {
+      woken = [];
+      set = refl;
+      word = λ b. slice_index k.common.words b;
+      words = λ b. refl;
+      holds = idle p k concrete;
+      output = refl;
+      step = (
+        rw named (IsPassed i (λ o. both_ways _ so (eq-eqb _ _ o)) how (record { nobody = refl; same = refl })),
+        refl,
+      );
+    }
 
 -- an exit that isn't over
 abbrev pub IsUnderWay : ExitPhase → Type 0
 IsUnderWay Ended = ⊥
 IsUnderWay phase = Unit {0}
 
-pub leaving : (p : Program) (k : ConcreteState) (t : ℕ) (phase : ExitPhase) → IsUnderWay phase → IsWellFormed p k
-    → HasPlace k t → Leaving p k t phase (leave t phase k.common)
-leaving p k t (Entry e seen) runs concrete place =
-    at_entry p k t e.0 seen concrete place (is_entry k.common e.0) refl _ refl
-leaving p k t Pending runs concrete place = at_pending p k t (load k.common (process_word t 1)) concrete place refl
-    (is_entry k.common (load k.common (process_word t 1))) refl _ refl
-leaving p k t ClearId runs concrete place = record {
+pub leaving : (rule : ExitRule) (p : Program) (k : ConcreteState) (t : ℕ) (phase : ExitPhase) → IsUnderWay phase → IsWellFormed p k
+    → HasPlace k t → Leaving rule p k t phase (leave rule t phase k.common)
+leaving rule p k t (Entry e seen) runs concrete place =
+    at_entry rule p k t e.0 seen concrete place (is_entry k.common e.0) refl _ refl
+leaving rule p k t Pending runs concrete place = at_pending rule p k t (load k.common (process_word t 1)) concrete place refl
+    (is_entry k.common (load k.common (process_word t 1))) refl _ refl _ refl
+leaving rule p k t ClearId runs concrete place = record {
   woken = [];
   set = refl;
   word = put (λ b. slice_index k.common.words b) (process_word t 2) 0;
@@ -259,7 +275,7 @@ leaving p k t ClearId runs concrete place = record {
   output = refl;
   step = (refl, refl, refl);
 }
-leaving p k t LastWake runs concrete place = record {
+leaving rule p k t LastWake runs concrete place = record {
   woken = front k.common (process_word t 2) 1;
   set = refl;
   word = λ b. slice_index k.common.words b;
@@ -279,4 +295,4 @@ leaving p k t LastWake runs concrete place = record {
     refl,
   );
 }
-leaving p k t Ended runs concrete place = absurd runs
+leaving rule p k t Ended runs concrete place = absurd runs

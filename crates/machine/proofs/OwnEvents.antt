@@ -21,6 +21,8 @@ use Rattle.machine.specs.ConcreteSteps.{Stepped, thread_step, go_on_with, on_mac
 use Rattle.machine.specs.ConcreteSteps.{step_of}
 use Rattle.machine.specs.ConcretePieces.{is_piece}
 use Rattle.machine.specs.FrontRuns.{doing_of}
+use Rattle.robustexit.specs.declared.rule.ExitRule.{ExitRule}
+use Rattle.robustexit.specs.ExitRules.{wakes}
 
 -- an event of a thread's own step, which is none of a piece
 abbrev IsOwn : Event → Type 0
@@ -75,18 +77,19 @@ exits_so : (l : Left) → IsOwn l.event → Exits l
 unfolding Exits
 exits_so l h = h
 
-left : (t : ℕ) (phase : ExitPhase) (c : Common) → Exits (leave t phase c)
-left t (Entry e seen) c =
+left : (rule : ExitRule) (t : ℕ) (phase : ExitPhase) (c : Common) → Exits (leave rule t phase c)
+left rule t (Entry e seen) c =
     exits_if (not (is_entry c e.0)) _ _ (exits_so _ (refl, refl))
     (exits_if (eqb (load c (process_word t 1)) e.0 || not (eqb (owner_of (load c (e.0 + 1))) t)) _ _
     (exits_so _ (refl, refl)) (exits_so _ (refl, refl)))
-left t Pending c =
+left rule t Pending c =
     let e : ℕ = load c (process_word t 1) in
     exits_if (not (is_entry c e)) _ _ (exits_so _ (refl, refl))
-    (exits_if (eqb (owner_of (load c (e + 1))) t) _ _ (exits_so _ (refl, refl)) (exits_so _ (refl, refl)))
-left t ClearId c = exits_so _ (refl, refl)
-left t LastWake c = exits_so _ (refl, refl)
-left t Ended c = exits_so _ (refl, refl)
+    (exits_if (eqb (owner_of (load c (e + 1))) t) _ _ (exits_so _ (refl, refl))
+    (exits_if (wakes rule (load c (e + 1))) _ _ (exits_so _ (refl, refl)) (exits_so _ (refl, refl))))
+left rule t ClearId c = exits_so _ (refl, refl)
+left rule t LastWake c = exits_so _ (refl, refl)
+left rule t Ended c = exits_so _ (refl, refl)
 
 Steps : Result Stepped StepFault → Type 0
 Steps (Ok x) = IsOwn x.event
@@ -97,13 +100,13 @@ unfolding Serves Steps
 went go (Ok x) h = h
 went go (Err f) h = tt
 
-stepped : (made t : ℕ) (c : Common) (l : Look) → Steps (thread_step made t c l)
+stepped : (rule : ExitRule) (made t : ℕ) (c : Common) (l : Look) → Steps (thread_step rule made t c l)
 unfolding Steps Exits
-stepped made t c (Goes x) = (refl, refl)
-stepped made t c (Asks request go) = went go _ (served made t request c)
-stepped made t c (Leaves phase) = left t phase c
-stepped made t c Breaks = tt
-stepped made t c Rests = tt
+stepped rule made t c (Goes x) = (refl, refl)
+stepped rule made t c (Asks request go) = went go _ (served made t request c)
+stepped rule made t c (Leaves phase) = left rule t phase c
+stepped rule made t c Breaks = tt
+stepped rule made t c Rests = tt
 
 Moves : Result (ConcreteState × Event) StepFault → Type 0
 Moves (Ok q) = IsOwn q.1
@@ -116,7 +119,7 @@ moves k t (Err f) h = tt
 
 moves_awake : (p : Program) (k : ConcreteState) (t : ℕ) (x : Thread) (o : Option ℕ) → Moves (step_awake p k t x o)
 unfolding Moves
-moves_awake p k t x None = moves k t _ (stepped (length k.threads) t k.common (look p t x))
+moves_awake p k t x None = moves k t _ (stepped _ (length k.threads) t k.common (look p t x))
 moves_awake p k t x (Some a) = tt
 
 moves_thread : (p : Program) (k : ConcreteState) (t : ℕ) (o : Option Thread) → Moves (step_thread p k t o)

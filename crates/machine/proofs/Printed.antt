@@ -25,6 +25,8 @@ use Rattle.machine.specs.ConcreteExits.{Left, leave, is_entry, abandon}
 use Rattle.machine.specs.ConcreteSteps.{Stepped, thread_step, go_on_with, on_machine, step_awake, step_thread}
 use Rattle.machine.specs.ConcreteSteps.{step_of}
 use Rattle.machine.specs.Views.{printed_by, printed_by_name}
+use Rattle.robustexit.specs.declared.rule.ExitRule.{ExitRule}
+use Rattle.robustexit.specs.ExitRules.{wakes}
 
 -- an outcome that prints what its event says
 Prints : Common → Result Served StepFault → Type 0
@@ -108,19 +110,20 @@ abandoned_quiet c l = both (waiters_of (load c l)) where
   both true = refl
   both false = refl
 
-left : (t : ℕ) (phase : ExitPhase) (c : Common) → Quiet c (leave t phase c)
-left t (Entry e seen) c =
+left : (rule : ExitRule) (t : ℕ) (phase : ExitPhase) (c : Common) → Quiet c (leave rule t phase c)
+left rule t (Entry e seen) c =
     quiet_if c (not (is_entry c e.0)) _ _ (quiet_so c _ refl refl)
     (quiet_if c (eqb (load c (process_word t 1)) e.0 || not (eqb (owner_of (load c (e.0 + 1))) t)) _ _
     (quiet_so c _ refl refl) (quiet_so c _ (abandoned_quiet c (e.0 + 1)) refl))
-left t Pending c =
+left rule t Pending c =
     let e : ℕ = load c (process_word t 1) in
     quiet_if c (not (is_entry c e)) _ _ (quiet_so c _ refl refl)
     (quiet_if c (eqb (owner_of (load c (e + 1))) t) _ _ (quiet_so c _ (abandoned_quiet c (e + 1)) refl)
-    (quiet_so c _ refl refl))
-left t ClearId c = quiet_so c _ refl refl
-left t LastWake c = quiet_so c _ refl refl
-left t Ended c = quiet_so c _ refl refl
+    (quiet_if c (wakes rule (load c (e + 1))) _ _ (quiet_so c _ refl refl)
+    (quiet_so c _ refl refl)))
+left rule t ClearId c = quiet_so c _ refl refl
+left rule t LastWake c = quiet_so c _ refl refl
+left rule t Ended c = quiet_so c _ refl refl
 
 -- the same of a step of a thread
 Steps : Common → Result Stepped StepFault → Type 0
@@ -132,13 +135,13 @@ unfolding Prints Steps
 went c go (Ok x) h = h
 went c go (Err f) h = tt
 
-stepped : (made t : ℕ) (c : Common) (l : Look) → Steps c (thread_step made t c l)
+stepped : (rule : ExitRule) (made t : ℕ) (c : Common) (l : Look) → Steps c (thread_step rule made t c l)
 unfolding Steps Quiet
-stepped made t c (Goes x) = still _
-stepped made t c (Asks request go) = went c go _ (served made t request c)
-stepped made t c (Leaves phase) = let q = left t phase c in ap length q.0 ∙ omega (arith, q.1)
-stepped made t c Breaks = tt
-stepped made t c Rests = tt
+stepped rule made t c (Goes x) = still _
+stepped rule made t c (Asks request go) = went c go _ (served made t request c)
+stepped rule made t c (Leaves phase) = let q = left rule t phase c in ap length q.0 ∙ omega (arith, q.1)
+stepped rule made t c Breaks = tt
+stepped rule made t c Rests = tt
 
 -- and of a step of the machine
 Lengthens : ConcreteState → Result (ConcreteState × Event) StepFault → Type 0
@@ -154,7 +157,7 @@ lengthens k t (Err f) h = tt
 lengthens_awake : (p : Program) (k : ConcreteState) (t : ℕ) (x : Thread) (o : Option ℕ)
     → Lengthens k (step_awake p k t x o)
 unfolding Lengthens
-lengthens_awake p k t x None = lengthens k t _ (stepped (length k.threads) t k.common (look p t x))
+lengthens_awake p k t x None = lengthens k t _ (stepped _ (length k.threads) t k.common (look p t x))
 lengthens_awake p k t x (Some a) = tt
 
 lengthens_thread : (p : Program) (k : ConcreteState) (t : ℕ) (o : Option Thread) → Lengthens k (step_thread p k t o)

@@ -8,6 +8,8 @@ use Rattle.locals.specs.Threads.{Thread, Runs, Dies, Exits}
 use Rattle.locals.specs.Looks.{Request, AskLoad, AskStore, AskSwap, AskCompareSwap, AskOr, AskAdd, AskFork, AskPrint}
 use Rattle.locals.specs.Looks.{AskWait, AskWake, AskRequeue, AskReturn, AskReturnValue, AskFault, Look, Goes}
 use Rattle.locals.specs.Looks.{Asks, Leaves, Breaks, Rests, look}
+use Rattle.robustexit.specs.declared.rule.ExitRule.{ExitRule}
+use Rattle.robustexit.specs.ExitRules.{exit_of}
 use Rattle.machine.specs.declared.event.StepFault.{StepFault}
 use Rattle.machine.specs.declared.event.StepFault.TheVariants.{CannotMove, Broken}
 use Rattle.machine.specs.States.{ConcreteState, thread_of, state_of}
@@ -97,27 +99,27 @@ err_of : (k : ConcreteState) (t : ℕ) (go : ℕ → Thread) (r : Result Served 
 err_of k t go (Ok x) f h = absurd cc
 err_of k t go (Err g) f h = let e : g ≡ f = cc in ap (λ x. Err x) e
 
-look_breaks : (k : ConcreteState) (t : ℕ) (l : Look) → length k.threads ≤ k.common.most
-    → on_machine k t (thread_step (length k.threads) t k.common l) ≡ Err Broken → IsBroken (state_of k) l
-look_breaks k t (Goes x) few h = absurd cc
-look_breaks k t (Asks request go) few h = (refuses k t request).so few (err_of k t go _ Broken h)
-look_breaks k t (Leaves phase) few h = absurd cc
-look_breaks k t Breaks few h = tt
-look_breaks k t Rests few h = absurd cc
+look_breaks : (rule : ExitRule) (k : ConcreteState) (t : ℕ) (l : Look) → length k.threads ≤ k.common.most
+    → on_machine k t (thread_step rule (length k.threads) t k.common l) ≡ Err Broken → IsBroken (state_of k) l
+look_breaks rule k t (Goes x) few h = absurd cc
+look_breaks rule k t (Asks request go) few h = (refuses k t request).so few (err_of k t go _ Broken h)
+look_breaks rule k t (Leaves phase) few h = absurd cc
+look_breaks rule k t Breaks few h = tt
+look_breaks rule k t Rests few h = absurd cc
 
-breaks_look : (k : ConcreteState) (t : ℕ) (l : Look) → length k.threads ≤ k.common.most → IsBroken (state_of k) l
-    → on_machine k t (thread_step (length k.threads) t k.common l) ≡ Err Broken
-breaks_look k t (Goes x) few h = absurd h
-breaks_look k t (Asks request go) few h = ap (λ r. on_machine k t (go_on_with go r)) ((refuses k t request).back h)
-breaks_look k t (Leaves phase) few h = absurd h
-breaks_look k t Breaks few h = refl
-breaks_look k t Rests few h = absurd h
+breaks_look : (rule : ExitRule) (k : ConcreteState) (t : ℕ) (l : Look) → length k.threads ≤ k.common.most
+    → IsBroken (state_of k) l → on_machine k t (thread_step rule (length k.threads) t k.common l) ≡ Err Broken
+breaks_look rule k t (Goes x) few h = absurd h
+breaks_look rule k t (Asks request go) few h = ap (λ r. on_machine k t (go_on_with go r)) ((refuses k t request).back h)
+breaks_look rule k t (Leaves phase) few h = absurd h
+breaks_look rule k t Breaks few h = refl
+breaks_look rule k t Rests few h = absurd h
 
 awake_breaks : (p : Program) (k : ConcreteState) (t : ℕ) (x : Thread) (o : Option ℕ) → length k.threads ≤ k.common.most
     → thread_of k t ≡ Some x → k.common.asleep t ≡ o → step_awake p k t x o ≡ Err Broken
     → NextIsBroken p (state_of k) t
 awake_breaks p k t x None few stands awake h =
-    record { thread = x; stands = stands; awake = awake; breaks = look_breaks k t (look p t x) few h }
+    record { thread = x; stands = stands; awake = awake; breaks = look_breaks (exit_of p.version) k t (look p t x) few h }
 awake_breaks p k t x (Some a) few stands awake h = absurd cc
 
 thread_breaks : (p : Program) (k : ConcreteState) (t : ℕ) (o : Option Thread) → length k.threads ≤ k.common.most
@@ -129,7 +131,7 @@ pub breaks_so : BreaksSo
 breaks_so p k t concrete = (
   thread_breaks p k t (thread_of k t) concrete.few refl,
   λ b. ap (step_thread p k t) b.stands ∙ ap (step_awake p k t b.thread) b.awake
-      ∙ breaks_look k t (look p t b.thread) concrete.few b.breaks,
+      ∙ breaks_look (exit_of p.version) k t (look p t b.thread) concrete.few b.breaks,
 )
 
 -- a thread rests exactly where it has ended
@@ -159,20 +161,20 @@ ended_rests p t (Exits ClearId) e = absurd cc
 ended_rests p t (Exits LastWake) e = absurd cc
 ended_rests p t (Exits Ended) e = refl
 
-look_rests : (k : ConcreteState) (t : ℕ) (l : Look)
-    → on_machine k t (thread_step (length k.threads) t k.common l) ≡ Err CannotMove → l ≡ Rests
-look_rests k t (Goes x) h = absurd cc
-look_rests k t (Asks request go) h = absurd ((refuses k t request).other (err_of k t go _ CannotMove h))
-look_rests k t (Leaves phase) h = absurd cc
-look_rests k t Breaks h = absurd cc
-look_rests k t Rests h = refl
+look_rests : (rule : ExitRule) (k : ConcreteState) (t : ℕ) (l : Look)
+    → on_machine k t (thread_step rule (length k.threads) t k.common l) ≡ Err CannotMove → l ≡ Rests
+look_rests rule k t (Goes x) h = absurd cc
+look_rests rule k t (Asks request go) h = absurd ((refuses k t request).other (err_of k t go _ CannotMove h))
+look_rests rule k t (Leaves phase) h = absurd cc
+look_rests rule k t Breaks h = absurd cc
+look_rests rule k t Rests h = refl
 
 awake_refuses : (p : Program) (k : ConcreteState) (t : ℕ) (x : Thread) (o : Option ℕ) → thread_of k t ≡ Some x
     → k.common.asleep t ≡ o → step_awake p k t x o ≡ Err CannotMove → CanStep (state_of k) t → ⊥
 awake_refuses p k t x None stands awake h can =
     let same : x ≡ can.thread = some_is x can.thread (sym stands ∙ can.stands) in
     both_ways (has_ended (Some can.thread)) can.goes_on (ap (λ y. has_ended (Some y)) (sym same)
-    ∙ rests_ended p t x (look_rests k t (look p t x) h)) where
+    ∙ rests_ended p t x (look_rests (exit_of p.version) k t (look p t x) h)) where
       some_is : (a b : Thread) → Some a ≡ Some b → a ≡ b
       some_is a b e = cc
 awake_refuses p k t x (Some a) stands awake h can = asleep_both a (k.common.asleep t) awake can.awake where
@@ -190,7 +192,8 @@ refused_awake : (p : Program) (k : ConcreteState) (t : ℕ) (x : Thread) (o : Op
     → k.common.asleep t ≡ o → (CanStep (state_of k) t → ⊥) → step_awake p k t x o ≡ Err CannotMove
 refused_awake p k t x None stands awake out =
     elim (cases_Bool (has_ended (Some x))) [
-      | inl ended ↦ ap (λ l. on_machine k t (thread_step (length k.threads) t k.common l)) (ended_rests p t x ended)
+      | inl ended ↦ ap (λ l. on_machine k t (thread_step (exit_of p.version) (length k.threads) t k.common l))
+          (ended_rests p t x ended)
       | inr goes ↦ absurd (out (record { thread = x; stands = stands; awake = awake; goes_on = goes }))
     ]
 refused_awake p k t x (Some a) stands awake out = refl

@@ -16,6 +16,7 @@ use Rattle.locals.specs.Threads.{Thread, Runs, Dies, Exits, fresh, opening_threa
 use Rattle.locals.specs.Looks.{Request, AskFork, Look, Goes, Asks, Leaves, Breaks, Rests, look, look_at, at_place}
 use Rattle.locals.specs.Looks.{return_look, if_so, or_dies, effect, Effect, Then, Keeps, To, Tests, Asking, Trying}
 use Rattle.locals.specs.Looks.{Calls, Returns, ReturnsValue, Fails, Misses, Guards, Checks}
+use Rattle.robustexit.specs.ExitRules.{exit_of}
 use Rattle.machine.specs.declared.event.Event.{Event}
 use Rattle.robustexit.specs.RobustExit.{put}
 use Rattle.machine.specs.States.{ConcreteState, thread_at, thread_of, state_of, with_thread}
@@ -102,7 +103,7 @@ is_next p t (Exits Ended) = tt
 
 steps_by : (p : Program) (k k' : ConcreteState) (t : ℕ) (e : Event) (y : Thread) (l : Look) → IsNext l
     → IsWellFormed p k → thread_of k t ≡ Some y → k.common.asleep t ≡ None
-    → on_machine k t (thread_step (length k.threads) t k.common l) ≡ Ok (k', e) → Steps p k k' t e l
+    → on_machine k t (thread_step (exit_of p.version) (length k.threads) t k.common l) ≡ Ok (k', e) → Steps p k k' t e l
 steps_by p k k' t e y (Goes x) next concrete stands awake h =
     let r = lands p k k' t e _ x y k.common (λ b. slice_index k.common.words b) concrete stands
     (holds-concrete p k concrete) (λ b. refl) h in
@@ -112,8 +113,8 @@ steps_by p k k' t e y (Asks (AskFork entry arguments has_room) go) next concrete
 steps_by p k k' t e y (Asks request go) next concrete stands awake h =
     serves_so p k k' t e y request go tt concrete stands awake (has_place p k t y concrete stands) h
 steps_by p k k' t e y (Leaves phase) next concrete stands awake h =
-    let l = leave t phase k.common in
-    let g = leaving p k t phase next concrete (has_place p k t y concrete stands) in
+    let l = leave (exit_of p.version) t phase k.common in
+    let g = leaving (exit_of p.version) p k t phase next concrete (has_place p k t y concrete stands) in
     let r = lands p k k' t e l.event (Exits l.next) y l.common g.word concrete stands g.holds g.words h in
     record {
       woken = g.woken;
@@ -136,7 +137,7 @@ pub record Done (p : Program) (k k' : ConcreteState) (t : ℕ) (e : Event) : Typ
   pub thread : Thread
   pub stands : thread_of k t ≡ Some thread
   pub awake : k.common.asleep t ≡ None
-  pub done : on_machine k t (thread_step (length k.threads) t k.common (look p t thread)) ≡ Ok (k', e)
+  pub done : on_machine k t (thread_step (exit_of p.version) (length k.threads) t k.common (look p t thread)) ≡ Ok (k', e)
 
 done_awake : (p : Program) (k k' : ConcreteState) (t : ℕ) (e : Event) (x : Thread) (o : Option ℕ)
     → thread_of k t ≡ Some x → k.common.asleep t ≡ o → step_awake p k t x o ≡ Ok (k', e) → Done p k k' t e

@@ -16,6 +16,7 @@ use Rattle.locals.specs.Looks.{Request, AskLoad, AskStore, AskSwap, AskCompareSw
 use Rattle.locals.specs.Looks.{AskWait, AskWake, AskRequeue, AskReturn, AskReturnValue, AskFault, Look, Goes}
 use Rattle.locals.specs.Looks.{Asks, Leaves, Breaks, Rests, look}
 use Rattle.locals.specs.Requests.{request_step, next_step_of, after_answer, fork_child, CanBeAnswered, Answers}
+use Rattle.robustexit.specs.declared.rule.ExitRule.{ExitRule}
 use Rattle.machine.specs.declared.event.EventName.TheVariants as name
 use Rattle.machine.specs.declared.event.Event.{Event}
 use Rattle.machine.specs.declared.event.StepFault.{StepFault}
@@ -120,28 +121,28 @@ no_rest (AskReturnValue v) h = cc
 no_rest (AskFault cause) h = cc
 
 -- a request that was served
-pub shared_so : (made t : ℕ) (c c' : Common) (l : Look) (x : Thread) (request : Told) (answer : ℕ)
+pub shared_so : (rule : ExitRule) (made t : ℕ) (c c' : Common) (l : Look) (x : Thread) (request : Told) (answer : ℕ)
     (event : Event) → next_step_of l ≡ next.Shared request
     → ((m : ℕ) → serve m t (asked_of request) c ≡ with_common (Ok answer) event c')
-    → thread_step made t c l ≡ Ok
+    → thread_step rule made t c l ≡ Ok
     (record { common = c'; thread = after_answer l answer x; child = None; event = event })
-shared_so made t c c' (Goes y) x request answer event is gives = absurd cc
-shared_so made t c c' (Asks r go) x request answer event is gives =
+shared_so rule made t c c' (Goes y) x request answer event is gives = absurd cc
+shared_so rule made t c c' (Asks r go) x request answer event is gives =
     ap (λ q. go_on_with go (serve made t q c)) (sym (asked_back r request is)) ∙ ap (go_on_with go) (gives made)
-shared_so made t c c' (Leaves phase) x request answer event is gives = absurd cc
-shared_so made t c c' Breaks x request answer event is gives = absurd cc
-shared_so made t c c' Rests x request answer event is gives = absurd cc
+shared_so rule made t c c' (Leaves phase) x request answer event is gives = absurd cc
+shared_so rule made t c c' Breaks x request answer event is gives = absurd cc
+shared_so rule made t c c' Rests x request answer event is gives = absurd cc
 
 -- and one that was refused
-pub shared_err : (made t : ℕ) (c c' : Common) (l : Look) (request : Told) (f : StepFault) (event : Event)
+pub shared_err : (rule : ExitRule) (made t : ℕ) (c c' : Common) (l : Look) (request : Told) (f : StepFault) (event : Event)
     → next_step_of l ≡ next.Shared request
-    → ((m : ℕ) → serve m t (asked_of request) c ≡ with_common (Err f) event c') → thread_step made t c l ≡ Err f
-shared_err made t c c' (Goes y) request f event is gives = absurd cc
-shared_err made t c c' (Asks r go) request f event is gives =
+    → ((m : ℕ) → serve m t (asked_of request) c ≡ with_common (Err f) event c') → thread_step rule made t c l ≡ Err f
+shared_err rule made t c c' (Goes y) request f event is gives = absurd cc
+shared_err rule made t c c' (Asks r go) request f event is gives =
     ap (λ q. go_on_with go (serve made t q c)) (sym (asked_back r request is)) ∙ ap (go_on_with go) (gives made)
-shared_err made t c c' (Leaves phase) request f event is gives = absurd cc
-shared_err made t c c' Breaks request f event is gives = absurd cc
-shared_err made t c c' Rests request f event is gives = absurd cc
+shared_err rule made t c c' (Leaves phase) request f event is gives = absurd cc
+shared_err rule made t c c' Breaks request f event is gives = absurd cc
+shared_err rule made t c c' Rests request f event is gives = absurd cc
 
 answers_none : (r : Request) (answer : ℕ) (request : Told) → request_step r ≡ next.Shared request → Answers answer r
 answers_none (AskFork entry arguments has_room) answer request is = absurd cc
@@ -198,23 +199,23 @@ can_answer_fork (Leaves phase) room answer asks h = tt
 can_answer_fork Breaks room answer asks h = tt
 can_answer_fork Rests room answer asks h = tt
 
-fork_step : (t : ℕ) (c : Common) (l : Look) (x : Thread) (made answer : ℕ) (room : Bool)
+fork_step : (rule : ExitRule) (t : ℕ) (c : Common) (l : Look) (x : Thread) (made answer : ℕ) (room : Bool)
     (r : Result Stepped StepFault) → AsksFork l room
     → ((entry : ℕ) (arguments : List ℕ) (go : ℕ → Thread) → l ≡ Asks (AskFork entry arguments room) go
-    → thread_step made t c (Asks (AskFork entry arguments room) go) ≡ r) → thread_step made t c l ≡ r
-fork_step t c (Asks (AskFork entry arguments has_room) go) x made answer room r asks h =
-    ap (λ b. thread_step made t c (Asks (AskFork entry arguments b) go)) asks
+    → thread_step rule made t c (Asks (AskFork entry arguments room) go) ≡ r) → thread_step rule made t c l ≡ r
+fork_step rule t c (Asks (AskFork entry arguments has_room) go) x made answer room r asks h =
+    ap (λ b. thread_step rule made t c (Asks (AskFork entry arguments b) go)) asks
     ∙ h entry arguments go (ap (λ b. Asks (AskFork entry arguments b) go) asks)
-fork_step t c (Asks request go) x made answer room r asks h = absurd asks
-fork_step t c (Goes y) x made answer room r asks h = absurd asks
-fork_step t c (Leaves phase) x made answer room r asks h = absurd asks
-fork_step t c Breaks x made answer room r asks h = absurd asks
-fork_step t c Rests x made answer room r asks h = absurd asks
+fork_step rule t c (Asks request go) x made answer room r asks h = absurd asks
+fork_step rule t c (Goes y) x made answer room r asks h = absurd asks
+fork_step rule t c (Leaves phase) x made answer room r asks h = absurd asks
+fork_step rule t c Breaks x made answer room r asks h = absurd asks
+fork_step rule t c Rests x made answer room r asks h = absurd asks
 
-pub fork_full : (made t : ℕ) (c : Common) (l : Look) (x : Thread) (room : Bool) → AsksFork l room → made ≡ c.most
-    → thread_step made t c l ≡ Ok
+pub fork_full : (rule : ExitRule) (made t : ℕ) (c : Common) (l : Look) (x : Thread) (room : Bool) → AsksFork l room → made ≡ c.most
+    → thread_step rule made t c l ≡ Ok
     (record { common = c; thread = after_answer l 0 x; child = None; event = plain name.Fork 0 })
-fork_full made t c l x room asks full = fork_step t c l x made 0 room _ asks (λ entry arguments go is.
+fork_full rule made t c l x room asks full = fork_step _ t c l x made 0 room _ asks (λ entry arguments go is.
     ap (go_on_with go) (cond-true _ _ _ (eq-eqb made c.most full))
     ∙ (λ i. Ok (record {
       common = c;
@@ -224,14 +225,14 @@ fork_full made t c l x room asks full = fork_step t c l x made 0 room _ asks (λ
           plain name.Fork 0;
     })))
 
-pub fork_no_room : (made t : ℕ) (c : Common) (l : Look) (x : Thread) (room : Bool) → AsksFork l room → made ≢ c.most
-    → room ≡ false → thread_step made t c l ≡ Err Broken
-fork_no_room made t c l x room asks ne none = fork_step t c l x made 0 room _ asks (λ entry arguments go is.
+pub fork_no_room : (rule : ExitRule) (made t : ℕ) (c : Common) (l : Look) (x : Thread) (room : Bool) → AsksFork l room → made ≢ c.most
+    → room ≡ false → thread_step rule made t c l ≡ Err Broken
+fork_no_room rule made t c l x room asks ne none = fork_step _ t c l x made 0 room _ asks (λ entry arguments go is.
     ap (go_on_with go) (cond-false _ _ _ (ne_eqb made c.most ne) ∙ cond-false _ _ _ none))
 
-pub fork_made : (made t number : ℕ) (c : Common) (l : Look) (x : Thread) (room : Bool) → AsksFork l room → made ≢ c.most
+pub fork_made : (rule : ExitRule) (made t number : ℕ) (c : Common) (l : Look) (x : Thread) (room : Bool) → AsksFork l room → made ≢ c.most
     → room ≡ true → number ≡ made + 1
-    → thread_step made t c l ≡ Ok
+    → thread_step rule made t c l ≡ Ok
     (record {
       common = set_word c (process_word number 2) number;
       thread = after_answer l number x;
@@ -239,9 +240,9 @@ pub fork_made : (made t number : ℕ) (c : Common) (l : Look) (x : Thread) (room
           fork_child l;
       event = plain name.Fork number;
     })
-fork_made made t number c l x room asks ne some is_number =
+fork_made rule made t number c l x room asks ne some is_number =
     let same : suc made ≡ number = omega (arith, is_number) in
-    fork_step t c l x made number room _ asks (λ entry arguments go is.
+    fork_step _ t c l x made number room _ asks (λ entry arguments go is.
     ap (go_on_with go) (cond-false _ _ _ (ne_eqb made c.most ne) ∙ cond-true _ _ _ some)
     ∙ (λ i. Ok (record {
       common = set_word c (process_word (same i) 2) (same i);
@@ -252,14 +253,14 @@ fork_made made t number c l x room asks ne some is_number =
     })))
 
 -- a local step
-pub local_so : (made t : ℕ) (c : Common) (l : Look) (x : Thread) → local_next l ≡ Some x
-    → thread_step made t c l ≡ Ok (record { common = c; thread = x; child = None; event = plain name.Local 0 })
-local_so made t c (Goes y) x h = let e : y ≡ x = cc in
+pub local_so : (rule : ExitRule) (made t : ℕ) (c : Common) (l : Look) (x : Thread) → local_next l ≡ Some x
+    → thread_step rule made t c l ≡ Ok (record { common = c; thread = x; child = None; event = plain name.Local 0 })
+local_so rule made t c (Goes y) x h = let e : y ≡ x = cc in
     λ i. Ok (record { common = c; thread = e i; child = None; event = plain name.Local 0 })
-local_so made t c (Asks r go) x h = absurd cc
-local_so made t c (Leaves phase) x h = absurd cc
-local_so made t c Breaks x h = absurd cc
-local_so made t c Rests x h = absurd cc
+local_so rule made t c (Asks r go) x h = absurd cc
+local_so rule made t c (Leaves phase) x h = absurd cc
+local_so rule made t c Breaks x h = absurd cc
+local_so rule made t c Rests x h = absurd cc
 
 pub local_goes : (l : Look) → next_step_of l ≡ next.Local → local_next l ≡ None → ⊥
 local_goes (Goes y) is h = absurd cc
@@ -269,14 +270,14 @@ local_goes Breaks is h = absurd cc
 local_goes Rests is h = absurd cc
 
 -- a step of an exit
-pub exit_so : (made t : ℕ) (c c' : Common) (l : Look) (phase nxt : ExitPhase) (g : Left)
-    → next_step_of l ≡ next.Exit phase → leave t phase c ≡ g
-    → thread_step made t c l ≡ Ok (record { common = g.common; thread = Exits g.next; child = None; event = g.event })
-exit_so made t c c' (Goes y) phase nxt g is gives = absurd cc
-exit_so made t c c' (Asks r go) phase nxt g is gives = absurd (no_exit r phase is)
-exit_so made t c c' (Leaves p) phase nxt g is gives =
+pub exit_so : (rule : ExitRule) (made t : ℕ) (c c' : Common) (l : Look) (phase nxt : ExitPhase) (g : Left)
+    → next_step_of l ≡ next.Exit phase → leave rule t phase c ≡ g
+    → thread_step rule made t c l ≡ Ok (record { common = g.common; thread = Exits g.next; child = None; event = g.event })
+exit_so rule made t c c' (Goes y) phase nxt g is gives = absurd cc
+exit_so rule made t c c' (Asks r go) phase nxt g is gives = absurd (no_exit r phase is)
+exit_so rule made t c c' (Leaves p) phase nxt g is gives =
     let same : p ≡ phase = exit_is p phase is in
-    (λ i. thread_step made t c (Leaves (same i)))
+    (λ i. thread_step rule made t c (Leaves (same i)))
     ∙ (λ i. Ok (record {
       common = (gives i).common;
       thread = Exits (gives i).next;
@@ -284,8 +285,8 @@ exit_so made t c c' (Leaves p) phase nxt g is gives =
       event =
           (gives i).event;
     }))
-exit_so made t c c' Breaks phase nxt g is gives = absurd cc
-exit_so made t c c' Rests phase nxt g is gives = absurd cc
+exit_so rule made t c c' Breaks phase nxt g is gives = absurd cc
+exit_so rule made t c c' Rests phase nxt g is gives = absurd cc
 
 under_way : (phase : ExitPhase) → IsUnderWay phase → phase ≢ Ended
 under_way Ended h e = absurd h
@@ -302,21 +303,21 @@ pub exit_runs : (p : Program) (t : ℕ) (x : Thread) (phase : ExitPhase) → nex
     → phase ≢ Ended
 exit_runs p t x phase is = exit_goes (look p t x) phase (is_next p t x) is
 
-pub breaks_when : (made t : ℕ) (c : Common) (l : Look) → next_step_of l ≡ next.Broken
-    → thread_step made t c l ≡ Err Broken
-breaks_when made t c (Goes y) is = absurd cc
-breaks_when made t c (Asks r go) is = absurd (no_break r is)
-breaks_when made t c (Leaves p) is = absurd cc
-breaks_when made t c Breaks is = refl
-breaks_when made t c Rests is = absurd cc
+pub breaks_when : (rule : ExitRule) (made t : ℕ) (c : Common) (l : Look) → next_step_of l ≡ next.Broken
+    → thread_step rule made t c l ≡ Err Broken
+breaks_when rule made t c (Goes y) is = absurd cc
+breaks_when rule made t c (Asks r go) is = absurd (no_break r is)
+breaks_when rule made t c (Leaves p) is = absurd cc
+breaks_when rule made t c Breaks is = refl
+breaks_when rule made t c Rests is = absurd cc
 
-pub rests_when : (made t : ℕ) (c : Common) (l : Look) → next_step_of l ≡ next.Ended
-    → thread_step made t c l ≡ Err CannotMove
-rests_when made t c (Goes y) is = absurd cc
-rests_when made t c (Asks r go) is = absurd (no_rest r is)
-rests_when made t c (Leaves p) is = absurd cc
-rests_when made t c Breaks is = absurd cc
-rests_when made t c Rests is = refl
+pub rests_when : (rule : ExitRule) (made t : ℕ) (c : Common) (l : Look) → next_step_of l ≡ next.Ended
+    → thread_step rule made t c l ≡ Err CannotMove
+rests_when rule made t c (Goes y) is = absurd cc
+rests_when rule made t c (Asks r go) is = absurd (no_rest r is)
+rests_when rule made t c (Leaves p) is = absurd cc
+rests_when rule made t c Breaks is = absurd cc
+rests_when rule made t c Rests is = refl
 
 -- a refusal that is handed on
 pub hand_on : {A : Type 0} → (r : Result A StepFault) (f : StepFault) (Q : StepFault → Type 0)
@@ -337,23 +338,23 @@ fault_went : (go : ℕ → Thread) (r : Result Served StepFault) → fault_of (g
 fault_went go (Ok x) = refl
 fault_went go (Err f) = refl
 
-pub fork_fault : (made t : ℕ) (c : Common) (l : Look) (room : Bool) → AsksFork l room
-    → fault_of (thread_step made t c l) ≡ (if room || (made == c.most) then None else Some Broken)
-fork_fault made t c (Asks (AskFork entry arguments has_room) go) room asks =
+pub fork_fault : (rule : ExitRule) (made t : ℕ) (c : Common) (l : Look) (room : Bool) → AsksFork l room
+    → fault_of (thread_step rule made t c l) ≡ (if room || (made == c.most) then None else Some Broken)
+fork_fault rule made t c (Asks (AskFork entry arguments has_room) go) room asks =
     fault_went go _ ∙ fork_fault_if (made == c.most) has_room _ _
     ∙ ap (λ (b : Bool). if b || (made == c.most) then None else Some Broken) asks
-fork_fault made t c (Asks request go) room asks = absurd asks
-fork_fault made t c (Goes y) room asks = absurd asks
-fork_fault made t c (Leaves phase) room asks = absurd asks
-fork_fault made t c Breaks room asks = absurd asks
-fork_fault made t c Rests room asks = absurd asks
+fork_fault rule made t c (Asks request go) room asks = absurd asks
+fork_fault rule made t c (Goes y) room asks = absurd asks
+fork_fault rule made t c (Leaves phase) room asks = absurd asks
+fork_fault rule made t c Breaks room asks = absurd asks
+fork_fault rule made t c Rests room asks = absurd asks
 
 -- what a request would be refused for
-pub refused_so : (made t : ℕ) (c : Common) (l : Look) (request : Told) → next_step_of l ≡ next.Shared request
-    → fault_of (thread_step made t c l) ≡ fault_of (serve made t (asked_of request) c)
-refused_so made t c (Goes y) request is = absurd cc
-refused_so made t c (Asks r go) request is = fault_went go (serve made t r c)
+pub refused_so : (rule : ExitRule) (made t : ℕ) (c : Common) (l : Look) (request : Told) → next_step_of l ≡ next.Shared request
+    → fault_of (thread_step rule made t c l) ≡ fault_of (serve made t (asked_of request) c)
+refused_so rule made t c (Goes y) request is = absurd cc
+refused_so rule made t c (Asks r go) request is = fault_went go (serve made t r c)
     ∙ ap (λ q. fault_of (serve made t q c)) (sym (asked_back r request is))
-refused_so made t c (Leaves p) request is = absurd cc
-refused_so made t c Breaks request is = absurd cc
-refused_so made t c Rests request is = absurd cc
+refused_so rule made t c (Leaves p) request is = absurd cc
+refused_so rule made t c Breaks request is = absurd cc
+refused_so rule made t c Rests request is = absurd cc

@@ -12,6 +12,7 @@ use Rattle.locals.specs.Threads.{Thread, Exits, opening_thread}
 use Rattle.locals.specs.Looks.{look}
 use Rattle.locals.specs.Requests.{next_step_of}
 use Rattle.locals.specs.declared.request.NextStep.{NextStep}
+use Rattle.robustexit.specs.ExitRules.{exit_of}
 use Rattle.machine.specs.declared.event.Event.{Event}
 use Rattle.machine.specs.declared.event.StepFault.{StepFault}
 use Rattle.machine.specs.States.{ConcreteState, thread_at, thread_of, opening_concrete}
@@ -43,10 +44,10 @@ told_there p ts t n x d there at told = sym (told x (stands_at ts t x d there.0 
 
 pub stepped : (p : Program) (k : ConcreteState) (t made : ℕ) (x : Thread) (r : Result Stepped StepFault)
     → thread_of k t ≡ Some x → k.common.asleep t ≡ None → made ≡ length k.threads
-    → thread_step made t k.common (look p t x) ≡ r → step_of p k t ≡ on_machine k t r
+    → thread_step (exit_of p.version) made t k.common (look p t x) ≡ r → step_of p k t ≡ on_machine k t r
 stepped p k t made x r stands awake counted done =
     ap (step_thread p k t) stands ∙ ap (step_awake p k t x) awake
-    ∙ ap (λ m. on_machine k t (thread_step m t k.common (look p t x))) (sym counted) ∙ ap (on_machine k t) done
+    ∙ ap (λ m. on_machine k t (thread_step (exit_of p.version) m t k.common (look p t x))) (sym counted) ∙ ap (on_machine k t) done
 
 pub kept_after : {A : Type 0} (p : Program) (k k' : ConcreteState) (t : ℕ) (r : Result A StepFault) (e : Event)
     → IsWellFormed p k → OnOk r (step_of p k t ≡ Ok (k', e)) → OnErr r (k' ≡ k) → IsWellFormed p k'

@@ -9,6 +9,8 @@ use Rattle.machine.specs.declared.event.Event.{Event}
 use Rattle.machine.specs.declared.event.EventName.TheVariants as name
 use Rattle.machine.specs.States.{Common}
 use Rattle.machine.specs.ConcreteServing.{event_of, plain, load, set_word, front, wake_front}
+use Rattle.robustexit.specs.declared.rule.ExitRule.{ExitRule}
+use Rattle.robustexit.specs.ExitRules.{wakes}
 
 -- what comes of a step of an exit: what is shared after it, the next phase, and the event
 pub record Left : Type 0 where
@@ -43,29 +45,30 @@ leave_entry t e seen c =
       event = event_of name.Entry e (abandon_wakes c (e + 1)) [];
     }
 
--- the step of an exit at the pending entry
-abbrev pub leave_pending : ℕ → ℕ → Common → Left
-leave_pending t e c =
+-- the step of an exit at the pending entry: one is woken at a lock that another owns, or none, where the rule says so
+abbrev pub leave_pending : ExitRule → ℕ → ℕ → Common → Left
+leave_pending rule t e c =
     if not (is_entry c e) then record { common = c; next = ClearId; event = plain name.Pending e }
     else if owner_of (load c (e + 1)) == t then record {
       common = abandon c (e + 1);
       next = ClearId;
       event = event_of name.Pending e (abandon_wakes c (e + 1)) [];
     }
-    else record {
+    else if wakes rule (load c (e + 1)) then record {
       common = wake_front c (e + 1) 1;
       next = ClearId;
       event = event_of name.Pending e (front c (e + 1) 1) [];
     }
+    else record { common = c; next = ClearId; event = plain name.Pending e }
 
 -- the step of thread t's exit in this phase
-abbrev pub leave : ℕ → ExitPhase → Common → Left
-leave t (Entry e seen) c = leave_entry t e.0 seen c
-leave t Pending c = leave_pending t (load c (process_word t 1)) c
-leave t ClearId c = record { common = set_word c (process_word t 2) 0; next = LastWake; event = plain name.Clear 0 }
-leave t LastWake c = record {
+abbrev pub leave : ExitRule → ℕ → ExitPhase → Common → Left
+leave rule t (Entry e seen) c = leave_entry t e.0 seen c
+leave rule t Pending c = leave_pending rule t (load c (process_word t 1)) c
+leave rule t ClearId c = record { common = set_word c (process_word t 2) 0; next = LastWake; event = plain name.Clear 0 }
+leave rule t LastWake c = record {
   common = wake_front c (process_word t 2) 1;
   next = Ended;
   event = event_of name.Last (length (front c (process_word t 2) 1)) (front c (process_word t 2) 1) [];
 }
-leave t Ended c = record { common = c; next = Ended; event = plain name.Last 0 }
+leave rule t Ended c = record { common = c; next = Ended; event = plain name.Last 0 }

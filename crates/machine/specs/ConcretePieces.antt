@@ -27,6 +27,7 @@ use Rattle.machine.specs.States.{state_of, thread_of}
 use Rattle.machine.specs.PieceStates.{PieceState, request_of}
 use Rattle.machine.specs.PieceSteps.{Piece, BlocksCall}
 use Rattle.machine.specs.Views.{View, concrete}
+use Rattle.robustexit.specs.declared.rule.ExitRule.{ExitRule}
 
 -- the state with pieces of a machine whose threads have these phases
 abbrev pub pieces_of : View → (ℕ → FutexPhase) → PieceState
@@ -85,9 +86,9 @@ DoesPiece v phases t call x Done event v' =
     × Piece v.program (pieces_of v phases) t x woken (pieces_of v' (put phases t First))
 
 -- the step of thread t's exit in this phase would wake on a word whose bucket is held
-abbrev pub IsHeldUp : List ℕ → Sleepers → ℕ → ExitPhase → Type 0
-IsHeldUp words sleepers t phase =
-    (a : ℕ) × (u : ℕ) × WakesOn (length words) t phase (word_of words) a
+abbrev pub IsHeldUp : ExitRule → List ℕ → Sleepers → ℕ → ExitPhase → Type 0
+IsHeldUp rule words sleepers t phase =
+    (a : ℕ) × (u : ℕ) × WakesOn rule (length words) t phase (word_of words) a
     × (holder_of sleepers (a % bucket_count sleepers) ≡ Some u)
 
 -- the lists of sleepers behind a piece of a call: as before, or behind its act by their fronts, which its event tells;

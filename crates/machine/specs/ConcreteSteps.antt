@@ -4,6 +4,8 @@ use Rattle.std.specs.Prelude.{slice_set, Option, Some, None, Result, Ok, Err}
 use Rattle.isa.specs.Programs.{Program}
 use Rattle.locals.specs.Threads.{Thread, Exits}
 use Rattle.locals.specs.Looks.{Look, Goes, Asks, Leaves, Breaks, Rests, look}
+use Rattle.robustexit.specs.declared.rule.ExitRule.{ExitRule}
+use Rattle.robustexit.specs.ExitRules.{exit_of}
 use Rattle.machine.specs.declared.event.Event.{Event}
 use Rattle.machine.specs.declared.event.EventName.TheVariants as name
 use Rattle.machine.specs.declared.event.StepFault.{StepFault}
@@ -25,14 +27,14 @@ abbrev pub go_on_with : (ℕ → Thread) → Result Served StepFault → Result 
 go_on_with go (Ok r) = Ok (record { common = r.common; thread = go r.answer; child = r.child; event = r.event })
 go_on_with go (Err fault) = Err fault
 
--- a step of one thread on what it touches, where so many threads were made
-abbrev pub thread_step : ℕ → ℕ → Common → Look → Result Stepped StepFault
-thread_step made t c (Goes x) = Ok (record { common = c; thread = x; child = None; event = plain name.Local 0 })
-thread_step made t c (Asks request go) = go_on_with go (serve made t request c)
-thread_step made t c (Leaves phase) =
-    let r = leave t phase c in Ok (record { common = r.common; thread = Exits r.next; child = None; event = r.event })
-thread_step made t c Breaks = Err Broken
-thread_step made t c Rests = Err CannotMove
+-- a step of one thread on what it touches, where exits are by this rule and so many threads were made
+abbrev pub thread_step : ExitRule → ℕ → ℕ → Common → Look → Result Stepped StepFault
+thread_step rule made t c (Goes x) = Ok (record { common = c; thread = x; child = None; event = plain name.Local 0 })
+thread_step rule made t c (Asks request go) = go_on_with go (serve made t request c)
+thread_step rule made t c (Leaves phase) =
+    let r = leave rule t phase c in Ok (record { common = r.common; thread = Exits r.next; child = None; event = r.event })
+thread_step rule made t c Breaks = Err Broken
+thread_step rule made t c Rests = Err CannotMove
 
 -- the threads, with the one that a step made, if it made one
 abbrev pub with_new : List Thread → Option Thread → List Thread
@@ -47,7 +49,7 @@ on_machine k t (Err fault) = Err fault
 
 -- a thread that sleeps can't move
 abbrev pub step_awake : Program → ConcreteState → ℕ → Thread → Option ℕ → Result (ConcreteState × Event) StepFault
-step_awake p k t x None = on_machine k t (thread_step (length k.threads) t k.common (look p t x))
+step_awake p k t x None = on_machine k t (thread_step (exit_of p.version) (length k.threads) t k.common (look p t x))
 step_awake p k t x (Some a) = Err CannotMove
 
 -- the step of thread t, if there is such a thread
@@ -79,4 +81,4 @@ fault_of (Err fault) = Some fault
 
 -- what the step of a thread that is awake would be refused for after it went on to x
 abbrev pub fault_at : Program → ConcreteState → ℕ → Thread → Option StepFault
-fault_at p k t x = fault_of (thread_step (length k.threads) t k.common (look p t x))
+fault_at p k t x = fault_of (thread_step (exit_of p.version) (length k.threads) t k.common (look p t x))

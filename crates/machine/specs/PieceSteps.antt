@@ -19,6 +19,8 @@ use Rattle.machine.specs.AbstractServing.{Serves, shared_of, with_shared}
 use Rattle.machine.specs.Runs.{Step, Doing, Own, Strayed, Killed, IsStrayStep, IsKillStep, NextIsBroken, has_ended}
 use Rattle.machine.specs.Runs.{is_paused}
 use Rattle.machine.specs.PieceStates.{PieceState, request_of, call_of, held, opening_pieces}
+use Rattle.robustexit.specs.declared.rule.ExitRule.{ExitRule}
+use Rattle.robustexit.specs.ExitRules.{exit_of}
 
 -- the thread goes on outside calls, in a state with these threads, words and sleepers, and gives up these buckets
 abbrev pub goes_outside : PieceState → ℕ → State → List ℕ → Thread → PieceState
@@ -38,8 +40,9 @@ pub data Piece (p : Program) (s : PieceState) (t : ℕ) (x : Thread) (woken : Li
       → s' ≡ goes_outside s t mid [] (go answer) → Piece p s t x woken s'
   -- a step of its exit: should it wake on a word, that word's bucket is free
   IsExit : (phase : ExitPhase) (after : Shared) (next : ExitPhase) → look p t x ≡ Leaves phase → s.phase t ≡ First
-      → ExitStep s.base.size t phase (shared_of s.base) woken after next
-      → ((a : ℕ) → WakesOn s.base.size t phase s.base.word a → s.holder (a % s.buckets) ≡ None)
+      → ExitStep (exit_of p.version) s.base.size t phase (shared_of s.base) woken after next
+      → ((a : ℕ) → WakesOn (exit_of p.version) s.base.size t phase s.base.word a
+      → s.holder (a % s.buckets) ≡ None)
       → s' ≡ goes_outside s t (with_shared s.base after) [] (Exits next) → Piece p s t x woken s'
   -- a bucket is taken
   IsLock : (call : FutexCall) (go : ℕ → Thread) (b : ℕ) → look p t x ≡ Asks (request_of call) go
@@ -114,13 +117,13 @@ BlocksCall s t (Some call) =
     × (s.holder b ≡ Some u)
 
 -- a held bucket is in the way of a thread that looks so
-abbrev pub BlocksAt : PieceState → ℕ → Look → Type 0
-BlocksAt s t (Asks request go) = BlocksCall s t (call_of request)
-BlocksAt s t (Leaves phase) =
-    (a : ℕ) × (u : ℕ) × WakesOn s.base.size t phase s.base.word a × (s.holder (a % s.buckets) ≡ Some u)
-BlocksAt s t (Goes x) = ⊥
-BlocksAt s t Breaks = ⊥
-BlocksAt s t Rests = ⊥
+abbrev pub BlocksAt : ExitRule → PieceState → ℕ → Look → Type 0
+BlocksAt rule s t (Asks request go) = BlocksCall s t (call_of request)
+BlocksAt rule s t (Leaves phase) =
+    (a : ℕ) × (u : ℕ) × WakesOn rule s.base.size t phase s.base.word a × (s.holder (a % s.buckets) ≡ Some u)
+BlocksAt rule s t (Goes x) = ⊥
+BlocksAt rule s t Breaks = ⊥
+BlocksAt rule s t Rests = ⊥
 
 -- the thread was made, doesn't sleep, has not ended, and no held bucket is in its way
 pub record CanTakePiece (p : Program) (s : PieceState) (t : ℕ) : Type 0 where
@@ -128,7 +131,7 @@ pub record CanTakePiece (p : Program) (s : PieceState) (t : ℕ) : Type 0 where
   pub stands : s.base.thread t ≡ Some thread
   pub awake : s.base.asleep t ≡ None
   pub goes_on : has_ended (Some thread) ≡ false
-  pub free : BlocksAt s t (look p t thread) → ⊥
+  pub free : BlocksAt (exit_of p.version) s t (look p t thread) → ⊥
 
 -- the thread's next step may not be: it stands outside calls
 abbrev pub NextPieceIsBroken : Program → PieceState → ℕ → Type 0

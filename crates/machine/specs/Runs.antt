@@ -10,6 +10,8 @@ use Rattle.locals.specs.Looks.{Look, Goes, Asks, Leaves, Breaks, Rests, look}
 use Rattle.words.specs.Updates.{put}
 use Rattle.machine.specs.States.{State, opening_state, with_thread, with_sleepers}
 use Rattle.machine.specs.AbstractServing.{Serves, IsUnserved, shared_of, with_shared}
+use Rattle.robustexit.specs.declared.rule.ExitRule.{ExitRule}
+use Rattle.robustexit.specs.ExitRules.{exit_of}
 
 -- what a step is: one that its thread takes; or a wake from outside that nobody called for, of a thread that slept at
 -- this address; or a kill from outside, and whether the thread begins to die by it
@@ -43,23 +45,23 @@ has_ended None = false
 abbrev pub is_paused : State → ℕ → Bool
 is_paused s t = is_some (s.asleep t) || has_ended (s.thread t)
 
--- what a thread that looks so does in one step
-abbrev pub Moves : State → ℕ → List ℕ → Look → State → Type 0
-Moves s t woken (Goes x) s' = (woken ≡ []) × (s' ≡ with_thread s t x)
-Moves s t woken (Asks request go) s' =
+-- what a thread that looks so does in one step, where exits are by this rule
+abbrev pub Moves : ExitRule → State → ℕ → List ℕ → Look → State → Type 0
+Moves rule s t woken (Goes x) s' = (woken ≡ []) × (s' ≡ with_thread s t x)
+Moves rule s t woken (Asks request go) s' =
     (answer : ℕ) × (mid : State) × Serves t request s woken answer mid × (s' ≡ with_thread mid t (go answer))
-Moves s t woken (Leaves phase) s' =
-    (after : Shared) × (next : ExitPhase) × ExitStep s.size t phase (shared_of s) woken after next
+Moves rule s t woken (Leaves phase) s' =
+    (after : Shared) × (next : ExitPhase) × ExitStep rule s.size t phase (shared_of s) woken after next
     × (s' ≡ with_thread (with_shared s after) t (Exits next))
-Moves s t woken Breaks s' = ⊥
-Moves s t woken Rests s' = ⊥
+Moves rule s t woken Breaks s' = ⊥
+Moves rule s t woken Rests s' = ⊥
 
 -- one step of a thread that was made and doesn't sleep
 pub record IsOwnStep (p : Program) (s : State) (step : Step) (s' : State) : Type 0 where
   pub thread : Thread
   pub stands : s.thread step.thread ≡ Some thread
   pub awake : s.asleep step.thread ≡ None
-  pub moves : Moves s step.thread step.woken (look p step.thread thread) s'
+  pub moves : Moves (exit_of p.version) s step.thread step.woken (look p step.thread thread) s'
   pub pauses : step.pauses ≡ is_paused s' step.thread
 
 -- a wake from outside of a thread that sleeps

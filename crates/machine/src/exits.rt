@@ -10,7 +10,7 @@ ghost use Rattle.machine.specs.Views.{common};
 
 use crate::common::Common;
 use crate::event::{Event, EventName};
-use robustexit::{ExitPhase, exit_step, wakes_on};
+use robustexit::{ExitPhase, ExitRule, exit_step, wakes_on};
 use words::{Mem, ProcessWord, block};
 
 // The address that an event of this phase names, or 0.
@@ -39,17 +39,24 @@ fn name_of(phase: ExitPhase) -> EventName
 }
 
 impl Common {
-    /// Takes a step of the exit of thread `t`, which isn't over, and answers the phase after it.
-    pub fn leave(&mut self, t: u32, phase: ExitPhase, event: &mut Event) -> ExitPhase
+    /// Takes a step of the exit of thread `t`, which isn't over, by this rule, and answers the phase after it.
+    pub fn leave(
+        &mut self,
+        rule: ExitRule,
+        t: u32,
+        phase: ExitPhase,
+        event: &mut Event,
+    ) -> ExitPhase
         requires thread { (1 ≤ t) × (t ≤ thread_count self.old.sleepers) }
         requires running { phase ≢ ExitPhase.Ended }
-        ensures gives { leave t phase (common self.old)
+        ensures gives { leave rule t phase (common self.old)
             ≡ record { common = common self.new; next = result; event = event.new } }
         ensures capacity { self.new.capacity ≡ self.old.capacity }
         ensures holders { self.new.sleepers.holders ≡ self.old.sleepers.holders }
     {
         let address = address_at(&self.words, t, phase);
         let next = exit_step(
+            rule,
             &mut self.words,
             &mut self.buckets,
             t,
@@ -65,13 +72,14 @@ impl Common {
         next
     }
 
-    /// Whether a thread holds the bucket of the word on which the step of thread `t`'s exit in this phase would wake.
-    pub fn is_held_up(&self, t: u32, phase: ExitPhase) -> bool
+    /// Whether a thread holds the bucket of the word on which the step of thread `t`'s exit in this phase would wake, by
+    /// this rule.
+    pub fn is_held_up(&self, rule: ExitRule, t: u32, phase: ExitPhase) -> bool
         requires thread { (1 ≤ t) × (t ≤ thread_count self.now.sleepers) }
-        ensures { MatchBool result (IsHeldUp self.now.words self.now.sleepers t phase)
-            (IsHeldUp self.now.words self.now.sleepers t phase → ⊥) }
+        ensures { MatchBool result (IsHeldUp rule self.now.words self.now.sleepers t phase)
+            (IsHeldUp rule self.now.words self.now.sleepers t phase → ⊥) }
     {
-        match wakes_on(&self.words, t, phase) {
+        match wakes_on(rule, &self.words, t, phase) {
             Some(word) => {
                 let bucket = self.buckets.number(word);
                 self.buckets.holder(bucket).is_some()

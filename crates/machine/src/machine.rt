@@ -9,6 +9,7 @@ ghost use Rattle.buckets.specs.BucketCount.{IsBucketCount};
 ghost use Rattle.buckets.specs.Places.{names};
 ghost use Rattle.buckets.specs.Sleepers.{bucket_count, holder_of};
 ghost use Rattle.futexcalls.specs.Pieces.{takes_at, held_at, IsPhase, LiesIn};
+ghost use Rattle.robustexit.specs.ExitRules.{exit_of};
 ghost use Rattle.locals.specs.Accesses.{accessing};
 ghost use Rattle.locals.specs.Looks.{look};
 ghost use Rattle.locals.specs.Requests.{call_in, next_step_of};
@@ -37,7 +38,7 @@ use crate::thread_step::{take_access, take_walk};
 use futexcalls::{FutexCall, FutexPhase};
 use isa::Image;
 use locals::{Access, Local, NextStep, Request, Sequences};
-use robustexit::ExitPhase;
+use robustexit::{ExitPhase, ExitRule};
 use std::alloc::{AllocError, Global};
 use std::marker::Model;
 use words::{Addr, Outcome, ProcessWord, block};
@@ -446,10 +447,11 @@ impl Machine {
     /// Whether a thread holds the bucket of the word on which the step of thread `t`'s exit in this phase would wake.
     pub fn is_held_up(&self, t: u32, phase: ExitPhase) -> bool
         requires { (0 < t) × (t ≤ length self.now.threads) }
-        ensures { MatchBool result (IsHeldUp self.now.words self.now.sleepers t phase)
-            (IsHeldUp self.now.words self.now.sleepers t phase → ⊥) }
+        ensures { MatchBool result (IsHeldUp (exit_of self.now.program.version) self.now.words self.now.sleepers t phase)
+            (IsHeldUp (exit_of self.now.program.version) self.now.words self.now.sleepers t phase → ⊥) }
     {
-        self.common.is_held_up(t, phase)
+        self.common
+            .is_held_up(ExitRule::of(self.image.version()), t, phase)
     }
 
     /// Whether the words of a futex call lie in the memory.

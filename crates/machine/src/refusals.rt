@@ -1,4 +1,5 @@
 ghost use Rattle.std.specs.Prelude.{◌≡◌, ℕ, Some, None, if◌then◌else◌, nat_lt, length};
+ghost use Rattle.robustexit.specs.declared.rule.ExitRule.{ExitRule};
 ghost use Rattle.locals.specs.Looks.{Look};
 ghost use Rattle.locals.specs.Requests.{next_step_of};
 ghost use Rattle.machine.specs.ConcreteServing.{serve};
@@ -56,8 +57,8 @@ impl Common {
     /// What the next step of thread `t`, where it is `next`, the thread is awake and so many threads were made, would
     /// be refused for.
     pub fn refusal(&self, made: u32, t: u32, next: NextStep) -> Option<StepFault>
-        ensures { (l : Look) → next ≡ next_step_of l
-            → result ≡ fault_of (thread_step made t (common self.now) l) }
+        ensures { (rule : ExitRule) (l : Look) → next ≡ next_step_of l
+            → result ≡ fault_of (thread_step rule made t (common self.now) l) }
     {
         match next {
             NextStep::Local | NextStep::Exit(_) => None,

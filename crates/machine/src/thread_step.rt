@@ -1,6 +1,7 @@
 ghost use Rattle.std.specs.Prelude.{◌≢◌, ◌≡◌, ◌≤◌, ◌<◌, ℕ, None, Ok, Err, IfOk, IfErr, IfSome, IfNone, OnOk, OnErr, IsSome, length};
 ghost use Rattle.buckets.specs.Sleepers.{place_of, thread_count};
 ghost use Rattle.robustexit.specs.declared.phase.ExitPhase.TheVariants.{Ended};
+ghost use Rattle.robustexit.specs.ExitRules.{exit_of};
 ghost use Rattle.locals.specs.Sequences.{AreSequences};
 ghost use Rattle.locals.specs.Looks.{look};
 ghost use Rattle.locals.specs.Requests.{next_step_of};
@@ -17,12 +18,12 @@ use crate::common::Common;
 use crate::event::{Event, EventName, StepFault};
 use isa::Image;
 use locals::{Access, Local, Request, Sequences};
-use robustexit::ExitPhase;
+use robustexit::{ExitPhase, ExitRule};
 
 /// A local step of thread `t`.
 pub fn take_local(image: &Image, t: u32, local: &mut Local, event: &mut Event)
     requires asks { next_step_of (look image.now t local.old) ≡ next.Local }
-    ensures { (made : ℕ) (c : CommonOf) → thread_step made t c (look image.now t local.old)
+    ensures { (made : ℕ) (c : CommonOf) → thread_step (exit_of image.now.version) made t c (look image.now t local.old)
         ≡ Ok (record { common = c; thread = local.new; child = None; event = event.new }) }
 {
     local.take_step(image, t);
@@ -40,12 +41,12 @@ pub fn take_exit(
 )
     requires thread { (1 ≤ t) × (t ≤ thread_count shared.old.sleepers) }
     requires asks { next_step_of (look image.now t local.old) ≡ next.Exit phase }
-    ensures done { (made : ℕ) → thread_step made t (common shared.old) (look image.now t local.old)
+    ensures done { (made : ℕ) → thread_step (exit_of image.now.version) made t (common shared.old) (look image.now t local.old)
         ≡ Ok (record { common = common shared.new; thread = local.new; child = None; event = event.new }) }
     ensures capacity { shared.new.capacity ≡ shared.old.capacity }
     ensures holders { shared.new.sleepers.holders ≡ shared.old.sleepers.holders }
 {
-    let next = shared.leave(t, phase, event);
+    let next = shared.leave(ExitRule::of(image.version()), t, phase, event);
     local.enter_phase(next);
 }
 
@@ -94,10 +95,10 @@ pub fn take_request(
     requires awake { place_of shared.old.sleepers t ≡ None }
     requires asks { next_step_of (look image.now t local.old) ≡ next.Shared request }
     ensures done { OnOk result ((made : ℕ)
-        → thread_step made t (common shared.old) (look image.now t local.old)
+        → thread_step (exit_of image.now.version) made t (common shared.old) (look image.now t local.old)
         ≡ Ok (record { common = common shared.new; thread = local.new; child = None; event = event.new })) }
     ensures err { IfErr result (λ f. (made : ℕ)
-        → thread_step made t (common shared.old) (look image.now t local.old) ≡ Err f) }
+        → thread_step (exit_of image.now.version) made t (common shared.old) (look image.now t local.old) ≡ Err f) }
     ensures same { OnErr result ((local.new ≡ local.old) × (shared.new ≡ shared.old)) }
     ensures capacity { shared.new.capacity ≡ shared.old.capacity }
     ensures holders { shared.new.sleepers.holders ≡ shared.old.sleepers.holders }
@@ -121,10 +122,10 @@ pub fn take_fork(
     requires few { made ≤ thread_count shared.old.sleepers }
     requires asks { AsksFork (look image.now t local.old) has_room }
     ensures done { IfOk result
-        (λ child. thread_step made t (common shared.old) (look image.now t local.old)
+        (λ child. thread_step (exit_of image.now.version) made t (common shared.old) (look image.now t local.old)
         ≡ Ok (record { common = common shared.new; thread = local.new; child = child; event = event.new })) }
     ensures err { IfErr result
-        (λ f. thread_step made t (common shared.old) (look image.now t local.old) ≡ Err f) }
+        (λ f. thread_step (exit_of image.now.version) made t (common shared.old) (look image.now t local.old) ≡ Err f) }
     ensures child { IfOk result (λ child. IsSome child → made < thread_count shared.old.sleepers) }
     ensures same { OnErr result ((local.new ≡ local.old) × (shared.new ≡ shared.old)) }
     ensures capacity { shared.new.capacity ≡ shared.old.capacity }

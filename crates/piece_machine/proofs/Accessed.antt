@@ -2,6 +2,7 @@
 use Rattle.std.proofs.Common.{◌≡◌, ℕ, List, true, false, Option, Some, None, Ok, is_some, ap, sym, refl, subst, ◌∙◌}
 use Rattle.std.specs.Prelude.{MatchOption}
 use Rattle.futexcalls.specs.declared.pieces.FutexPhase.{FutexPhase}
+use Rattle.robustexit.specs.declared.rule.ExitRule.{ExitRule}
 use Rattle.locals.specs.declared.access.Access.{Access}
 use Rattle.locals.specs.Accesses.{Accessing, Found, accessing, found, goes_on}
 use Rattle.locals.specs.Steps.{local_next}
@@ -53,14 +54,14 @@ calls_none (Leaves phase) ws a h = absurd cc
 calls_none Breaks ws a h = absurd cc
 calls_none Rests ws a h = absurd cc
 
-blocks_none : (s : PieceState) (t : ℕ) (l : Look) (ws : List ℕ) (a : Accessing) → accessing l ws ≡ Some a
-    → BlocksAt s t l → ⊥
-blocks_none s t (Asks request go) ws a h blocks =
+blocks_none : (rule : ExitRule) (s : PieceState) (t : ℕ) (l : Look) (ws : List ℕ) (a : Accessing) → accessing l ws ≡ Some a
+    → BlocksAt rule s t l → ⊥
+blocks_none rule s t (Asks request go) ws a h blocks =
     subst (BlocksCall s t) (calls_none (Asks request go) ws a h) blocks
-blocks_none s t (Goes x) ws a h blocks = absurd cc
-blocks_none s t (Leaves phase) ws a h blocks = absurd cc
-blocks_none s t Breaks ws a h blocks = absurd cc
-blocks_none s t Rests ws a h blocks = absurd cc
+blocks_none rule s t (Goes x) ws a h blocks = absurd cc
+blocks_none rule s t (Leaves phase) ws a h blocks = absurd cc
+blocks_none rule s t Breaks ws a h blocks = absurd cc
+blocks_none rule s t Rests ws a h blocks = absurd cc
 
 apart : (v v' : View) (phases : List FutexPhase) (t : ℕ) (e : Event) → can_move (concrete v) t ≡ true
     → MakesAccess v t e v' → IsApart v.program (pieces (record { view = v; phases = phases })) t
@@ -69,7 +70,7 @@ apart v v' phases t e can m = record {
   stands = m.stands;
   awake = awake (concrete v) t can;
   none = calls_none (look v.program t m.origin) v.words m.access m.makes;
-  free = blocks_none (pieces (record { view = v; phases = phases })) t (look v.program t m.origin) v.words m.access m.makes;
+  free = blocks_none _ (pieces (record { view = v; phases = phases })) t (look v.program t m.origin) v.words m.access m.makes;
 }
 
 -- nor is it a local step

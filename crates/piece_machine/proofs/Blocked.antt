@@ -4,6 +4,8 @@ use Rattle.std.proofs.Common.{length, refl, sym, ap, ◌∙◌, subst}
 use Rattle.std.specs.Prelude.{MatchBool}
 use Rattle.isa.specs.Programs.{Program}
 use Rattle.futexcalls.specs.declared.pieces.FutexCall.{FutexCall}
+use Rattle.robustexit.specs.ExitRules.{exit_of}
+use Rattle.robustexit.specs.declared.rule.ExitRule.{ExitRule}
 use Rattle.locals.specs.Threads.{Thread, Exits}
 use Rattle.locals.specs.declared.request.Request.{Request as Told}
 use Rattle.locals.specs.declared.request.NextStep.TheVariants as next
@@ -54,20 +56,20 @@ leaves_as Rests phase is = absurd cc
 
 -- a held bucket is in the way of a thread just where it is by what it looks like
 pub blocked_by : (p : Program) (s : PieceState) (t : ℕ) (x : Thread) (l : Look) → s.base.thread t ≡ Some x
-    → look p t x ≡ l → BlocksAt s t l → IsBlocked p s t
+    → look p t x ≡ l → BlocksAt (exit_of p.version) s t l → IsBlocked p s t
 blocked_by p s t x l stands looks blocks =
-    record { thread = x; stands = stands; blocks = subst (λ (m : Look). BlocksAt s t m) (sym looks) blocks }
+    record { thread = x; stands = stands; blocks = subst (λ (m : Look). BlocksAt (exit_of p.version) s t m) (sym looks) blocks }
 
 pub unblocked_by : (p : Program) (s : PieceState) (t : ℕ) (x : Thread) (l : Look) → s.base.thread t ≡ Some x
-    → look p t x ≡ l → (BlocksAt s t l → ⊥) → IsBlocked p s t → ⊥
+    → look p t x ≡ l → (BlocksAt (exit_of p.version) s t l → ⊥) → IsBlocked p s t → ⊥
 unblocked_by p s t x l stands looks free b =
-    free (subst (λ (m : Look). BlocksAt s t m)
+    free (subst (λ (m : Look). BlocksAt (exit_of p.version) s t m)
     (ap (look p t) (one_thread b.thread x (sym b.stands ∙ stands)) ∙ looks) b.blocks)
 
 -- the same of a call
-pub call_blocks_at : (s : PieceState) (t : ℕ) (call : FutexCall) (go : ℕ → Thread) → BlocksAt s t (Asks (request_of call) go)
+pub call_blocks_at : (rule : ExitRule) (s : PieceState) (t : ℕ) (call : FutexCall) (go : ℕ → Thread) → BlocksAt rule s t (Asks (request_of call) go)
     → BlocksCall s t (Some call)
-call_blocks_at s t call go h = subst (BlocksCall s t) (call_back call) h
+call_blocks_at rule s t call go h = subst (BlocksCall s t) (call_back call) h
 
 -- whether a held bucket is in the way of a thread, by whether one is in the way of its call, and of its exit
 pub call_blocked : (v : View) (s : PieceState) (t : ℕ) (call : FutexCall) (b : Bool) → s.base ≡ state_of (concrete v)
@@ -76,13 +78,14 @@ pub call_blocked : (v : View) (s : PieceState) (t : ℕ) (call : FutexCall) (b :
 call_blocked v s t call b base m h =
     let stands : s.base.thread t ≡ Some m.thread = ap (λ z. z.thread t) base ∙ m.stands in
     both b h
-    (λ w. blocked_by v.program s t m.thread (Asks (request_of call) m.go) stands m.asks (call_blocks s t call m.go w))
+    (λ w. blocked_by v.program s t m.thread (Asks (request_of call) m.go) stands m.asks
+    (call_blocks (exit_of v.program.version) s t call m.go w))
     (λ free. unblocked_by v.program s t m.thread (Asks (request_of call) m.go) stands m.asks
-    (λ w. free (call_blocks_at s t call m.go w)))
+    (λ w. free (call_blocks_at (exit_of v.program.version) s t call m.go w)))
 
 pub exit_blocked : (v : View) (s : PieceState) (t : ℕ) (phase : ExitPhase) (b : Bool) → s.base ≡ state_of (concrete v)
     → (x : Thread) → thread_of (concrete v) t ≡ Some x → next.Exit phase ≡ next_step_of (look v.program t x)
-    → MatchBool b (BlocksAt s t (Leaves phase)) (BlocksAt s t (Leaves phase) → ⊥)
+    → MatchBool b (BlocksAt (exit_of v.program.version) s t (Leaves phase)) (BlocksAt (exit_of v.program.version) s t (Leaves phase) → ⊥)
     → MatchBool b (IsBlocked v.program s t) (IsBlocked v.program s t → ⊥)
 exit_blocked v s t phase b base x at is h =
     let stands : s.base.thread t ≡ Some x = ap (λ z. z.thread t) base ∙ at in

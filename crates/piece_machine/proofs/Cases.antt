@@ -9,6 +9,7 @@ use Rattle.futexcalls.specs.declared.pieces.FutexCall.TheVariants.{Wait, Wake, R
 use Rattle.futexcalls.specs.declared.pieces.FutexPhase.{FutexPhase}
 use Rattle.futexcalls.specs.declared.pieces.FutexPhase.TheVariants.{First, Second, Compare, Act}
 use Rattle.futexcalls.specs.Pieces.{takes_at, after_lock, Compares}
+use Rattle.robustexit.specs.ExitRules.{exit_of}
 use Rattle.locals.specs.Threads.{Thread}
 use Rattle.locals.specs.Looks.{Request, Look, Goes, Asks, Leaves, Breaks, Rests, look}
 use Rattle.machine.specs.declared.event.Event.{Event}
@@ -99,13 +100,13 @@ abbrev pub Stands : Program → PieceConcrete → ℕ → Thread → Type 0
 Stands p k t x = (thread_of k.concrete t ≡ Some x) × (k.concrete.common.asleep t ≡ None)
 
 pub apart : (p : Program) (k : PieceConcrete) (t : ℕ) (x : Thread) (l : Look) → Stands p k t x → look p t x ≡ l
-    → (let o : Option FutexCall = call_at l in o) ≡ None → (BlocksAt (pieces_at k) t l → ⊥) → IsApart p (pieces_at k) t
+    → (let o : Option FutexCall = call_at l in o) ≡ None → (BlocksAt (exit_of p.version) (pieces_at k) t l → ⊥) → IsApart p (pieces_at k) t
 apart p k t x l stands looks none free = record {
   thread = x;
   stands = stands.0;
   awake = stands.1;
   none = ap call_at looks ∙ none;
-  free = λ b. free (subst (BlocksAt (pieces_at k) t) looks b);
+  free = λ b. free (subst (BlocksAt (exit_of p.version) (pieces_at k) t) looks b);
 }
 
 call_taken : (p : Program) (k k' : PieceConcrete) (t : ℕ) (e : Event) (x : Thread) (request : Request)
@@ -131,11 +132,11 @@ look_taken : (p : Program) (k k' : PieceConcrete) (t : ℕ) (e : Event) (x : Thr
 look_taken p k k' t e x (Asks request go) stands looks h =
     call_taken p k k' t e x request go (call_of request) stands looks refl h
 look_taken p k k' t e x (Leaves phase) stands looks h =
-    elim (cases_Bool (is_held k (wanted k t (Leaves phase)))) [
+    elim (cases_Bool (is_held k (wanted (exit_of p.version) k t (Leaves phase)))) [
       | inl y ↦ absurd (let out = sym (cond-true _ (Err CannotMove) (whole_at k (step_of p k.concrete t)) y) ∙ h in cc)
       | inr n ↦ whole_taken p k k' t e (step_of p k.concrete t)
           (apart p k t x (Leaves phase) stands looks refl
-          (λ b. both_ways (is_held k (wanted k t (Leaves phase))) n (blocks_test k t (Leaves phase) b))) refl
+          (λ b. both_ways (is_held k (wanted (exit_of p.version) k t (Leaves phase))) n (blocks_test (exit_of p.version) k t (Leaves phase) b))) refl
           (sym (cond-false _ _ _ n) ∙ h)
     ]
 look_taken p k k' t e x (Goes y) stands looks h =

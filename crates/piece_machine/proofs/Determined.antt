@@ -13,6 +13,7 @@ use Rattle.futexcalls.specs.declared.pieces.FutexPhase.{FutexPhase}
 use Rattle.futexcalls.specs.declared.pieces.FutexPhase.TheVariants.{First, Compare, Act}
 use Rattle.futexcalls.specs.Pieces.{buckets_of, takes_at, after_lock, again_of, Compares}
 use Rattle.futexcalls.specs.PieceResults.{woken_by, moved_by}
+use Rattle.robustexit.specs.ExitRules.{exit_of}
 use Rattle.locals.specs.Threads.{Thread}
 use Rattle.locals.specs.Looks.{look}
 use Rattle.machine.specs.declared.event.Event.{Event}
@@ -91,7 +92,7 @@ whole_done p k c t e fit apart done =
         stands = apart.stands;
         awake = apart.awake;
         piece = whole_is_piece p k c t apart.thread r.0 (look p t apart.thread) refl
-            (subst (λ (y : Thread). Moves (state_of k.concrete) t r.0 (look p t y) (state_of c)) same r.2.moves)
+            (subst (λ (y : Thread). Moves (exit_of p.version) (state_of k.concrete) t r.0 (look p t y) (state_of c)) same r.2.moves)
             apart.none apart.free first;
         pauses = refl;
       };

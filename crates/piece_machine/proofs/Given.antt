@@ -4,6 +4,7 @@ use Rattle.std.proofs.Common.{ap, ◌∙◌}
 use Rattle.std.proofs.lemmas.Bool.{cases_Bool, cond-true, cond-false}
 use Rattle.isa.specs.Programs.{Program}
 use Rattle.futexcalls.specs.declared.pieces.FutexCall.{FutexCall}
+use Rattle.robustexit.specs.ExitRules.{exit_of}
 use Rattle.locals.specs.Threads.{Thread}
 use Rattle.locals.specs.Looks.{Look, Goes, Asks, Leaves, Breaks, Rests, look}
 use Rattle.machine.specs.declared.event.Event.{Event}
@@ -33,12 +34,12 @@ stands_is p k t x l stands looks =
     ap (thread_step p k t) stands.0 ∙ ap (awake_step p k t x) stands.1 ∙ ap (look_step p k t) looks
 
 -- a step that is none of a call
-apart_is : (p : Program) (k : PieceConcrete) (t : ℕ) (l : Look) → call_at l ≡ None → (BlocksAt (pieces_at k) t l → ⊥)
+apart_is : (p : Program) (k : PieceConcrete) (t : ℕ) (l : Look) → call_at l ≡ None → (BlocksAt (exit_of p.version) (pieces_at k) t l → ⊥)
     → look_step p k t l ≡ whole_at k (step_of p k.concrete t)
 apart_is p k t (Asks request go) none free = ap (call_step p k t go) none
 apart_is p k t (Leaves phase) none free =
-    elim (cases_Bool (is_held k (wanted k t (Leaves phase)))) [
-      | inl y ↦ absurd (free (blocks_so k t (Leaves phase) y))
+    elim (cases_Bool (is_held k (wanted (exit_of p.version) k t (Leaves phase)))) [
+      | inl y ↦ absurd (free (blocks_so (exit_of p.version) k t (Leaves phase) y))
       | inr n ↦ cond-false _ _ _ n
     ]
 apart_is p k t (Goes y) none free = refl
@@ -61,7 +62,7 @@ call_is p k t call go calls =
 
 -- a thread in whose way a held bucket is
 pub held_up : (p : Program) (k : PieceConcrete) (t : ℕ) (x : Thread) (l : Look) → IsFit p k → Stands p k t x
-    → look p t x ≡ l → BlocksAt (pieces_at k) t l → piece_of p k t ≡ Err CannotMove
+    → look p t x ≡ l → BlocksAt (exit_of p.version) (pieces_at k) t l → piece_of p k t ≡ Err CannotMove
 held_up p k t x l fit stands looks blocks =
     (piece_refuses_so p k t fit).1 (in_the_way p (pieces_at k) t x l stands.0 looks blocks)
 
@@ -79,7 +80,7 @@ call_fault p k t x call go (Some Broken) fit stands asks out =
     (breaks p (pieces_at k) t x call go fit.right stands.0 stands.1 asks out)))
 call_fault p k t x call go (Some CannotMove) fit stands asks blocks =
     sym (ap fault_of (held_up p k t x (Asks (request_of call) go) fit stands asks
-    (call_blocks (pieces_at k) t call go blocks)))
+    (call_blocks (exit_of p.version) (pieces_at k) t call go blocks)))
 call_fault p k t x call go None fit stands asks free =
     unrefused (piece_at k t call go (k.phase t)) (λ h.
     let held = piece_held k t call go (k.phase t) (there_of p k t x call go fit stands.0 asks) h in
@@ -114,7 +115,7 @@ machine_fault k t (Ok q) = refl
 machine_fault k t (Err f) = refl
 
 pub apart_fault : (p : Program) (k : PieceConcrete) (t : ℕ) (x here : Thread) → Stands p k t x
-    → (call_at (look p t here) ≡ None) × (BlocksAt (pieces_at (with_local k t here)) t (look p t here) → ⊥)
+    → (call_at (look p t here) ≡ None) × (BlocksAt (exit_of p.version) (pieces_at (with_local k t here)) t (look p t here) → ⊥)
     → fault_at p k.concrete t here ≡ piece_fault_at p k t here
 apart_fault p k t x here stands h =
     let to = with_local k t here in

@@ -4,6 +4,7 @@ use Rattle.std.proofs.Common.{true, refl, sym, ap, ◌∙◌, subst, arith}
 use Rattle.std.specs.Prelude.{slice_get}
 use Rattle.isa.specs.Programs.{Program}
 use Rattle.futexcalls.specs.declared.pieces.FutexPhase.{FutexPhase}
+use Rattle.robustexit.specs.ExitRules.{exit_of}
 use Rattle.locals.specs.Threads.{Thread}
 use Rattle.locals.specs.Looks.{Look, Goes, Asks, Leaves, Breaks, Rests, look}
 use Rattle.locals.specs.Steps.{local_next, local_step, and_step, local_after}
@@ -77,7 +78,7 @@ goes_on : (p : Program) (k : PieceConcrete) (t : ℕ) (y z : Thread) → Stands 
     → step_of p k.concrete t ≡ Ok (put_thread k.concrete t z, plain name.Local 0)
 goes_on p k t y z stands goes =
     ap (step_thread p k.concrete t) stands.0 ∙ ap (step_awake p k.concrete t y) stands.1
-    ∙ ap (λ l. on_machine k.concrete t (thread_step (length k.concrete.threads) t k.concrete.common l))
+    ∙ ap (λ l. on_machine k.concrete t (thread_step (exit_of p.version) (length k.concrete.threads) t k.concrete.common l))
     (look_goes (look p t y) z goes)
 
 -- a local step is one of the machine with pieces

@@ -7,6 +7,8 @@ use Rattle.futexcalls.specs.declared.pieces.FutexCall.{FutexCall}
 use Rattle.futexcalls.specs.declared.pieces.FutexCall.TheVariants.{Wait, Wake, Requeue}
 use Rattle.futexcalls.specs.declared.pieces.FutexPhase.TheVariants.{First}
 use Rattle.futexcalls.specs.Pieces.{held_at, IsPhase, LiesIn}
+use Rattle.robustexit.specs.ExitRules.{exit_of}
+use Rattle.robustexit.specs.declared.rule.ExitRule.{ExitRule}
 use Rattle.locals.specs.Threads.{Thread}
 use Rattle.robustexit.specs.declared.phase.ExitPhase.{ExitPhase}
 use Rattle.locals.specs.declared.request.Request.{Request as Told}
@@ -86,14 +88,14 @@ breaks p s t x call go right stands awake asks out = (
 
 -- a held bucket is in the way of a thread that looks so
 pub in_the_way : (p : Program) (s : PieceState) (t : ℕ) (x : Thread) (l : Look) → s.base.thread t ≡ Some x
-    → look p t x ≡ l → BlocksAt s t l → CanTakePiece p s t → ⊥
+    → look p t x ≡ l → BlocksAt (exit_of p.version) s t l → CanTakePiece p s t → ⊥
 in_the_way p s t x l stands looks blocks can =
-    can.free (subst (λ (m : Look). BlocksAt s t m)
+    can.free (subst (λ (m : Look). BlocksAt (exit_of p.version) s t m)
     (sym looks ∙ ap (look p t) (one_thread x can.thread (sym stands ∙ can.stands))) blocks)
 
-pub call_blocks : (s : PieceState) (t : ℕ) (call : FutexCall) (go : ℕ → Thread) → BlocksCall s t (Some call)
-    → BlocksAt s t (Asks (request_of call) go)
-call_blocks s t call go h = rw (call_back call) h
+pub call_blocks : (rule : ExitRule) (s : PieceState) (t : ℕ) (call : FutexCall) (go : ℕ → Thread) → BlocksCall s t (Some call)
+    → BlocksAt rule s t (Asks (request_of call) go)
+call_blocks rule s t call go h = rw (call_back call) h
 
 -- a request that is told as a call is that call's
 pub told_call : (r : Request) (call : FutexCall) → call_of r ≡ Some call → r ≡ request_of call
@@ -142,15 +144,15 @@ makes_call v t request call made is h =
     record { thread = m.0; go = a.0; stands = m.1; asks = a.1 }
 
 -- a thread that asks for something else
-pub none_asked : (s : PieceState) (t : ℕ) (l : Look) (request : Told) → next.Shared request ≡ next_step_of l
-    → None ≡ call_of (asked_of request) → (call_at l ≡ None) × (BlocksAt s t l → ⊥)
-none_asked s t (Goes y) request is h = absurd cc
-none_asked s t (Asks r go) request is h =
+pub none_asked : (rule : ExitRule) (s : PieceState) (t : ℕ) (l : Look) (request : Told) → next.Shared request ≡ next_step_of l
+    → None ≡ call_of (asked_of request) → (call_at l ≡ None) × (BlocksAt rule s t l → ⊥)
+none_asked rule s t (Goes y) request is h = absurd cc
+none_asked rule s t (Asks r go) request is h =
     let none : call_of r ≡ None = ap call_of (sym (asked_back r request (sym is))) ∙ sym h in
     (none, λ b. subst (BlocksCall s t) none b)
-none_asked s t (Leaves phase) request is h = absurd cc
-none_asked s t Breaks request is h = absurd cc
-none_asked s t Rests request is h = absurd cc
+none_asked rule s t (Leaves phase) request is h = absurd cc
+none_asked rule s t Breaks request is h = absurd cc
+none_asked rule s t Rests request is h = absurd cc
 
 pub apart_asks : (v : View) (s : PieceState) (t : ℕ) (request : Told) → s.base ≡ state_of (concrete v)
     → s.base.asleep t ≡ None → (thread_of (concrete v) t ≡ None → ⊥)
@@ -158,7 +160,7 @@ pub apart_asks : (v : View) (s : PieceState) (t : ℕ) (request : Told) → s.ba
     → None ≡ call_of (asked_of request) → IsApart v.program s t
 apart_asks v s t request base awake made is h =
     let m = made_of (thread_of (concrete v) t) made in
-    let n = none_asked s t (look v.program t m.0) request (is m.0 m.1) h in
+    let n = none_asked _ s t (look v.program t m.0) request (is m.0 m.1) h in
     record {
       thread = m.0;
       stands = ap (λ (b : State). b.thread t) base ∙ m.1;
@@ -168,26 +170,26 @@ apart_asks v s t request base awake made is h =
     }
 
 -- a thread in its exit
-pub leaves : (s : PieceState) (t : ℕ) (l : Look) (phase : ExitPhase) → next.Exit phase ≡ next_step_of l
-    → (BlocksAt s t (Leaves phase) → ⊥) → (call_at l ≡ None) × (BlocksAt s t l → ⊥)
-leaves s t (Goes y) phase is free = absurd cc
-leaves s t (Asks r go) phase is free = absurd (no_exit r phase (sym is))
-leaves s t (Leaves q) phase is free =
+pub leaves : (rule : ExitRule) (s : PieceState) (t : ℕ) (l : Look) (phase : ExitPhase) → next.Exit phase ≡ next_step_of l
+    → (BlocksAt rule s t (Leaves phase) → ⊥) → (call_at l ≡ None) × (BlocksAt rule s t l → ⊥)
+leaves rule s t (Goes y) phase is free = absurd cc
+leaves rule s t (Asks r go) phase is free = absurd (no_exit r phase (sym is))
+leaves rule s t (Leaves q) phase is free =
     let same : phase ≡ q = one_phase phase q is in (
       refl,
-      λ b. free (subst (λ (f : ExitPhase). BlocksAt s t (Leaves f))
+      λ b. free (subst (λ (f : ExitPhase). BlocksAt rule s t (Leaves f))
           (sym same) b),
     )
-leaves s t Breaks phase is free = absurd cc
-leaves s t Rests phase is free = absurd cc
+leaves rule s t Breaks phase is free = absurd cc
+leaves rule s t Rests phase is free = absurd cc
 
 pub apart_leaves : (v : View) (s : PieceState) (t : ℕ) (phase : ExitPhase) → s.base ≡ state_of (concrete v)
     → s.base.asleep t ≡ None → (thread_of (concrete v) t ≡ None → ⊥)
     → ((x : Thread) → thread_of (concrete v) t ≡ Some x → next.Exit phase ≡ next_step_of (look v.program t x))
-    → (BlocksAt s t (Leaves phase) → ⊥) → IsApart v.program s t
+    → (BlocksAt (exit_of v.program.version) s t (Leaves phase) → ⊥) → IsApart v.program s t
 apart_leaves v s t phase base awake made is free =
     let m = made_of (thread_of (concrete v) t) made in
-    let n = leaves s t (look v.program t m.0) phase (is m.0 m.1) free in
+    let n = leaves _ s t (look v.program t m.0) phase (is m.0 m.1) free in
     record {
       thread = m.0;
       stands = ap (λ (b : State). b.thread t) base ∙ m.1;
@@ -197,27 +199,27 @@ apart_leaves v s t phase base awake made is free =
     }
 
 -- a thread before any other step
-pub others : (s : PieceState) (t : ℕ) (l : Look) (n : NextStep) → n ≡ next_step_of l
+pub others : (rule : ExitRule) (s : PieceState) (t : ℕ) (l : Look) (n : NextStep) → n ≡ next_step_of l
     → ((request : Told) → n ≡ next.Shared request → ⊥) → ((phase : ExitPhase) → n ≡ next.Exit phase → ⊥)
-    → (call_at l ≡ None) × (BlocksAt s t l → ⊥)
-others s t (Goes y) n is ns ne = (refl, λ b. b)
-others s t (Asks (AskFork entry arguments room) go) n is ns ne = (refl, λ b. b)
-others s t (Asks (AskLoad a) go) n is ns ne = absurd (ns _ is)
-others s t (Asks (AskStore a v) go) n is ns ne = absurd (ns _ is)
-others s t (Asks (AskSwap a v) go) n is ns ne = absurd (ns _ is)
-others s t (Asks (AskCompareSwap a expected new) go) n is ns ne = absurd (ns _ is)
-others s t (Asks (AskOr a v) go) n is ns ne = absurd (ns _ is)
-others s t (Asks (AskAdd a v) go) n is ns ne = absurd (ns _ is)
-others s t (Asks (AskPrint number) go) n is ns ne = absurd (ns _ is)
-others s t (Asks (AskWait a expected) go) n is ns ne = absurd (ns _ is)
-others s t (Asks (AskWake a wakes) go) n is ns ne = absurd (ns _ is)
-others s t (Asks (AskRequeue a b wakes moves expected) go) n is ns ne = absurd (ns _ is)
-others s t (Asks AskReturn go) n is ns ne = absurd (ns _ is)
-others s t (Asks (AskReturnValue v) go) n is ns ne = absurd (ns _ is)
-others s t (Asks (AskFault cause) go) n is ns ne = absurd (ns _ is)
-others s t (Leaves phase) n is ns ne = absurd (ne phase is)
-others s t Breaks n is ns ne = (refl, λ b. b)
-others s t Rests n is ns ne = (refl, λ b. b)
+    → (call_at l ≡ None) × (BlocksAt rule s t l → ⊥)
+others rule s t (Goes y) n is ns ne = (refl, λ b. b)
+others rule s t (Asks (AskFork entry arguments room) go) n is ns ne = (refl, λ b. b)
+others rule s t (Asks (AskLoad a) go) n is ns ne = absurd (ns _ is)
+others rule s t (Asks (AskStore a v) go) n is ns ne = absurd (ns _ is)
+others rule s t (Asks (AskSwap a v) go) n is ns ne = absurd (ns _ is)
+others rule s t (Asks (AskCompareSwap a expected new) go) n is ns ne = absurd (ns _ is)
+others rule s t (Asks (AskOr a v) go) n is ns ne = absurd (ns _ is)
+others rule s t (Asks (AskAdd a v) go) n is ns ne = absurd (ns _ is)
+others rule s t (Asks (AskPrint number) go) n is ns ne = absurd (ns _ is)
+others rule s t (Asks (AskWait a expected) go) n is ns ne = absurd (ns _ is)
+others rule s t (Asks (AskWake a wakes) go) n is ns ne = absurd (ns _ is)
+others rule s t (Asks (AskRequeue a b wakes moves expected) go) n is ns ne = absurd (ns _ is)
+others rule s t (Asks AskReturn go) n is ns ne = absurd (ns _ is)
+others rule s t (Asks (AskReturnValue v) go) n is ns ne = absurd (ns _ is)
+others rule s t (Asks (AskFault cause) go) n is ns ne = absurd (ns _ is)
+others rule s t (Leaves phase) n is ns ne = absurd (ne phase is)
+others rule s t Breaks n is ns ne = (refl, λ b. b)
+others rule s t Rests n is ns ne = (refl, λ b. b)
 
 pub apart_others : (v : View) (s : PieceState) (t : ℕ) (n : NextStep) → s.base ≡ state_of (concrete v)
     → s.base.asleep t ≡ None → (thread_of (concrete v) t ≡ None → ⊥)
@@ -226,7 +228,7 @@ pub apart_others : (v : View) (s : PieceState) (t : ℕ) (n : NextStep) → s.ba
     → IsApart v.program s t
 apart_others v s t n base awake made is ns ne =
     let m = made_of (thread_of (concrete v) t) made in
-    let r = others s t (look v.program t m.0) n (is m.0 m.1) ns ne in
+    let r = others _ s t (look v.program t m.0) n (is m.0 m.1) ns ne in
     record {
       thread = m.0;
       stands = ap (λ (b : State). b.thread t) base ∙ m.1;

@@ -10,6 +10,7 @@ use Rattle.words.specs.Updates.{put}
 use Rattle.futexcalls.specs.declared.pieces.FutexPhase.{FutexPhase}
 use Rattle.futexcalls.specs.declared.pieces.FutexPhase.TheVariants.{First}
 use Rattle.futexcalls.proofs.SameHolders.{same_count, same_holders}
+use Rattle.robustexit.specs.ExitRules.{exit_of}
 use Rattle.locals.specs.Threads.{Thread}
 use Rattle.locals.specs.Looks.{Look, Goes, Asks, Leaves, Breaks, Rests, look}
 use Rattle.machine.specs.States.{ConcreteState, State, state_of, thread_of}
@@ -66,8 +67,8 @@ outside k c t b at state = λ i. record {
 
 -- such a step as a piece
 pub whole_is_piece : (p : Program) (k : PieceConcrete) (c : ConcreteState) (t : ℕ) (x : Thread) (woken : List ℕ) (l : Look)
-    → look p t x ≡ l → Moves (state_of k.concrete) t woken l (state_of c) → call_at l ≡ None
-    → (BlocksAt (pieces_at k) t l → ⊥) → k.phase t ≡ First
+    → look p t x ≡ l → Moves (exit_of p.version) (state_of k.concrete) t woken l (state_of c) → call_at l ≡ None
+    → (BlocksAt (exit_of p.version) (pieces_at k) t l → ⊥) → k.phase t ≡ First
     → Piece p (pieces_at k) t x woken (pieces_at (record k { concrete = c }))
 whole_is_piece p k c t x woken (Goes y) is h none free at = IsLocal y is at h.0 (outside k c t _ at h.1)
 whole_is_piece p k c t x woken (Asks request go) is h none free at =

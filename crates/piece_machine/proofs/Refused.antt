@@ -10,6 +10,7 @@ use Rattle.futexcalls.specs.declared.pieces.FutexPhase.{FutexPhase}
 use Rattle.futexcalls.specs.declared.pieces.FutexPhase.TheVariants.{First, Second, Compare, Act}
 use Rattle.futexcalls.specs.Pieces.{takes_at, after_lock, IsPhase, LiesIn}
 use Rattle.robustexit.specs.declared.phase.ExitPhase.TheVariants.{Entry, Pending, ClearId, LastWake, Ended}
+use Rattle.robustexit.specs.ExitRules.{exit_of}
 use Rattle.locals.specs.Threads.{Thread, Runs, Dies, Exits}
 use Rattle.locals.specs.Looks.{Request, Look, Goes, Asks, Leaves, Breaks, Rests, look}
 use Rattle.machine.specs.declared.event.Event.{Event}
@@ -91,7 +92,7 @@ look_breaks : (p : Program) (k : PieceConcrete) (t : ℕ) (x : Thread) (l : Look
 look_breaks p k t x (Asks request go) fit stands looks h =
     call_breaks p k t x request go (call_of request) fit stands looks refl h
 look_breaks p k t x (Leaves phase) fit stands looks h =
-    elim (cases_Bool (is_held k (wanted k t (Leaves phase)))) [
+    elim (cases_Bool (is_held k (wanted (exit_of p.version) k t (Leaves phase)))) [
       | inl y ↦ absurd (apart_faults (sym (cond-true _ (Err CannotMove) (whole_at k (step_of p k.concrete t)) y) ∙ h))
       | inr n ↦ first_of p k t x (Leaves phase) fit stands looks refl
           ((breaks_so p k.concrete t fit.well).0 (whole_err k (step_of p k.concrete t) Broken
@@ -221,7 +222,7 @@ call_refuses p k t request go (Some call) fit can looks is h =
           ∙ ap (λ r. Asks r go) (told_call request call is) in
           let held = piece_held k t call go (k.phase t) (there_of p k t can.thread call go fit can.stands asks)
           (sym (cond-true _ _ (Err Broken) y) ∙ h) in
-          can.free (subst (BlocksAt (pieces_at k) t) (sym looks) (subst (BlocksCall (pieces_at k) t) (sym is)
+          can.free (subst (BlocksAt (exit_of p.version) (pieces_at k) t) (sym looks) (subst (BlocksCall (pieces_at k) t) (sym is)
           (lies_so (length k.concrete.common.words) call y, held.0, held.1, held.2, held.3)))
       | inr n ↦ apart_faults (sym h ∙ cond-false _ (piece_at k t call go (k.phase t)) _ n)
     ]
@@ -230,8 +231,8 @@ look_refuses : (p : Program) (k : PieceConcrete) (t : ℕ) (l : Look) → IsFit 
     → look p t can.thread ≡ l → look_step p k t l ≡ Err CannotMove → ⊥
 look_refuses p k t (Asks request go) fit can looks h = call_refuses p k t request go (call_of request) fit can looks refl h
 look_refuses p k t (Leaves phase) fit can looks h =
-    elim (cases_Bool (is_held k (wanted k t (Leaves phase)))) [
-      | inl y ↦ can.free (subst (BlocksAt (pieces_at k) t) (sym looks) (blocks_so k t (Leaves phase) y))
+    elim (cases_Bool (is_held k (wanted (exit_of p.version) k t (Leaves phase)))) [
+      | inl y ↦ can.free (subst (BlocksAt (exit_of p.version) (pieces_at k) t) (sym looks) (blocks_so (exit_of p.version) k t (Leaves phase) y))
       | inr n ↦ whole_refuses p k t (sym (cond-false _ _ _ n) ∙ h) can
     ]
 look_refuses p k t (Goes y) fit can looks h = whole_refuses p k t h can
@@ -255,10 +256,10 @@ refused_call p k t go (Some call) b =
     cond-true _ _ _ (lies_test (length k.concrete.common.words) call b.0)
     ∙ lock_is k t call go (k.phase t) b.1 b.3 ∙ ap (lock_at k t (after_lock k.buckets (k.phase t) call) b.1) b.4
 
-refused_look : (p : Program) (k : PieceConcrete) (t : ℕ) (l : Look) → BlocksAt (pieces_at k) t l
+refused_look : (p : Program) (k : PieceConcrete) (t : ℕ) (l : Look) → BlocksAt (exit_of p.version) (pieces_at k) t l
     → look_step p k t l ≡ Err CannotMove
 refused_look p k t (Asks request go) b = refused_call p k t go (call_of request) b
-refused_look p k t (Leaves phase) b = cond-true _ _ _ (blocks_test k t (Leaves phase) b)
+refused_look p k t (Leaves phase) b = cond-true _ _ _ (blocks_test (exit_of p.version) k t (Leaves phase) b)
 refused_look p k t (Goes y) b = absurd b
 refused_look p k t Breaks b = absurd b
 refused_look p k t Rests b = absurd b
@@ -285,14 +286,14 @@ refused_awake : (p : Program) (k : PieceConcrete) (t : ℕ) (x : Thread) (a : Op
 refused_awake p k t x None stands awake out =
     elim (cases_Bool (has_ended (Some x))) [
       | inl ended ↦ ended_refused p k t x stands ended
-      | inr goes ↦ elim (cases_Bool (is_held k (wanted k t (look p t x)))) [
-        | inl y ↦ refused_look p k t (look p t x) (blocks_so k t (look p t x) y)
+      | inr goes ↦ elim (cases_Bool (is_held k (wanted (exit_of p.version) k t (look p t x)))) [
+        | inl y ↦ refused_look p k t (look p t x) (blocks_so (exit_of p.version) k t (look p t x) y)
         | inr n ↦ absurd (out (record {
           thread = x;
           stands = stands;
           awake = awake;
           goes_on = goes;
-          free = λ b. both_ways (is_held k (wanted k t (look p t x))) n (blocks_test k t (look p t x) b);
+          free = λ b. both_ways (is_held k (wanted (exit_of p.version) k t (look p t x))) n (blocks_test (exit_of p.version) k t (look p t x) b);
         }))
       ]
     ]

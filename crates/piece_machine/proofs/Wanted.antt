@@ -1,9 +1,8 @@
 -- The bucket that a thread wants is in its way where a thread holds it.
-use Rattle.std.proofs.Common.{◌≡◌, ◌≢◌, ◌⊎◌, ℕ, ◌+◌, ◌&&◌, ◌||◌, ◌==◌, Bool, true, false, not, ltb, length, Option, Some}
+use Rattle.std.proofs.Common.{◌≡◌, ◌≢◌, ◌⊎◌, ℕ, ◌+◌, ◌&&◌, ◌==◌, Bool, true, false, not, ltb, length, Option, Some}
 use Rattle.std.proofs.Common.{None, inl, inr, refl, sym, ap, ◌∙◌, subst}
 use Rattle.std.specs.Prelude.{is_some, if◌then◌else◌, MatchBool}
 use Rattle.std.proofs.lemmas.Bool.{both_ways, cases_Bool, cases_eq, eq-eqb, eqb-true, ne_eqb, ltb-true, lt-ltb}
-use Rattle.std.proofs.lemmas.Bool.{or_cases}
 use Rattle.words.specs.LockWord.{owner_of, waiters_of}
 use Rattle.words.specs.Process.{process_word}
 use Rattle.isa.specs.Programs.{Program}
@@ -27,6 +26,9 @@ use Rattle.piece_machine.specs.PieceConcrete.{PieceConcrete, pieces_at, lies_in,
 use Rattle.piece_machine.specs.PieceConcrete.{bucket_of, wanted_by, wanted, is_held, is_blocked, can_take}
 use Rattle.piece_machine.specs.PieceDetermined.{TakesSo}
 use Rattle.piece_machine.specs.PieceViews.{IsBlocked}
+use Rattle.robustexit.specs.declared.rule.ExitRule.{ExitRule}
+use Rattle.robustexit.specs.ExitRules.{exit_of, wakes}
+use Rattle.std.proofs.lemmas.Bool.{cond-true, cond-false}
 
 both : (a b : Bool) → (a && b) ≡ true → (a ≡ true) × (b ≡ true)
 both true b h = (refl, h)
@@ -59,9 +61,9 @@ if_some : (b : Bool) (x a : ℕ) → b ≡ true → x ≡ a → (if b then Some 
 if_some b x a h e = rw h (ap (λ y. Some y) e)
 
 -- the word on which the step of an exit wakes
-entry_wakes : (c : Common) (t e a seen : ℕ) → entry_word c t e ≡ Some a
-    → WakesOn (length c.words) t (Entry (record { 0 = e }) seen) (word_of c.words) a
-entry_wakes c t e a seen h =
+entry_wakes : (rule : ExitRule) (c : Common) (t e a seen : ℕ) → entry_word c t e ≡ Some a
+    → WakesOn rule (length c.words) t (Entry (record { 0 = e }) seen) (word_of c.words) a
+entry_wakes rule c t e a seen h =
     let s = some_if _ (e + 1) a h in
     let w = both (is_entry c e && not (load c (process_word t 1) == e) && (owner_of (load c (e + 1)) == t)) _ s.0 in
     let o = both (is_entry c e && not (load c (process_word t 1) == e)) (owner_of (load c (e + 1)) == t) w.0 in
@@ -73,59 +75,55 @@ entry_wakes c t e a seen h =
       sym s.1,
     )
 
-wakes_entry : (c : Common) (t e a seen : ℕ)
-    → WakesOn (length c.words) t (Entry (record { 0 = e }) seen) (word_of c.words) a → entry_word c t e ≡ Some a
-wakes_entry c t e a seen h = if_some _ (e + 1) a
+wakes_entry : (rule : ExitRule) (c : Common) (t e a seen : ℕ)
+    → WakesOn rule (length c.words) t (Entry (record { 0 = e }) seen) (word_of c.words) a → entry_word c t e ≡ Some a
+wakes_entry rule c t e a seen h = if_some _ (e + 1) a
     (rw (entry_test c e h.0, ne_eqb (load c (process_word t 1)) e h.1, eq-eqb (owner_of (load c (e + 1))) t h.2, h.3)
     refl) (sym h.4)
 
-pending_wakes : (c : Common) (t a : ℕ) → pending_word c t (load c (process_word t 1)) ≡ Some a
-    → WakesOn (length c.words) t Pending (word_of c.words) a
-pending_wakes c t a h =
+pending_wakes : (rule : ExitRule) (c : Common) (t a : ℕ) → pending_word rule c t (load c (process_word t 1)) ≡ Some a
+    → WakesOn rule (length c.words) t Pending (word_of c.words) a
+pending_wakes rule c t a h =
     let e = load c (process_word t 1) in
     let s = some_if _ (e + 1) a h in
-    let w = both (is_entry c e) (not (owner_of (load c (e + 1)) == t) || waiters_of (load c (e + 1))) s.0 in (
+    let w = both (is_entry c e) (if owner_of (load c (e + 1)) == t then waiters_of (load c (e + 1))
+    else wakes rule (load c (e + 1))) s.0 in (
       entry_so c e w.0,
       sym s.1,
-      subst (λ (b : ℕ). (owner_of (load c b) ≢ t) ⊎ ((owner_of (load c b) ≡ t) × (waiters_of (load c b) ≡ true))) s.1
+      subst (λ (b : ℕ). ((owner_of (load c b) ≢ t) × (wakes rule (load c b) ≡ true))
+          ⊎ ((owner_of (load c b) ≡ t) × (waiters_of (load c b) ≡ true))) s.1
           (elim (cases_eq (owner_of (load c (e + 1))) t) [
-            | inr ne ↦ inl ne
-            | inl own ↦ inr (
-              own,
-              elim (or_cases (not (owner_of (load c (e + 1)) == t)) (waiters_of (load c (e + 1))) w.1) [
-                | inl n ↦ absurd (both_ways (owner_of (load c (e + 1)) == t) (not_so _ n) (eq-eqb _ _ own))
-                | inr y ↦ y
-              ],
-            )
+            | inr ne ↦ inl (ne, sym (cond-false _ _ _ (ne_eqb _ _ ne)) ∙ w.1)
+            | inl own ↦ inr (own, sym (cond-true _ _ _ (eq-eqb _ _ own)) ∙ w.1)
           ]),
     )
 
-wakes_pending : (c : Common) (t a : ℕ) → WakesOn (length c.words) t Pending (word_of c.words) a
-    → pending_word c t (load c (process_word t 1)) ≡ Some a
-wakes_pending c t a h =
+wakes_pending : (rule : ExitRule) (c : Common) (t a : ℕ) → WakesOn rule (length c.words) t Pending (word_of c.words) a
+    → pending_word rule c t (load c (process_word t 1)) ≡ Some a
+wakes_pending rule c t a h =
     let e = load c (process_word t 1) in
-    let at = subst (λ (b : ℕ). (owner_of (load c b) ≢ t) ⊎ ((owner_of (load c b) ≡ t) × (waiters_of (load c b) ≡ true)))
-    h.1 h.2 in
+    let at = subst (λ (b : ℕ). ((owner_of (load c b) ≢ t) × (wakes rule (load c b) ≡ true))
+    ⊎ ((owner_of (load c b) ≡ t) × (waiters_of (load c b) ≡ true))) h.1 h.2 in
     if_some _ (e + 1) a (elim at [
-      | inl ne ↦ rw (entry_test c e h.0, ne_eqb (owner_of (load c (e + 1))) t ne) refl
+      | inl ne ↦ rw (entry_test c e h.0, ne_eqb (owner_of (load c (e + 1))) t ne.0, ne.1) refl
       | inr y ↦ rw (entry_test c e h.0, eq-eqb (owner_of (load c (e + 1))) t y.0, y.1) refl
     ]) (sym h.1)
 
-pub word_so : (c : Common) (t a : ℕ) (phase : ExitPhase) → word_left c t phase ≡ Some a
-    → WakesOn (length c.words) t phase (word_of c.words) a
-word_so c t a (Entry e seen) h = entry_wakes c t e.0 a seen h
-word_so c t a Pending h = pending_wakes c t a h
-word_so c t a ClearId h = absurd cc
-word_so c t a LastWake h = cc
-word_so c t a Ended h = absurd cc
+pub word_so : (rule : ExitRule) (c : Common) (t a : ℕ) (phase : ExitPhase) → word_left rule c t phase ≡ Some a
+    → WakesOn rule (length c.words) t phase (word_of c.words) a
+word_so rule c t a (Entry e seen) h = entry_wakes rule c t e.0 a seen h
+word_so rule c t a Pending h = pending_wakes rule c t a h
+word_so rule c t a ClearId h = absurd cc
+word_so rule c t a LastWake h = cc
+word_so rule c t a Ended h = absurd cc
 
-pub word_back : (c : Common) (t a : ℕ) (phase : ExitPhase) → WakesOn (length c.words) t phase (word_of c.words) a
-    → word_left c t phase ≡ Some a
-word_back c t a (Entry e seen) h = wakes_entry c t e.0 a seen h
-word_back c t a Pending h = wakes_pending c t a h
-word_back c t a ClearId h = absurd h
-word_back c t a LastWake h = ap (λ y. Some y) (sym h)
-word_back c t a Ended h = absurd h
+pub word_back : (rule : ExitRule) (c : Common) (t a : ℕ) (phase : ExitPhase)
+    → WakesOn rule (length c.words) t phase (word_of c.words) a → word_left rule c t phase ≡ Some a
+word_back rule c t a (Entry e seen) h = wakes_entry rule c t e.0 a seen h
+word_back rule c t a Pending h = wakes_pending rule c t a h
+word_back rule c t a ClearId h = absurd h
+word_back rule c t a LastWake h = ap (λ y. Some y) (sym h)
+word_back rule c t a Ended h = absurd h
 
 -- a bucket that is held
 some_holder : (o : Option ℕ) → is_some o ≡ true → (u : ℕ) × (o ≡ Some u)
@@ -169,23 +167,25 @@ some_is : (a b : ℕ) → Some a ≡ Some b → a ≡ b
 some_is a b h = cc
 
 -- such a bucket is in the way of a thread
-pub blocks_so : (k : PieceConcrete) (t : ℕ) (l : Look) → is_held k (wanted k t l) ≡ true → BlocksAt (pieces_at k) t l
-blocks_so k t (Asks request go) h = call_wants k t (call_of request) h
-blocks_so k t (Leaves phase) h =
-    let r = held_by k (bucket_of k.buckets (word_left k.concrete.common t phase)) h in
-    let w = word_bucket k.buckets r.0 (word_left k.concrete.common t phase) r.2 in
-    (w.0, r.1, word_so k.concrete.common t w.0 phase w.1, ap k.holder (some_is _ r.0 w.2) ∙ r.3)
-blocks_so k t (Goes x) h = absurd cc
-blocks_so k t Breaks h = absurd cc
-blocks_so k t Rests h = absurd cc
+pub blocks_so : (rule : ExitRule) (k : PieceConcrete) (t : ℕ) (l : Look) → is_held k (wanted rule k t l) ≡ true
+    → BlocksAt rule (pieces_at k) t l
+blocks_so rule k t (Asks request go) h = call_wants k t (call_of request) h
+blocks_so rule k t (Leaves phase) h =
+    let r = held_by k (bucket_of k.buckets (word_left rule k.concrete.common t phase)) h in
+    let w = word_bucket k.buckets r.0 (word_left rule k.concrete.common t phase) r.2 in
+    (w.0, r.1, word_so rule k.concrete.common t w.0 phase w.1, ap k.holder (some_is _ r.0 w.2) ∙ r.3)
+blocks_so rule k t (Goes x) h = absurd cc
+blocks_so rule k t Breaks h = absurd cc
+blocks_so rule k t Rests h = absurd cc
 
-pub blocks_test : (k : PieceConcrete) (t : ℕ) (l : Look) → BlocksAt (pieces_at k) t l → is_held k (wanted k t l) ≡ true
-blocks_test k t (Asks request go) h = wants_call k t (call_of request) h
-blocks_test k t (Leaves phase) h =
-    rw (word_back k.concrete.common t h.0 phase h.2) (ap is_some h.3)
-blocks_test k t (Goes x) h = absurd h
-blocks_test k t Breaks h = absurd h
-blocks_test k t Rests h = absurd h
+pub blocks_test : (rule : ExitRule) (k : PieceConcrete) (t : ℕ) (l : Look) → BlocksAt rule (pieces_at k) t l
+    → is_held k (wanted rule k t l) ≡ true
+blocks_test rule k t (Asks request go) h = wants_call k t (call_of request) h
+blocks_test rule k t (Leaves phase) h =
+    rw (word_back rule k.concrete.common t h.0 phase h.2) (ap is_some h.3)
+blocks_test rule k t (Goes x) h = absurd h
+blocks_test rule k t Breaks h = absurd h
+blocks_test rule k t Rests h = absurd h
 
 pub takes_so : TakesSo
 takes_so p k t = (
@@ -196,7 +196,7 @@ takes_so p k t = (
         awake = c.awake;
         goes_on = c.goes_on;
         free = λ b. both_ways (is_blocked p k t (thread_of k.concrete t)) (not_so _ r.1)
-            (ap (is_blocked p k t) c.stands ∙ blocks_test k t (look p t c.thread) b);
+            (ap (is_blocked p k t) c.stands ∙ blocks_test (exit_of p.version) k t (look p t c.thread) b);
       },
   λ c. rw (
     (moves_so k.concrete t).1 (record {
@@ -206,8 +206,8 @@ takes_so p k t = (
       goes_on = c.goes_on;
     }),
     c.stands,
-  ) (elim (cases_Bool (is_held k (wanted k t (look p t c.thread)))) [
-    | inl y ↦ absurd (c.free (blocks_so k t (look p t c.thread) y))
+  ) (elim (cases_Bool (is_held k (wanted (exit_of p.version) k t (look p t c.thread)))) [
+    | inl y ↦ absurd (c.free (blocks_so (exit_of p.version) k t (look p t c.thread) y))
     | inr n ↦ ap not n
   ]),
 )
@@ -216,14 +216,14 @@ takes_so p k t = (
 pub take_is : (p : Program) (k : PieceConcrete) (t : ℕ) (b : Bool) → can_move k.concrete t ≡ true
     → MatchBool b (IsBlocked p (pieces_at k) t) (IsBlocked p (pieces_at k) t → ⊥) → not b ≡ can_take p k t
 take_is p k t true can w =
-    rw (can, w.stands, blocks_test k t (look p t w.thread) w.blocks) refl
+    rw (can, w.stands, blocks_test (exit_of p.version) k t (look p t w.thread) w.blocks) refl
 take_is p k t false can free =
     let c = (moves_so k.concrete t).0 can in
-    rw (can, c.stands) (elim (cases_Bool (is_held k (wanted k t (look p t c.thread)))) [
+    rw (can, c.stands) (elim (cases_Bool (is_held k (wanted (exit_of p.version) k t (look p t c.thread)))) [
       | inl y ↦ absurd (free (record {
         thread = c.thread;
         stands = c.stands;
-        blocks = blocks_so k t (look p t c.thread) y;
+        blocks = blocks_so (exit_of p.version) k t (look p t c.thread) y;
       }))
       | inr n ↦ sym (ap not n)
     ])

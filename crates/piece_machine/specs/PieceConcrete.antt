@@ -1,6 +1,6 @@
 -- The machine with pieces as functions: what it keeps, and the one step that each thread has. A wake and a move take from
 -- the front of the address's list, so that a step is determined.
-use Rattle.std.specs.Prelude.{ℕ, ◌+◌, ◌-◌, ◌%◌, ◌==◌, ◌&&◌, ◌||◌, Bool, false, not, nat_lt, is_some, if◌then◌else◌}
+use Rattle.std.specs.Prelude.{ℕ, ◌+◌, ◌-◌, ◌%◌, ◌==◌, ◌&&◌, Bool, false, not, nat_lt, is_some, if◌then◌else◌}
 use Rattle.std.specs.Prelude.{List, [], ◌∷◌, length, slice_set, Option, Some, None, Result, Ok, Err}
 use Rattle.words.specs.LockWord.{owner_of, waiters_of}
 use Rattle.words.specs.Process.{process_word}
@@ -28,6 +28,8 @@ use Rattle.machine.specs.ConcreteSteps.{step_of, can_move, put_thread, fault_of}
 use Rattle.machine.specs.ConcreteOutside.{stray_of, kill_of}
 use Rattle.machine.specs.ConcretePieces.{call_name}
 use Rattle.machine.specs.PieceStates.{PieceState, call_of, held}
+use Rattle.robustexit.specs.declared.rule.ExitRule.{ExitRule}
+use Rattle.robustexit.specs.ExitRules.{exit_of, wakes}
 
 -- what a machine keeps; the phase of each thread, which is the first for a thread outside calls; the holder of each
 -- bucket, if it has one; and how many buckets there are
@@ -67,17 +69,17 @@ entry_word c t e =
     if is_entry c e && not (load c (process_word t 1) == e) && (owner_of (load c (e + 1)) == t)
     && waiters_of (load c (e + 1)) then Some (e + 1) else None
 
-abbrev pub pending_word : Common → ℕ → ℕ → Option ℕ
-pending_word c t e =
-    if is_entry c e && (not (owner_of (load c (e + 1)) == t) || waiters_of (load c (e + 1)))
-    then Some (e + 1) else None
+abbrev pub pending_word : ExitRule → Common → ℕ → ℕ → Option ℕ
+pending_word rule c t e =
+    if is_entry c e && (if owner_of (load c (e + 1)) == t then waiters_of (load c (e + 1))
+    else wakes rule (load c (e + 1))) then Some (e + 1) else None
 
-abbrev pub word_left : Common → ℕ → ExitPhase → Option ℕ
-word_left c t (Entry e seen) = entry_word c t e.0
-word_left c t Pending = pending_word c t (load c (process_word t 1))
-word_left c t ClearId = None
-word_left c t LastWake = Some (process_word t 2)
-word_left c t Ended = None
+abbrev pub word_left : ExitRule → Common → ℕ → ExitPhase → Option ℕ
+word_left rule c t (Entry e seen) = entry_word c t e.0
+word_left rule c t Pending = pending_word rule c t (load c (process_word t 1))
+word_left rule c t ClearId = None
+word_left rule c t LastWake = Some (process_word t 2)
+word_left rule c t Ended = None
 
 -- the bucket of a word
 abbrev pub bucket_of : ℕ → Option ℕ → Option ℕ
@@ -91,12 +93,12 @@ wanted_by k t (Some call) =
     if lies_in (length k.concrete.common.words) call then takes_at k.buckets (k.phase t) call else None
 
 -- the bucket that has to be free for the next step of a thread that looks so
-abbrev pub wanted : PieceConcrete → ℕ → Look → Option ℕ
-wanted k t (Asks request go) = wanted_by k t (call_of request)
-wanted k t (Leaves phase) = bucket_of k.buckets (word_left k.concrete.common t phase)
-wanted k t (Goes x) = None
-wanted k t Breaks = None
-wanted k t Rests = None
+abbrev pub wanted : ExitRule → PieceConcrete → ℕ → Look → Option ℕ
+wanted rule k t (Asks request go) = wanted_by k t (call_of request)
+wanted rule k t (Leaves phase) = bucket_of k.buckets (word_left rule k.concrete.common t phase)
+wanted rule k t (Goes x) = None
+wanted rule k t Breaks = None
+wanted rule k t Rests = None
 
 abbrev pub is_held : PieceConcrete → Option ℕ → Bool
 is_held k None = false
@@ -105,7 +107,7 @@ is_held k (Some b) = is_some (k.holder b)
 -- whether a held bucket is in the way of a thread
 abbrev pub is_blocked : Program → PieceConcrete → ℕ → Option Thread → Bool
 is_blocked p k t None = false
-is_blocked p k t (Some x) = is_held k (wanted k t (look p t x))
+is_blocked p k t (Some x) = is_held k (wanted (exit_of p.version) k t (look p t x))
 
 -- whether thread t can take a step
 abbrev pub can_take : Program → PieceConcrete → ℕ → Bool
@@ -190,7 +192,8 @@ abbrev pub look_step : Program → PieceConcrete → ℕ → Look → Outcome
 look_step p k t (Asks request go) = call_step p k t go (call_of request)
 look_step p k t (Goes x) = whole_at k (step_of p k.concrete t)
 look_step p k t (Leaves phase) =
-    if is_held k (wanted k t (Leaves phase)) then Err CannotMove else whole_at k (step_of p k.concrete t)
+    if is_held k (wanted (exit_of p.version) k t (Leaves phase)) then Err CannotMove
+    else whole_at k (step_of p k.concrete t)
 look_step p k t Breaks = whole_at k (step_of p k.concrete t)
 look_step p k t Rests = whole_at k (step_of p k.concrete t)
 

@@ -10,6 +10,7 @@ use Rattle.futexcalls.specs.declared.pieces.FutexCall.TheVariants.{Wait, Wake, R
 use Rattle.futexcalls.specs.declared.pieces.FutexPhase.{FutexPhase}
 use Rattle.futexcalls.specs.declared.pieces.FutexPhase.TheVariants.{First, Second, Compare, Act}
 use Rattle.futexcalls.specs.Pieces.{takes_at, LiesIn}
+use Rattle.robustexit.specs.ExitRules.{exit_of}
 use Rattle.locals.specs.Threads.{Thread}
 use Rattle.locals.specs.Looks.{look}
 use Rattle.locals.specs.Steps.{local_step, local_after}
@@ -127,13 +128,13 @@ pub record IsApart (p : Program) (s : PieceState) (t : ℕ) : Type 0 where
   pub stands : s.base.thread t ≡ Some thread
   pub awake : s.base.asleep t ≡ None
   pub none : call_at (look p t thread) ≡ None
-  pub free : BlocksAt s t (look p t thread) → ⊥
+  pub free : BlocksAt (exit_of p.version) s t (look p t thread) → ⊥
 
 -- thread t was made, and a held bucket is in its way
 pub record IsBlocked (p : Program) (s : PieceState) (t : ℕ) : Type 0 where
   pub thread : Thread
   pub stands : s.base.thread t ≡ Some thread
-  pub blocks : BlocksAt s t (look p t thread)
+  pub blocks : BlocksAt (exit_of p.version) s t (look p t thread)
 
 -- the next step of thread t is none of its own alone
 abbrev pub HasNoLocal : View → ℕ → Type 0

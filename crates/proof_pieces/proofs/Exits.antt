@@ -11,7 +11,7 @@ use Rattle.futexcalls.specs.declared.pieces.FutexCall.{FutexCall}
 use Rattle.futexcalls.specs.declared.pieces.FutexCall.TheVariants.{Wait, Wake, Requeue}
 use Rattle.futexcalls.specs.declared.pieces.FutexPhase.{FutexPhase}
 use Rattle.futexcalls.specs.declared.pieces.FutexPhase.TheVariants.{First, Second, Compare, Act}
-use Rattle.robustexit.specs.RobustExit.{Shared, ExitStep, EntryStep, PendingStep, IsPending, IsForeign, IsOwned}
+use Rattle.robustexit.specs.RobustExit.{Shared, ExitStep, EntryStep, PendingStep, IsPending, IsForeign, IsPassed, IsOwned}
 use Rattle.robustexit.specs.RobustExit.{NoEntry}
 use Rattle.robustexit.specs.RobustExit.{IsIdle, Abandons, WakesOne, IsEntry}
 use Rattle.robustexit.specs.Waking.{WakesOn}
@@ -21,6 +21,8 @@ use Rattle.machine.specs.PieceStates.{PieceState, committed, committed_at, IsHel
 use Rattle.futexcalls.specs.Pieces.{held_at}
 use Rattle.proof_pieces.proofs.Sleepers.{joined, wakes_both}
 use Rattle.proof_pieces.proofs.Wholly.{first_free}
+use Rattle.robustexit.specs.ExitRules.{wakes}
+use Rattle.robustexit.specs.declared.rule.ExitRule.{ExitRule}
 
 -- who sleeps has not committed
 abbrev Apart : Program → PieceState → Type 0
@@ -66,7 +68,7 @@ abbrev pub joins_shared : (ℕ → Option ℕ) → Shared → Shared
 joins_shared c sh = record sh { asleep = joined sh.asleep c }
 
 -- a step of an exit, where nobody has committed on the word on which it wakes
-module _ (size t : ℕ) (sh : Shared) (c : ℕ → Option ℕ) (woken : List ℕ) (after : Shared)
+module _ (rule : ExitRule) (size t : ℕ) (sh : Shared) (c : ℕ → Option ℕ) (woken : List ℕ) (after : Shared)
     (apart : (u b : ℕ) → sh.asleep u ≡ Some b → c u ≡ None) where
   idle_both : IsIdle sh woken after → IsIdle (joins_shared c sh) woken (joins_shared c after)
   idle_both h = record { nobody = h.nobody; same = ap (joins_shared c) h.same }
@@ -98,16 +100,18 @@ module _ (size t : ℕ) (sh : Shared) (c : ℕ → Option ℕ) (woken : List ℕ
   entry_both e free (IsForeign q i) = IsForeign q (idle_both i)
   entry_both e free (IsOwned q a) = IsOwned q (abandons_both (e + 1) (λ w. free q (a.owned, w)) a)
 
-  pending_both : (e : ℕ) → (IsEntry size e → ((owner_of (sh.word (e + 1)) ≢ t)
+  pending_both : (e : ℕ) → (IsEntry size e → (((owner_of (sh.word (e + 1)) ≢ t)
+      × (wakes rule (sh.word (e + 1)) ≡ true))
       ⊎ ((owner_of (sh.word (e + 1)) ≡ t) × (waiters_of (sh.word (e + 1)) ≡ true))) → (u : ℕ) → c u ≢ Some (e + 1))
-      → PendingStep size t e sh woken after → PendingStep size t e (joins_shared c sh) woken (joins_shared c after)
+      → PendingStep rule size t e sh woken after → PendingStep rule size t e (joins_shared c sh) woken (joins_shared c after)
   pending_both e free (NoEntry q i) = NoEntry q (idle_both i)
-  pending_both e free (IsForeign q o w) = IsForeign q o (one_both (e + 1) (free q (inl o)) w)
+  pending_both e free (IsForeign q o r w) = IsForeign q o r (one_both (e + 1) (free q (inl (o, r))) w)
+  pending_both e free (IsPassed q o r i) = IsPassed q o r (idle_both i)
   pending_both e free (IsOwned q a) = IsOwned q (abandons_both (e + 1) (λ w. free q (inr (a.owned, w))) a)
 
-  pub exit_both : (phase next : ExitPhase) → ((a : ℕ) → WakesOn size t phase sh.word a → (u : ℕ) → c u ≢ Some a)
-      → ExitStep size t phase sh woken after next
-      → ExitStep size t phase (joins_shared c sh) woken (joins_shared c after) next
+  pub exit_both : (phase next : ExitPhase) → ((a : ℕ) → WakesOn rule size t phase sh.word a → (u : ℕ) → c u ≢ Some a)
+      → ExitStep rule size t phase sh woken after next
+      → ExitStep rule size t phase (joins_shared c sh) woken (joins_shared c after) next
   exit_both (Entry e n) next free h = elim h [
     | inl r ↦ inl (r.0, entry_both e.0 (λ q o. free (e.0 + 1) (r.0, q, o.0, o.1, refl)) r.1, r.2)
     | inr i ↦ inr (i.0, idle_both i.1, i.2)

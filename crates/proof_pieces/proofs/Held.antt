@@ -15,7 +15,7 @@ use Rattle.futexcalls.specs.declared.pieces.FutexPhase.TheVariants.{First, Secon
 use Rattle.futexcalls.specs.Pieces.{lesser, greater, buckets_of, takes_at, after_lock, IsPhase, LiesIn}
 use Rattle.futexcalls.specs.Pieces.{RequeuesCompared}
 use Rattle.futexcalls.specs.Pieces.{Acts}
-use Rattle.robustexit.specs.RobustExit.{Shared, ExitStep, EntryStep, PendingStep, IsPending, IsForeign, IsOwned}
+use Rattle.robustexit.specs.RobustExit.{Shared, ExitStep, EntryStep, PendingStep, IsPending, IsForeign, IsPassed, IsOwned}
 use Rattle.robustexit.specs.RobustExit.{NoEntry}
 use Rattle.robustexit.specs.RobustExit.{IsIdle}
 use Rattle.robustexit.specs.declared.phase.ExitPhase.{ExitPhase}
@@ -32,6 +32,8 @@ use Rattle.machine.proofs.Placing.{put-here, put-there}
 use Rattle.machine.proofs.Sleeping.{placed, unplaced}
 use Rattle.proof_pieces.proofs.Calls.{called_is}
 use Rattle.proof_pieces.proofs.Wholly.{unmade_first}
+use Rattle.robustexit.specs.ExitRules.{exit_of}
+use Rattle.robustexit.specs.declared.rule.ExitRule.{ExitRule}
 
 -- what a step leaves as it was: sizes, threads outside it, who is awake
 pub record Keeps (s : PieceState) (t : ℕ) (mid : State) : Type 0 where
@@ -192,9 +194,9 @@ requeue_awake z after a b n m woken moved h u none = ap (λ f. f u) h.moves.goes
       | inr ne ↦ absurd (let slept : None ≡ Some a = sym awake ∙ (h.moves.choice ne).slept u q in cc)
     ]
 
-exit_awake : (size t : ℕ) (phase next : ExitPhase) (sh after : Shared) (woken : List ℕ)
-    → ExitStep size t phase sh woken after next → (u : ℕ) → sh.asleep u ≡ None → after.asleep u ≡ None
-exit_awake size t phase next sh after woken h u none = by_phase phase h
+exit_awake : (rule : ExitRule) (size t : ℕ) (phase next : ExitPhase) (sh after : Shared) (woken : List ℕ)
+    → ExitStep rule size t phase sh woken after next → (u : ℕ) → sh.asleep u ≡ None → after.asleep u ≡ None
+exit_awake rule size t phase next sh after woken h u none = by_phase phase h
   where
     idle : IsIdle sh woken after → after.asleep u ≡ None
     idle i = ap (λ (x : Shared). x.asleep u) i.same ∙ none
@@ -204,12 +206,13 @@ exit_awake size t phase next sh after woken h u none = by_phase phase h
     entry e (IsForeign q i) = idle i
     entry e (IsOwned q a) = wakes_awake _ _ _ _ _ a.wakes u none
 
-    pending : (e : ℕ) → PendingStep size t e sh woken after → after.asleep u ≡ None
+    pending : (e : ℕ) → PendingStep rule size t e sh woken after → after.asleep u ≡ None
     pending e (NoEntry q i) = idle i
-    pending e (IsForeign q o w) = wakes_awake _ _ _ _ _ w.wakes u none
+    pending e (IsForeign q o r w) = wakes_awake _ _ _ _ _ w.wakes u none
+    pending e (IsPassed q o r i) = idle i
     pending e (IsOwned q a) = wakes_awake _ _ _ _ _ a.wakes u none
 
-    by_phase : (ph : ExitPhase) → ExitStep size t ph sh woken after next → after.asleep u ≡ None
+    by_phase : (ph : ExitPhase) → ExitStep rule size t ph sh woken after next → after.asleep u ≡ None
     by_phase (Entry e n) h = elim h [ inl r ↦ entry e.0 r.1 | inr i ↦ idle i.1 ]
     by_phase Pending h = pending _ h.0
     by_phase ClearId h = ap (λ (x : Shared). x.asleep u) h.1 ∙ none
@@ -428,7 +431,7 @@ module _ (p : Program) (s s' : PieceState) (t : ℕ) (x : Thread) (woken : List 
   piece_kept (IsExit phase after next looks first step free e) = subst (IsHeldRight p) (sym e)
       (kept_on p s t (with_shared s.base after) [] (Exits next) x right stands (outside first)
       (plainly p s t (with_shared s.base after) right refl refl refl
-      (λ u ne none. exit_awake s.base.size t phase next (shared_of s.base) after woken step u none)))
+      (λ u ne none. exit_awake (exit_of p.version) s.base.size t phase next (shared_of s.base) after woken step u none)))
   piece_kept (IsLock call go b looks lies takes free nobody e) = subst (IsHeldRight p) (sym e)
       (kept_lock p s t b x call go right stands awake looks lies takes free)
   piece_kept (IsEqual call go a v looks is at equal nobody e) = subst (IsHeldRight p) (sym e)

@@ -34,6 +34,7 @@ use Rattle.proof_pieces.proofs.Times.{lock_few, lock_more, phase_few, equal_few,
 use Rattle.proof_pieces.proofs.Wholly.{wholly, whole_on, stands_whole, awake_whole, loud, first_same, first_free}
 use Rattle.proof_pieces.proofs.Wholly.{first_none, plain_served, silent}
 use Rattle.proof_pieces.proofs.Exits.{apart_so, nobody_free, nobody_mine, joins_shared, exit_both}
+use Rattle.robustexit.specs.ExitRules.{exit_of}
 
 -- a thread in such a phase looks in the whole as it looks here
 record IsSame (ph : FutexPhase) (l : Look) (x : Thread) : Type 0 where
@@ -212,7 +213,7 @@ module _ (p : Program) (s s' : PieceState) (t : ℕ) (x : Thread) (woken : List 
   -- a loud step behind which the thread is outside calls
   loud_so : (answer : ℕ) (l : Look) → look p t x ≡ l → behind (s.phase t) l x ≡ x
       → committed_at (s.phase t) (call_at l) ≡ None
-      → taken p s t ≤ pieces_before l → s'.phase t ≡ First → MovesAnswered (whole p s) t woken answer l (whole p s')
+      → taken p s t ≤ pieces_before l → s'.phase t ≡ First → MovesAnswered (exit_of p.version) (whole p s) t woken answer l (whole p s')
       → IsHeard p s (own_step t woken pauses) x answer s'
   loud_so answer l looks same free few first moves = (
     loud p s t x woken answer l (whole p s') stands awake looks same free moves,
@@ -423,7 +424,8 @@ module _ (p : Program) (s s' : PieceState) (t : ℕ) (x : Thread) (woken : List 
       (few_first (Leaves phase) first) (first_after (with_shared s.base after) [] (Exits next) e) (
         joins_shared (committed p s) after,
         next,
-        exit_both s.base.size t (shared_of s.base) (committed p s) woken after (apart_so p s right) phase next
+        exit_both (exit_of p.version) s.base.size t (shared_of s.base) (committed p s) woken after (apart_so p s right)
+            phase next
             (λ a w. nobody_free p s right a (free a w)) step,
         ap (whole p) e ∙ whole_on p s t (with_shared s.base after) [] (Exits next)
             (first_free p (s.phase t) t (s.base.thread t) first),

@@ -21,6 +21,8 @@ use Rattle.machine.specs.Runs.{CanStep, NextIsBroken, IsBroken, has_ended}
 use Rattle.machine.specs.PieceStates.{PieceState, request_of, call_of, called, committed, committed_at}
 use Rattle.futexcalls.specs.Pieces.{held_at}
 use Rattle.machine.specs.PieceStates.{IsHeldRight, IsWithin}
+use Rattle.robustexit.specs.declared.rule.ExitRule.{ExitRule}
+use Rattle.robustexit.specs.ExitRules.{exit_of}
 use Rattle.machine.specs.PieceSteps.{CanTakePiece, BlocksCall, BlocksAt, NextPieceIsBroken}
 use Rattle.proof_pieces.specs.Whole.{either, behind, whole_at, whole}
 use Rattle.proof_pieces.proofs.Calls.{call_back, called_is}
@@ -158,7 +160,7 @@ module _ (p : Program) (s : PieceState) (right : IsHeldRight p s) where
           stands = w.stands;
           awake = w.awake;
           goes_on = asks_on p u w.thread (request_of w.call) w.go w.asks;
-          free = λ blocked. free (subst (BlocksCall s u) (call_back w.call) (subst (BlocksAt s u) w.asks blocked));
+          free = λ blocked. free (subst (BlocksCall s u) (call_back w.call) (subst (BlocksAt (exit_of p.version) s u) w.asks blocked));
         },
       )
 
@@ -196,12 +198,12 @@ module _ (p : Program) (s : PieceState) (right : IsHeldRight p s) where
   unblocked_call free t None k = k
   unblocked_call free t (Some call) k = let e : None ≡ Some k.2 = sym (free k.1) ∙ k.4 in cc
 
-  unblocked : ((b : ℕ) → s.holder b ≡ None) → (t : ℕ) (l : Look) → BlocksAt s t l → ⊥
-  unblocked free t (Asks request go) k = unblocked_call free t (call_of request) k
-  unblocked free t (Leaves phase) k = let e : None ≡ Some k.1 = sym (free _) ∙ k.3 in cc
-  unblocked free t (Goes x) k = k
-  unblocked free t Breaks k = k
-  unblocked free t Rests k = k
+  unblocked : (rule : ExitRule) → ((b : ℕ) → s.holder b ≡ None) → (t : ℕ) (l : Look) → BlocksAt rule s t l → ⊥
+  unblocked rule free t (Asks request go) k = unblocked_call free t (call_of request) k
+  unblocked rule free t (Leaves phase) k = let e : None ≡ Some k.1 = sym (free _) ∙ k.3 in cc
+  unblocked rule free t (Goes x) k = k
+  unblocked rule free t Breaks k = k
+  unblocked rule free t Rests k = k
 
   -- a thread of the whole that is awake and outside calls is the machine's
   whole_first : (t : ℕ) (y : Thread) → s.phase t ≡ First → (whole p s).thread t ≡ Some y → s.base.thread t ≡ Some y
@@ -247,7 +249,7 @@ module _ (p : Program) (s : PieceState) (right : IsHeldRight p s) where
       stands = whole_first t c.thread (all_first (free_all stuck) t) c.stands;
       awake = awake_first t c.awake;
       goes_on = c.goes_on;
-      free = unblocked (free_all stuck) t _;
+      free = unblocked _ (free_all stuck) t _;
     }),
   )
 

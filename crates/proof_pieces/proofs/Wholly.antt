@@ -15,6 +15,7 @@ use Rattle.machine.specs.PieceStates.{PieceState, call_of, call_at, called, comm
 use Rattle.machine.specs.PieceSteps.{goes_outside}
 use Rattle.proof_pieces.specs.Whole.{either, behind, whole_at, whole}
 use Rattle.proof_pieces.specs.WholeCalls.{ServesWhole}
+use Rattle.robustexit.specs.ExitRules.{exit_of}
 use Rattle.proof_pieces.specs.Silence.{MovesAnswered, IsAnswered}
 use Rattle.proof_pieces.proofs.Reading.{seen, seen_first, seen_second, unput}
 
@@ -60,12 +61,12 @@ awake_whole p s t x l stands awake looks free = ap (λ o. either o (committed p 
 -- a step of such a thread
 pub loud : (p : Program) (s : PieceState) (t : ℕ) (x : Thread) (woken : List ℕ) (answer : ℕ) (l : Look) (after : State)
     → s.base.thread t ≡ Some x → s.base.asleep t ≡ None → look p t x ≡ l → behind (s.phase t) l x ≡ x
-    → committed_at (s.phase t) (call_at l) ≡ None → MovesAnswered (whole p s) t woken answer l after
+    → committed_at (s.phase t) (call_at l) ≡ None → MovesAnswered (exit_of p.version) (whole p s) t woken answer l after
     → IsAnswered p (whole p s) t x woken answer after
 loud p s t x woken answer l after stands awake looks same free moves = record {
   stands = stands_whole p s t x l stands looks same;
   awake = awake_whole p s t x l stands awake looks free;
-  moves = subst (λ m. MovesAnswered (whole p s) t woken answer m after) (sym looks) moves;
+  moves = subst (λ m. MovesAnswered (exit_of p.version) (whole p s) t woken answer m after) (sym looks) moves;
 }
 
 pub first_same : (ph : FutexPhase) (l : Look) (x : Thread) → ph ≡ First → behind ph l x ≡ x

@@ -3,6 +3,8 @@ use Rattle.std.specs.Prelude.{ℕ, ◌≡◌, ◌+◌, Bool, true, false, not, S
 use Rattle.isa.specs.Programs.{Program}
 use Rattle.futexcalls.specs.declared.pieces.FutexCall.{FutexCall}
 use Rattle.futexcalls.specs.declared.pieces.FutexCall.TheVariants.{Wait, Wake, Requeue}
+use Rattle.robustexit.specs.declared.rule.ExitRule.{ExitRule}
+use Rattle.robustexit.specs.ExitRules.{exit_of}
 use Rattle.locals.specs.Threads.{Thread}
 use Rattle.locals.specs.Looks.{Look, Goes, Asks, Leaves, Breaks, Rests, look}
 use Rattle.machine.specs.States.{State, with_thread}
@@ -43,28 +45,28 @@ piece_answer p s t x woken s' (IsAgain call go a v looks compares at differs nob
 piece_answer p s t x woken s' (IsAct call go moved sleepers looks at acts after) = length woken + length moved
 
 -- what a thread that looks so does in one step with whole calls, if this is the answer to what it asks
-abbrev pub MovesAnswered : State → ℕ → List ℕ → (answer : ℕ) → Look → State → Type 0
-MovesAnswered s t woken answer (Goes x) s' = MovesWhole s t woken (Goes x) s'
-MovesAnswered s t woken answer (Asks request go) s' =
+abbrev pub MovesAnswered : ExitRule → State → ℕ → List ℕ → (answer : ℕ) → Look → State → Type 0
+MovesAnswered rule s t woken answer (Goes x) s' = MovesWhole rule s t woken (Goes x) s'
+MovesAnswered rule s t woken answer (Asks request go) s' =
     (mid : State) × ServesWhole t request s woken answer mid × (s' ≡ with_thread mid t (go answer))
-MovesAnswered s t woken answer (Leaves phase) s' = MovesWhole s t woken (Leaves phase) s'
-MovesAnswered s t woken answer Breaks s' = ⊥
-MovesAnswered s t woken answer Rests s' = ⊥
+MovesAnswered rule s t woken answer (Leaves phase) s' = MovesWhole rule s t woken (Leaves phase) s'
+MovesAnswered rule s t woken answer Breaks s' = ⊥
+MovesAnswered rule s t woken answer Rests s' = ⊥
 
-abbrev pub moves_whole : (s : State) → (t : ℕ) → (woken : List ℕ) → (answer : ℕ) → (l : Look) → (s' : State)
-    → MovesAnswered s t woken answer l s' → MovesWhole s t woken l s'
-moves_whole s t woken answer (Goes x) s' moves = moves
-moves_whole s t woken answer (Asks request go) s' moves = (answer, moves.0, moves.1, moves.2)
-moves_whole s t woken answer (Leaves phase) s' moves = moves
-moves_whole s t woken answer Breaks s' moves = moves
-moves_whole s t woken answer Rests s' moves = moves
+abbrev pub moves_whole : (rule : ExitRule) → (s : State) → (t : ℕ) → (woken : List ℕ) → (answer : ℕ) → (l : Look) → (s' : State)
+    → MovesAnswered rule s t woken answer l s' → MovesWhole rule s t woken l s'
+moves_whole rule s t woken answer (Goes x) s' moves = moves
+moves_whole rule s t woken answer (Asks request go) s' moves = (answer, moves.0, moves.1, moves.2)
+moves_whole rule s t woken answer (Leaves phase) s' moves = moves
+moves_whole rule s t woken answer Breaks s' moves = moves
+moves_whole rule s t woken answer Rests s' moves = moves
 
 -- one step of a thread that stands here and doesn't sleep, with this answer
 pub record IsAnswered (p : Program) (s : State) (t : ℕ) (x : Thread) (woken : List ℕ) (answer : ℕ) (s' : State) : Type 0
   where
     pub stands : s.thread t ≡ Some x
     pub awake : s.asleep t ≡ None
-    pub moves : MovesAnswered s t woken answer (look p t x) s'
+    pub moves : MovesAnswered (exit_of p.version) s t woken answer (look p t x) s'
 
 -- it is one of the steps with whole calls
 abbrev pub whole_step : (p : Program) → (s : State) → (t : ℕ) → (x : Thread) → (woken : List ℕ) → (answer : ℕ)
@@ -73,7 +75,7 @@ whole_step p s t x woken answer s' h = record {
   thread = x;
   stands = h.stands;
   awake = h.awake;
-  moves = moves_whole s t woken answer (look p t x) s' h.moves;
+  moves = moves_whole (exit_of p.version) s t woken answer (look p t x) s' h.moves;
 }
 
 -- a step is nothing with whole calls, in time

@@ -10,6 +10,8 @@ use Rattle.locals.specs.Looks.{Request, AskRequeue, Look, Goes, Asks, Leaves, Br
 use Rattle.machine.specs.States.{State, with_thread, with_sleepers}
 use Rattle.machine.specs.AbstractServing.{Serves, Lies, shared_of, with_shared}
 use Rattle.machine.specs.Runs.{Step, Doing, Own, Strayed, Killed, IsStrayStep, IsKillStep}
+use Rattle.robustexit.specs.declared.rule.ExitRule.{ExitRule}
+use Rattle.robustexit.specs.ExitRules.{exit_of}
 
 -- how a request is served: as the machine serves it, but for what the requeue compares
 abbrev pub ServesWhole : ℕ → Request → State → List ℕ → ℕ → State → Type 0
@@ -20,23 +22,23 @@ ServesWhole t (AskRequeue a b n m expected) s woken answer s' =
     ⊎ ((s.word a ≢ expected) × (woken ≡ []) × (answer ≡ 4294967295) × (s' ≡ s)))
 ServesWhole t request s woken answer s' = Serves t request s woken answer s'
 
--- what a thread that looks so does in one step
-abbrev pub MovesWhole : State → ℕ → List ℕ → Look → State → Type 0
-MovesWhole s t woken (Goes x) s' = (woken ≡ []) × (s' ≡ with_thread s t x)
-MovesWhole s t woken (Asks request go) s' =
+-- what a thread that looks so does in one step, where exits are by this rule
+abbrev pub MovesWhole : ExitRule → State → ℕ → List ℕ → Look → State → Type 0
+MovesWhole rule s t woken (Goes x) s' = (woken ≡ []) × (s' ≡ with_thread s t x)
+MovesWhole rule s t woken (Asks request go) s' =
     (answer : ℕ) × (mid : State) × ServesWhole t request s woken answer mid × (s' ≡ with_thread mid t (go answer))
-MovesWhole s t woken (Leaves phase) s' =
-    (after : Shared) × (next : ExitPhase) × ExitStep s.size t phase (shared_of s) woken after next
+MovesWhole rule s t woken (Leaves phase) s' =
+    (after : Shared) × (next : ExitPhase) × ExitStep rule s.size t phase (shared_of s) woken after next
     × (s' ≡ with_thread (with_shared s after) t (Exits next))
-MovesWhole s t woken Breaks s' = ⊥
-MovesWhole s t woken Rests s' = ⊥
+MovesWhole rule s t woken Breaks s' = ⊥
+MovesWhole rule s t woken Rests s' = ⊥
 
 -- one step of a thread that was made and doesn't sleep
 pub record IsWholeStep (p : Program) (s : State) (t : ℕ) (woken : List ℕ) (s' : State) : Type 0 where
   pub thread : Thread
   pub stands : s.thread t ≡ Some thread
   pub awake : s.asleep t ≡ None
-  pub moves : MovesWhole s t woken (look p t thread) s'
+  pub moves : MovesWhole (exit_of p.version) s t woken (look p t thread) s'
 
 -- a step, by what it is: what comes from outside comes as it does to the machine
 abbrev pub IsWholeDone : Program → State → Step → State → Doing → Type 0

@@ -1,3 +1,4 @@
+pub mod ExitRules
 pub mod Fronts
 pub mod Phases
 pub mod RobustExit

@@ -1,7 +1,7 @@
 -- One step of the exit of a thread t, as a relation (Documentation/locking/robust-futex-ABI; clone(2)), over the words,
 -- as a function from addresses, and the sleepers. The first entry of t's list, its pending entry and its id are words
 -- of its own.
-use Rattle.std.specs.Prelude.{◌≡◌, ◌≢◌, ℕ, ◌+◌, ◌^◌, ◌<◌, true, if◌then◌else◌, Option, List, [], ◌⊎◌}
+use Rattle.std.specs.Prelude.{◌≡◌, ◌≢◌, ℕ, ◌+◌, ◌^◌, ◌<◌, true, false, if◌then◌else◌, Option, List, [], ◌⊎◌}
 use Rattle.words.specs.LockWord.{lock_word, owner_of, waiters_of}
 use Rattle.words.specs.Process.{process_word}
 use Rattle.futexcalls.specs.FutexCalls.{Wakes}
@@ -9,6 +9,8 @@ pub use Rattle.words.specs.Updates.{put}
 use Rattle.robustexit.specs.declared.phase.ExitPhase.{ExitPhase}
 use Rattle.robustexit.specs.declared.phase.ExitPhase.TheVariants.{Entry, Pending, ClearId, LastWake, Ended}
 use Rattle.robustexit.specs.Phases.{next_entry}
+use Rattle.robustexit.specs.declared.rule.ExitRule.{ExitRule}
+use Rattle.robustexit.specs.ExitRules.{wakes}
 
 -- the words, and for each thread the address on which it sleeps
 pub record Shared : Type 0 where
@@ -45,21 +47,24 @@ pub data EntryStep (size t e : ℕ) (before : Shared) (woken : List ℕ) (after 
       woken after
 
 -- the step at the pending entry e, which t was acquiring or releasing: t may have taken a wake and not passed it on
-pub data PendingStep (size t e : ℕ) (before : Shared) (woken : List ℕ) (after : Shared) : Type 0 where
-  NoEntry : (IsEntry size e → ⊥) → IsIdle before woken after → PendingStep size t e before woken after
-  IsForeign : IsEntry size e → owner_of (before.word (e + 1)) ≢ t → WakesOne (e + 1) before woken after → PendingStep
-      size t e before woken after
-  IsOwned : IsEntry size e → Abandons t (e + 1) before woken after → PendingStep size t e before woken after
+pub data PendingStep (rule : ExitRule) (size t e : ℕ) (before : Shared) (woken : List ℕ) (after : Shared) : Type 0 where
+  NoEntry : (IsEntry size e → ⊥) → IsIdle before woken after → PendingStep rule size t e before woken after
+  -- another thread owns its lock, or none does: one is woken where the rule says so
+  IsForeign : IsEntry size e → owner_of (before.word (e + 1)) ≢ t → wakes rule (before.word (e + 1)) ≡ true
+      → WakesOne (e + 1) before woken after → PendingStep rule size t e before woken after
+  IsPassed : IsEntry size e → owner_of (before.word (e + 1)) ≢ t → wakes rule (before.word (e + 1)) ≡ false
+      → IsIdle before woken after → PendingStep rule size t e before woken after
+  IsOwned : IsEntry size e → Abandons t (e + 1) before woken after → PendingStep rule size t e before woken after
 
 -- one step, phase by phase: what it does, and the next phase
-abbrev pub ExitStep : (size t : ℕ) → ExitPhase → Shared → List ℕ → Shared → ExitPhase → Type 0
-ExitStep size t (Entry e seen) before woken after next =
+abbrev pub ExitStep : ExitRule → (size t : ℕ) → ExitPhase → Shared → List ℕ → Shared → ExitPhase → Type 0
+ExitStep rule size t (Entry e seen) before woken after next =
     (IsEntry size e.0 × EntryStep size t e.0 before woken after × (next ≡ next_entry (before.word e.0) (seen + 1)))
     ⊎ ((IsEntry size e.0 → ⊥) × IsIdle before woken after × (next ≡ Pending))
-ExitStep size t Pending before woken after next =
-    PendingStep size t (before.word (process_word t 1)) before woken after × (next ≡ ClearId)
-ExitStep size t ClearId before woken after next =
+ExitStep rule size t Pending before woken after next =
+    PendingStep rule size t (before.word (process_word t 1)) before woken after × (next ≡ ClearId)
+ExitStep rule size t ClearId before woken after next =
     (woken ≡ []) × (after ≡ record before { word = put before.word (process_word t 2) 0 }) × (next ≡ LastWake)
-ExitStep size t LastWake before woken after next =
+ExitStep rule size t LastWake before woken after next =
     WakesOne (process_word t 2) before woken after × (next ≡ Ended)
-ExitStep size t Ended before woken after next = ⊥
+ExitStep rule size t Ended before woken after next = ⊥

@@ -8,6 +8,7 @@ ghost use Rattle.robustexit.specs.Fronts.{shared_view, wake_word, TakesFront};
 
 use crate::abandon::{abandon, lock_of};
 use crate::phase::{ExitPhase, phase_at};
+use crate::rule::ExitRule;
 use buckets::{Buckets, ThreadList};
 use futexcalls::wake;
 use words::{Addr, MOST_BLOCKS, Mem, ProcessWord, block, tid};
@@ -24,6 +25,7 @@ pub fn first_phase(mem: &Mem, t: u32) -> ExitPhase
 /// Takes the next step of the exit of thread `t`, which isn't over, and answers the phase after it. Who was woken is
 /// written into `woken`: the front of the list of the address on which the step wakes.
 pub fn exit_step(
+    rule: ExitRule,
     mem: &mut Mem,
     buckets: &mut Buckets,
     t: u32,
@@ -33,7 +35,7 @@ pub fn exit_step(
     requires thread { (0 < t) × (t ≤ MOST_BLOCKS) }
     requires block { process_word t 5 < length mem.old }
     requires running { phase ≢ ExitPhase.Ended }
-    ensures step { ExitStep (length mem.old) t phase (shared_view mem.old buckets.old)
+    ensures step { ExitStep rule (length mem.old) t phase (shared_view mem.old buckets.old)
         woken.new
         (shared_view mem.new buckets.new) result }
     ensures front { TakesFront buckets.old buckets.new (wake_word t phase (word_of mem.old))
@@ -46,7 +48,7 @@ pub fn exit_step(
     match phase {
         ExitPhase::Entry { entry, seen } => entry_step(mem, buckets, t, entry, seen, woken),
         ExitPhase::Pending => {
-            pending_step(mem, buckets, t, woken);
+            pending_step(rule, mem, buckets, t, woken);
             ExitPhase::ClearId
         }
         ExitPhase::ClearId => {
@@ -101,11 +103,18 @@ fn entry_step(
     next
 }
 
-// A lock that another thread owns, or none, gets a wake: the one that `t` was given, or that it owed when it gave up.
-fn pending_step(mem: &mut Mem, buckets: &mut Buckets, t: u32, woken: &mut ThreadList)
+// A lock that another thread owns, or none, gets a wake where the rule says so: the one that `t` was given, or that it
+// owed when it gave up.
+fn pending_step(
+    rule: ExitRule,
+    mem: &mut Mem,
+    buckets: &mut Buckets,
+    t: u32,
+    woken: &mut ThreadList,
+)
     requires thread { (0 < t) × (t ≤ MOST_BLOCKS) }
     requires block { process_word t 5 < length mem.old }
-    ensures step { PendingStep (length mem.old) t (word_of mem.old (process_word t 1))
+    ensures step { PendingStep rule (length mem.old) t (word_of mem.old (process_word t 1))
         (shared_view mem.old buckets.old) woken.new (shared_view mem.new buckets.new) }
     ensures front { TakesFront buckets.old buckets.new (word_of mem.old (process_word t 1)
         + 1) woken.new }
@@ -118,9 +127,14 @@ fn pending_step(mem: &mut Mem, buckets: &mut Buckets, t: u32, woken: &mut Thread
         buckets.nobody(woken);
         return;
     };
-    if tid(mem.load(lock)) == t {
+    let word = mem.load(lock);
+    if tid(word) == t {
         abandon(mem, buckets, lock, woken);
-    } else {
+        return;
+    }
+    if rule.wakes(word) {
         wake(buckets, lock, 1, woken);
+    } else {
+        buckets.nobody(woken);
     }
 }

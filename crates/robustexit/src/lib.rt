@@ -5,8 +5,10 @@
 mod abandon;
 mod exit;
 mod phase;
+mod rule;
 mod waking;
 
 pub use exit::{exit_step, first_phase};
 pub use phase::{ExitPhase, MOST_ENTRIES, phase_at};
+pub use rule::ExitRule;
 pub use waking::wakes_on;

@@ -5,7 +5,7 @@ use Rattle.std.specs.Prelude.{ℤ, ◌||◌}
 use Rattle.std.proofs.lemmas.Bool.{cases_eq, ne_eqb}
 use Rattle.robustexit.specs.declared.phase.ExitPhase.{ExitPhase}
 use Rattle.robustexit.specs.declared.phase.ExitPhase.TheVariants.{Entry, Pending, ClearId, LastWake, Ended}
-use Rattle.robustexit.specs.RobustExit.{Shared, IsIdle, EntryStep, PendingStep, NoEntry, IsPending, IsForeign}
+use Rattle.robustexit.specs.RobustExit.{Shared, IsIdle, EntryStep, PendingStep, NoEntry, IsPending, IsForeign, IsPassed}
 use Rattle.robustexit.specs.RobustExit.{IsOwned, ExitStep, put}
 use Rattle.buckets.specs.Places.{names, with_place}
 use Rattle.futexcalls.specs.FutexCalls.{Wakes, Moves as Requeued, Requeues, Sleeps}
@@ -25,6 +25,8 @@ use Rattle.machine.specs.Runs.{Step, killed_to}
 use Rattle.machine.specs.PieceStates.{PieceState}
 use Rattle.machine.specs.PieceSteps.{Piece, IsLocal, IsPlain, IsExit, IsLock, IsEqual, IsAgain, IsAct, IsOwnPiece}
 use Rattle.machine.specs.PieceSteps.{IsPieceStray, IsPieceKill, goes_outside, killed_piece, again_of}
+use Rattle.robustexit.specs.ExitRules.{exit_of}
+use Rattle.robustexit.specs.declared.rule.ExitRule.{ExitRule}
 
 -- who was awake, but for thread t, still is
 abbrev StaysAwake : ℕ → (ℕ → Option ℕ) → (ℕ → Option ℕ) → Type 0
@@ -164,21 +166,22 @@ entry_awake size t e before woken after (IsPending is idle) = idle_awake t befor
 entry_awake size t e before woken after (IsForeign other idle) = idle_awake t before after woken idle
 entry_awake size t e before woken after (IsOwned other a) = wakes_awake t _ _ before.asleep after.asleep woken a.wakes
 
-pending_awake : (size t e : ℕ) (before : Shared) (woken : List ℕ) (after : Shared)
-    → PendingStep size t e before woken after → StaysAwake t before.asleep after.asleep
-pending_awake size t e before woken after (NoEntry none idle) = idle_awake t before after woken idle
-pending_awake size t e before woken after (IsForeign is other one) =
+pending_awake : (rule : ExitRule) (size t e : ℕ) (before : Shared) (woken : List ℕ) (after : Shared)
+    → PendingStep rule size t e before woken after → StaysAwake t before.asleep after.asleep
+pending_awake rule size t e before woken after (NoEntry none idle) = idle_awake t before after woken idle
+pending_awake rule size t e before woken after (IsForeign is other so one) =
     wakes_awake t _ _ before.asleep after.asleep woken one.wakes
-pending_awake size t e before woken after (IsOwned is a) = wakes_awake t _ _ before.asleep after.asleep woken a.wakes
+pending_awake rule size t e before woken after (IsPassed is other so idle) = idle_awake t before after woken idle
+pending_awake rule size t e before woken after (IsOwned is a) = wakes_awake t _ _ before.asleep after.asleep woken a.wakes
 
-exit_awake : (size t : ℕ) (phase : ExitPhase) (before : Shared) (woken : List ℕ) (after : Shared) (next : ExitPhase)
-    → ExitStep size t phase before woken after next → StaysAwake t before.asleep after.asleep
-exit_awake size t (Entry e seen) before woken after next (inl h) = entry_awake size t e.0 before woken after h.1
-exit_awake size t (Entry e seen) before woken after next (inr h) = idle_awake t before after woken h.1
-exit_awake size t Pending before woken after next h = pending_awake size t _ before woken after h.0
-exit_awake size t ClearId before woken after next h = λ u other is. ap (λ (q : Shared). q.asleep u) h.1 ∙ is
-exit_awake size t LastWake before woken after next h = wakes_awake t _ _ before.asleep after.asleep woken h.0.wakes
-exit_awake size t Ended before woken after next h = absurd h
+exit_awake : (rule : ExitRule) (size t : ℕ) (phase : ExitPhase) (before : Shared) (woken : List ℕ) (after : Shared)
+    (next : ExitPhase) → ExitStep rule size t phase before woken after next → StaysAwake t before.asleep after.asleep
+exit_awake rule size t (Entry e seen) before woken after next (inl h) = entry_awake size t e.0 before woken after h.1
+exit_awake rule size t (Entry e seen) before woken after next (inr h) = idle_awake t before after woken h.1
+exit_awake rule size t Pending before woken after next h = pending_awake rule size t _ before woken after h.0
+exit_awake rule size t ClearId before woken after next h = λ u other is. ap (λ (q : Shared). q.asleep u) h.1 ∙ is
+exit_awake rule size t LastWake before woken after next h = wakes_awake t _ _ before.asleep after.asleep woken h.0.wakes
+exit_awake rule size t Ended before woken after next h = absurd h
 
 then_thread : (t : ℕ) (s mid s' : State) (x : Thread) → Beside t s mid → s' ≡ with_thread mid t x → Beside t s s'
 then_thread t s mid s' x b is = to t s (with_thread mid t x) s' is (record {
@@ -242,7 +245,7 @@ piece_beside p s s' t x woken numbered (IsPlain request go answer mid looks plai
 piece_beside p s s' t x woken numbered (IsExit phase after next looks first step free is) =
     outside_piece t s s' (with_shared s.base after) [] (Exits next) (record {
       stay = λ u y other h. h;
-      awake = exit_awake s.base.size t phase (shared_of s.base) woken after next step;
+      awake = exit_awake (exit_of p.version) s.base.size t phase (shared_of s.base) woken after next step;
       made = omega arith;
     }) is
 piece_beside p s s' t x woken numbered (IsLock call go b looks lies takes free quiet is) =

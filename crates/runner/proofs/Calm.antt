@@ -16,6 +16,8 @@ use Rattle.isa.specs.declared.operator.Operator.{Operator}
 use Rattle.isa.specs.declared.operator.Operator.TheVariants.{Add, Sub, Mul, Div, Mod, Eq, Ne, Lt, Le, Gt, Ge}
 use Rattle.isa.specs.declared.operator.Operator.TheVariants.{BitAnd, BitOr}
 use Rattle.isa.specs.Programs.{Program}
+use Rattle.robustexit.specs.ExitRules.{exit_of}
+use Rattle.robustexit.specs.declared.rule.ExitRule.{ExitRule}
 use Rattle.locals.specs.Limits.{most_callers}
 use Rattle.locals.specs.Looks.{Look, Goes, Effect, Then, Keeps, To, Tests, Asking, Trying}
 use Rattle.locals.specs.Looks.{Calls, Returns, ReturnsValue, Fails, Misses, Guards, Checks, at_place, effect, if_so}
@@ -159,34 +161,34 @@ calm_next places at locals callers (Checks test fault e) x h is =
     calm_or places test fault (at_place at locals callers e) x (calm_next places at locals callers e x h) is
 
 -- and no bucket is wanted there
-none_if : (k : PieceConcrete) (t : ℕ) (test : Bool) (l : Look) → wanted k t l ≡ None → wanted k t (if_so test l) ≡ None
-none_if k t true l h = h
-none_if k t false l h = refl
+none_if : (rule : ExitRule) (k : PieceConcrete) (t : ℕ) (test : Bool) (l : Look) → wanted rule k t l ≡ None → wanted rule k t (if_so test l) ≡ None
+none_if rule k t true l h = h
+none_if rule k t false l h = refl
 
-none_or : (k : PieceConcrete) (t : ℕ) (test : Bool) (fault : Fault) (l : Look) → wanted k t l ≡ None
-    → wanted k t (or_dies test fault l) ≡ None
-none_or k t true fault l h = h
-none_or k t false fault l h = refl
+none_or : (rule : ExitRule) (k : PieceConcrete) (t : ℕ) (test : Bool) (fault : Fault) (l : Look) → wanted rule k t l ≡ None
+    → wanted rule k t (or_dies test fault l) ≡ None
+none_or rule k t true fault l h = h
+none_or rule k t false fault l h = refl
 
-none_wanted : (k : PieceConcrete) (t : ℕ) (places : List Bool) (at : ℕ) (locals : Locals) (callers : List Frame)
-    (e : Effect) → LeadsOn places at e → wanted k t (at_place at locals callers e) ≡ None
-none_wanted k t places at locals callers (Then operands) h = refl
-none_wanted k t places at locals callers (Keeps locals' operands) h = refl
-none_wanted k t places at locals callers (To place operands) h = refl
-none_wanted k t places at locals callers (Tests value place operands) h = refl
-none_wanted k t places at locals callers (Asking request answered) h = ap (wanted_by k t) h
-none_wanted k t places at locals callers (Trying request fault answered) h = ap (wanted_by k t) h
-none_wanted k t places at locals callers (Calls place operands) h =
-    none_if k t (nat_lt (length callers) most_callers)
+none_wanted : (rule : ExitRule) (k : PieceConcrete) (t : ℕ) (places : List Bool) (at : ℕ) (locals : Locals) (callers : List Frame)
+    (e : Effect) → LeadsOn places at e → wanted rule k t (at_place at locals callers e) ≡ None
+none_wanted rule k t places at locals callers (Then operands) h = refl
+none_wanted rule k t places at locals callers (Keeps locals' operands) h = refl
+none_wanted rule k t places at locals callers (To place operands) h = refl
+none_wanted rule k t places at locals callers (Tests value place operands) h = refl
+none_wanted rule k t places at locals callers (Asking request answered) h = ap (wanted_by k t) h
+none_wanted rule k t places at locals callers (Trying request fault answered) h = ap (wanted_by k t) h
+none_wanted rule k t places at locals callers (Calls place operands) h =
+    none_if _ k t (nat_lt (length callers) most_callers)
     (Goes (Runs place operands fresh (record { back = at + 1; locals = locals } ∷ callers))) refl
-none_wanted k t places at locals callers (Returns operands) h = absurd h
-none_wanted k t places at locals callers (ReturnsValue v operands) h = absurd h
-none_wanted k t places at locals callers (Fails fault) h = refl
-none_wanted k t places at locals callers Misses h = refl
-none_wanted k t places at locals callers (Guards test e) h =
-    none_if k t test (at_place at locals callers e) (none_wanted k t places at locals callers e h)
-none_wanted k t places at locals callers (Checks test fault e) h =
-    none_or k t test fault (at_place at locals callers e) (none_wanted k t places at locals callers e h)
+none_wanted rule k t places at locals callers (Returns operands) h = absurd h
+none_wanted rule k t places at locals callers (ReturnsValue v operands) h = absurd h
+none_wanted rule k t places at locals callers (Fails fault) h = refl
+none_wanted rule k t places at locals callers Misses h = refl
+none_wanted rule k t places at locals callers (Guards test e) h =
+    none_if _ k t test (at_place at locals callers e) (none_wanted _ k t places at locals callers e h)
+none_wanted rule k t places at locals callers (Checks test fault e) h =
+    none_or _ k t test fault (at_place at locals callers e) (none_wanted _ k t places at locals callers e h)
 
 -- the same of what stands at a place of the code, if something does
 next_at : (code : List Instr) (places : List Bool) (at most t : ℕ) (operands : List ℕ) (locals : Locals)
@@ -197,12 +199,12 @@ next_at code places at most t operands locals callers x (Some i) stands closed c
     calm_next places at locals callers (effect most t i operands locals) x
     (led places at most t i operands locals (closed at i calm stands)) is
 
-wanted_at : (k : PieceConcrete) (code : List Instr) (places : List Bool) (at most t : ℕ) (operands : List ℕ)
+wanted_at : (rule : ExitRule) (k : PieceConcrete) (code : List Instr) (places : List Bool) (at most t : ℕ) (operands : List ℕ)
     (locals : Locals) (callers : List Frame) (o : Option Instr) → slice_get code at ≡ o → IsClosed code places
-    → is_calm places at ≡ true → wanted k t (look_at most t o at operands locals callers) ≡ None
-wanted_at k code places at most t operands locals callers None stands closed calm = refl
-wanted_at k code places at most t operands locals callers (Some i) stands closed calm =
-    none_wanted k t places at locals callers (effect most t i operands locals)
+    → is_calm places at ≡ true → wanted rule k t (look_at most t o at operands locals callers) ≡ None
+wanted_at rule k code places at most t operands locals callers None stands closed calm = refl
+wanted_at rule k code places at most t operands locals callers (Some i) stands closed calm =
+    none_wanted _ k t places at locals callers (effect most t i operands locals)
     (led places at most t i operands locals (closed at i calm stands))
 
 calm_step : (p : Program) (t : ℕ) (places : List Bool) (x y : Thread) → IsClosed p.code places → IsCalm places x
@@ -214,9 +216,9 @@ calm_step p t places (Dies cause) y closed calm goes = absurd cc
 calm_step p t places (Exits phase) y closed calm goes = absurd calm
 
 calm_wants : (p : Program) (k : PieceConcrete) (t : ℕ) (places : List Bool) (x : Thread) → IsClosed p.code places
-    → IsCalm places x → wanted k t (look p t x) ≡ None
+    → IsCalm places x → wanted (exit_of p.version) k t (look p t x) ≡ None
 calm_wants p k t places (Runs place operands locals callers) closed calm =
-    wanted_at k p.code places place (most_of p.version) t operands locals callers (slice_get p.code place) refl closed
+    wanted_at _ k p.code places place (most_of p.version) t operands locals callers (slice_get p.code place) refl closed
     calm
 calm_wants p k t places (Dies cause) closed calm = refl
 calm_wants p k t places (Exits phase) closed calm = absurd calm

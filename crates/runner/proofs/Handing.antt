@@ -4,6 +4,7 @@ use Rattle.std.proofs.Common.{Err, is_some, length, refl, ap, sym, ◌∙◌, ar
 use Rattle.std.specs.Prelude.{if◌then◌else◌, IsOk}
 use mir.Val.{bool_byte}
 use Rattle.isa.specs.Programs.{Program}
+use Rattle.robustexit.specs.ExitRules.{exit_of}
 use Rattle.locals.specs.Threads.{Thread}
 use Rattle.locals.specs.Accesses.{Accessing, accessing}
 use Rattle.locals.specs.Looks.{Look, Goes, Asks, Leaves, Breaks, Rests, look}
@@ -52,12 +53,12 @@ up k t moves = up_by k t (k.common.asleep t) (thread_of k t) (has_ended (thread_
 pub step_there : (p : Program) (k : ConcreteState) (t : ℕ) (o here : Thread) → k.common.asleep t ≡ None
     → thread_of k t ≡ Some o
     → step_of p (put_thread k t here) t ≡ on_machine (put_thread k t here) t
-    (thread_step (length k.threads) t k.common (look p t here))
+    (thread_step (exit_of p.version) (length k.threads) t k.common (look p t here))
 step_there p k t o here awake stands =
     let there = put_thread k t here in
     ap (step_thread p there t) (thread_at-put k.threads t o here stands)
     ∙ ap (step_awake p there t here) awake
-    ∙ ap (λ made. on_machine there t (thread_step made t k.common (look p t here)))
+    ∙ ap (λ made. on_machine there t (thread_step (exit_of p.version) made t k.common (look p t here)))
     (length-set k.threads (t - 1) here)
 
 -- the same of a machine with pieces: its step is that of what the thread looks like there
@@ -87,7 +88,7 @@ piece_goes p k t o here next awake stands goes =
     piece_there p k t o here awake stands
     ∙ ap (look_step p there t) looks
     ∙ ap (whole_at there) (step_there p k.concrete t o here awake stands
-    ∙ ap (λ l. on_machine there.concrete t (thread_step (length k.concrete.threads) t k.concrete.common l)) looks)
+    ∙ ap (λ l. on_machine there.concrete t (thread_step (exit_of p.version) (length k.concrete.threads) t k.concrete.common l)) looks)
 
 -- before a local step it comes in as a turn
 turn_by : (there : PieceConcrete) (r : Outcome) (o : Option Thread) → true ≡ is_some o

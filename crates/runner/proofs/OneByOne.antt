@@ -3,6 +3,7 @@ use Rattle.std.proofs.Common.{◌≡◌, ℕ, true, false, not, length, [], ◌�
 use Rattle.std.proofs.Common.{replicate, inl, inr, refl, ap, sym, ◌∙◌}
 use Rattle.isa.specs.Programs.{Program}
 use Rattle.robustexit.specs.declared.phase.ExitPhase.TheVariants.{Entry as EntryPhase, Pending, ClearId, LastWake, Ended}
+use Rattle.robustexit.specs.ExitRules.{exit_of}
 use Rattle.locals.specs.Threads.{Thread, Runs as Running, Dies, Exits}
 use Rattle.locals.specs.Looks.{Rests, look}
 use Rattle.locals.specs.Steps.{local_next}
@@ -49,7 +50,7 @@ rested : (p : Program) (k : PieceConcrete) (t : ℕ) (x : Thread) → look p t x
 rested p k t x rests stands awake =
     ap (piece_at_thread p k t) stands ∙ ap (awake_step p k t x) awake ∙ ap (look_step p k t) rests
     ∙ ap (whole_at k) (ap (step_thread p k.concrete t) stands ∙ ap (step_awake p k.concrete t x) awake
-    ∙ ap (λ l. on_machine k.concrete t (thread_step (length k.concrete.threads) t k.concrete.common l)) rests)
+    ∙ ap (λ l. on_machine k.concrete t (thread_step (exit_of p.version) (length k.concrete.threads) t k.concrete.common l)) rests)
 
 goes_by : (p : Program) (k : PieceConcrete) (t : ℕ) (q : PieceConcrete × Event) (x : Thread)
     → thread_of k.concrete t ≡ Some x → k.concrete.common.asleep t ≡ None → piece_of p k t ≡ Ok q

@@ -12,6 +12,7 @@ use Rattle.futexcalls.specs.declared.pieces.FutexPhase.{FutexPhase}
 use Rattle.futexcalls.specs.declared.pieces.FutexPhase.TheVariants.{First, Second, Compare, Act}
 use Rattle.futexcalls.specs.Pieces.{after_lock, again_of, takes_at}
 use Rattle.futexcalls.specs.PieceResults.{moved_by, woken_by}
+use Rattle.robustexit.specs.ExitRules.{exit_of}
 use Rattle.locals.specs.Threads.{Thread}
 use Rattle.locals.specs.Looks.{Look, Goes, Asks, Leaves, Breaks, Rests, look}
 use Rattle.machine.specs.declared.event.Entry.{Entry}
@@ -111,7 +112,7 @@ own_look : (p : Program) (k : PieceConcrete) (t : ℕ) (l : Look) → OwnSo (loo
 own_look p k t (Asks request go) = own_call p k t go (call_of request)
 own_look p k t (Goes x) = own_whole p k t (step_of p k.concrete t) refl
 own_look p k t (Leaves phase) =
-    own_if (is_held k (wanted k t (Leaves phase))) _ _ (own_err CannotMove)
+    own_if (is_held k (wanted (exit_of p.version) k t (Leaves phase))) _ _ (own_err CannotMove)
     (own_whole p k t (step_of p k.concrete t) refl)
 own_look p k t Breaks = own_whole p k t (step_of p k.concrete t) refl
 own_look p k t Rests = own_whole p k t (step_of p k.concrete t) refl

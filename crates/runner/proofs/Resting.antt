@@ -3,6 +3,7 @@ use Rattle.std.proofs.Common.{◌≡◌, ℕ, true, Option, Some, None, inl, inr
 use Rattle.std.proofs.lemmas.Bool.{cases_Bool}
 use Rattle.isa.specs.Programs.{Program}
 use Rattle.futexcalls.specs.declared.pieces.FutexCall.{FutexCall}
+use Rattle.robustexit.specs.declared.rule.ExitRule.{ExitRule}
 use Rattle.locals.specs.Looks.{Look, Goes, Asks, Leaves, Breaks, Rests, look}
 use Rattle.machine.specs.ConcreteSteps.{can_move}
 use Rattle.machine.specs.PieceStates.{PieceState, call_of}
@@ -18,12 +19,12 @@ call_free : (s : PieceState) (t : ℕ) (call : Option FutexCall) → ((b : ℕ) 
 call_free s t None none h = h
 call_free s t (Some call) none h = none_or_some (s.holder h.1) h.2 (none h.1) h.4
 
-free : (s : PieceState) (t : ℕ) (l : Look) → ((b : ℕ) → s.holder b ≡ None) → BlocksAt s t l → ⊥
-free s t (Asks request go) none h = call_free s t (call_of request) none h
-free s t (Leaves phase) none h = none_or_some (s.holder _) h.1 (none _) h.3
-free s t (Goes x) none h = h
-free s t Breaks none h = h
-free s t Rests none h = h
+free : (rule : ExitRule) (s : PieceState) (t : ℕ) (l : Look) → ((b : ℕ) → s.holder b ≡ None) → BlocksAt rule s t l → ⊥
+free rule s t (Asks request go) none h = call_free s t (call_of request) none h
+free rule s t (Leaves phase) none h = none_or_some (s.holder _) h.1 (none _) h.3
+free rule s t (Goes x) none h = h
+free rule s t Breaks none h = h
+free rule s t Rests none h = h
 
 -- where no thread can take a step and nobody holds a bucket, none can move
 pub quiet_so : (p : Program) (v : PieceView) → IsAtRest p (pieces v) → ((b : ℕ) → (pieces v).holder b ≡ None)
@@ -36,7 +37,7 @@ quiet_so p v rests none t = elim (cases_Bool (can_move (concrete v.view) t)) [
         stands = c.stands;
         awake = c.awake;
         goes_on = c.goes_on;
-        free = free (pieces v) t (look p t c.thread) none;
+        free = free _ (pieces v) t (look p t c.thread) none;
       }))
   | inr not ↦ not
 ]

@@ -3,6 +3,7 @@ use Rattle.std.proofs.Common.{◌≡◌, ℕ, zero, suc, Bool, true, false, not,
 use Rattle.std.proofs.Common.{inl, inr, refl, ap, sym, ◌∙◌, subst}
 use Rattle.std.proofs.lemmas.Bool.{cases_Bool}
 use Rattle.isa.specs.Programs.{Program}
+use Rattle.robustexit.specs.ExitRules.{exit_of}
 use Rattle.locals.specs.Threads.{Thread}
 use Rattle.locals.specs.Looks.{look}
 use Rattle.locals.specs.Steps.{local_next, local_step, local_after}
@@ -41,7 +42,7 @@ held_so k (Some b) h = held_by k b (k.holder b) refl h
 
 blocked_so : (p : Program) (k : PieceConcrete) (t : ℕ) (o : Option Thread) → is_blocked p k t o ≡ true → IsTaken k
 blocked_so p k t None h = absurd cc
-blocked_so p k t (Some x) h = held_so k (wanted k t (look p t x)) h
+blocked_so p k t (Some x) h = held_so k (wanted (exit_of p.version) k t (look p t x)) h
 
 other_test : (a b : Bool) → a ≡ true → (a && not b) ≡ false → b ≡ true
 other_test true true is both = refl

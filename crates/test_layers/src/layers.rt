@@ -3,6 +3,7 @@ use crate::failure::Failure;
 use crate::walk::walk;
 use buckets::{Buckets, ThreadList};
 use futexcalls::{FutexLists, cmp_requeue, wait, wake};
+use robustexit::ExitRule;
 use std::alloc::Global;
 use std::marker::Model;
 use words::{Addr, Mem};
@@ -77,7 +78,9 @@ impl Layers {
         match name {
             "buckets" => self.renew(alloc, a),
             "load" => self.load(a),
-            "exit" => self.exit(alloc, a),
+            "exit" => self.exit(alloc, ExitRule::WakesAlways, a),
+            "exit_unowned" => self.exit(alloc, ExitRule::WakesUnowned, a),
+            "exit_uncovered" => self.exit(alloc, ExitRule::WakesUncovered, a),
             "asleep" => self.asleep(a),
             "drop" => self.drop_out(a),
             "list" => self.list(alloc, a),
@@ -233,11 +236,12 @@ impl Layers {
         Ok(Answer::Requeued(requeued.is_ok().then_some(lists)))
     }
 
-    fn exit(&mut self, alloc: Global, t: u32) -> Result<Answer, Failure> {
+    fn exit(&mut self, alloc: Global, rule: ExitRule, t: u32) -> Result<Answer, Failure> {
         if t == 0 || t > THREADS {
             return Err(Failure::Outside);
         }
         let mut woken = ThreadList::new(alloc)?;
-        Ok(Answer::Steps(walk(&mut self.mem, &mut self.buckets, t, &mut woken)))
+        let steps = walk(rule, &mut self.mem, &mut self.buckets, t, &mut woken);
+        Ok(Answer::Steps(steps))
     }
 }

@@ -91,7 +91,7 @@ returns-in-Broken-clause-err c =
     let within : c.args.t ≤ length c.args.threads.now.items = search rules in
     let m = made_at k.threads c.args.t (c.requires.thread.0, within) in
     stepped c.args.image.now k c.args.t (length k.threads) m.0 _ m.1 c.requires.awake refl
-    (breaks_when (length k.threads) c.args.t k.common (look c.args.image.now c.args.t m.0)
+    (breaks_when _ (length k.threads) c.args.t k.common (look c.args.image.now c.args.t m.0)
     (sym (c.requires.next m.0 m.1) ∙ c.in-Broken.is))
 
 pub returns-in-Ended-clause-err : goal.returns-in-Ended-clause-err
@@ -100,5 +100,5 @@ returns-in-Ended-clause-err c =
     let within : c.args.t ≤ length c.args.threads.now.items = search rules in
     let m = made_at k.threads c.args.t (c.requires.thread.0, within) in
     stepped c.args.image.now k c.args.t (length k.threads) m.0 _ m.1 c.requires.awake refl
-    (rests_when (length k.threads) c.args.t k.common (look c.args.image.now c.args.t m.0)
+    (rests_when _ (length k.threads) c.args.t k.common (look c.args.image.now c.args.t m.0)
     (sym (c.requires.next m.0 m.1) ∙ c.in-Ended.is))

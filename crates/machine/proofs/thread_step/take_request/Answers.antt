@@ -8,14 +8,14 @@ use Rattle.machine.proofs.thread_step.take_request.Goals as goal
 pub returns-in_err-answer-clause-err : goal.returns-in_err-answer-clause-err
 returns-in_err-answer-clause-err c =
     hand_on c.from_residual.result c.in_err-answer.field-0.0 _ c.from_residual.ensures.1 (λ made.
-    shared_err made c.args.t (common c.args.shared.now) (common c.serve.new.self)
+    shared_err _ made c.args.t (common c.args.shared.now) (common c.serve.new.self)
     (look c.args.image.now c.args.t c.args.local.now) c.args.request c.in_err-answer.field-0.0 c.serve.new.event
     c.requires.asks c.in_err-answer.ensures.gives)
 
 pub returns-clause-done : goal.returns-clause-done
 returns-clause-done c = λ made.
     let after = common c.serve.new.self in
-    shared_so made c.args.t (common c.args.shared.now) after
+    shared_so _ made c.args.t (common c.args.shared.now) after
     (look c.args.image.now c.args.t c.args.local.now) c.args.local.now c.args.request c.in_ok-answer.answer
     c.serve.new.event c.requires.asks c.in_ok-answer.ensures.gives
     ∙ (λ i. Ok (record {

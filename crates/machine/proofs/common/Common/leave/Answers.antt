@@ -47,8 +47,8 @@ returns-clause-gives c =
           ∙ other_value c.args.t c.args.phase c.self.inside.words c.exit_step-next.new.woken
           w.in_default.not-LastWake
     ] in
-    ap (λ v. leave c.args.t c.args.phase (common v)) (sym c.self.view_is)
-    ∙ left_is c.self.inside.words c.exit_step-next.new.mem c.self.inside.buckets c.exit_step-next.new.buckets o
+    ap (λ v. leave c.args.rule c.args.t c.args.phase (common v)) (sym c.self.view_is)
+    ∙ left_is c.args.rule c.self.inside.words c.exit_step-next.new.mem c.self.inside.buckets c.exit_step-next.new.buckets o
     c.args.t c.args.phase c.exit_step-next.result c.exit_step-next.new.woken
     c.self.invariant.sound.agree within x.step x.front x.words x.threads
     ∙ (λ i. left c.exit_step-next.new.mem c.exit_step-next.new.buckets o c.args.phase c.exit_step-next.result

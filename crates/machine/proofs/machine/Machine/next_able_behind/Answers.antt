@@ -1,5 +1,5 @@
 -- The first by the bits; nobody past the last that there can be.
-use Rattle.std.proofs.Common.{◌+◌, Option, Some, ℕ, arith, subst}
+use Rattle.std.proofs.Common.{◌+◌, Some, arith, subst}
 use Rattle.machine.specs.ConcreteSteps.{can_move}
 use Rattle.machine.specs.ThreadSets.{IsLeastFrom}
 use Rattle.machine.specs.Views.{View, concrete, parts_of}

@@ -6,6 +6,7 @@ use Rattle.buckets.specs.Sleepers.{bucket_count}
 use Rattle.futexcalls.specs.declared.pieces.FutexPhase.{FutexPhase}
 use Rattle.futexcalls.specs.declared.pieces.FutexPhase.TheVariants.{First}
 use Rattle.futexcalls.specs.Pieces.{held_at, takes_at, IsPhase}
+use Rattle.robustexit.specs.ExitRules.{exit_of}
 use Rattle.locals.specs.Looks.{Asks}
 use Rattle.machine.specs.ConcretePieces.{pieces_of, MakesCall}
 use Rattle.machine.specs.PieceStates.{request_of}
@@ -109,7 +110,8 @@ returns-in-Blocked-clause-err c =
       subst (λ (q : PieceView). piece_of q.view.program (parts q) c.args.t ≡ (let o : Outcome = Err CannotMove in o))
           c.self.view_is
           (held_up v.program k c.args.t m.thread (Asks (request_of c.args.call) m.go) (kept_fit v ph c.self.invariant)
-          (m.stands, awake) m.asks (call_blocks (pieces_at k) c.args.t c.args.call m.go b.0)),
+          (m.stands, awake) m.asks
+          (call_blocks (exit_of v.program.version) (pieces_at k) c.args.t c.args.call m.go b.0)),
       (λ i. record { view = b.1 i; phases = ph }) ∙ c.self.view_is,
     )
 

@@ -4,6 +4,7 @@ use Rattle.locals.specs.Looks.{look}
 use Rattle.locals.specs.Requests.{next_step_of}
 use Rattle.locals.specs.Threads.{Thread}
 use Rattle.locals.specs.declared.request.NextStep.{NextStep}
+use Rattle.robustexit.specs.ExitRules.{exit_of}
 use Rattle.machine.specs.ConcretePieces.{IsHeldUp}
 use Rattle.machine.specs.States.{thread_of}
 use Rattle.machine.specs.Views.{View, concrete}
@@ -39,7 +40,7 @@ whole_step-requires-in-Exit-clause-apart c =
     let v = c.args.self.now.view in
     let asked = subst (λ (q : PieceView). AsksNext q.view c.args.t c.next_step-next.result) c.self.view_is
     c.next_step-next.ensures in
-    let free = subst (λ (q : PieceView). IsHeldUp q.view.words q.view.sleepers c.args.t c.in-Exit.phase → ⊥) c.self.view_is
+    let free = subst (λ (q : PieceView). IsHeldUp (exit_of q.view.program.version) q.view.words q.view.sleepers c.args.t c.in-Exit.phase → ⊥) c.self.view_is
     c.if-is_held_up.ensures in
     apart_leaves v (pieces c.args.self.now) c.args.t c.in-Exit.phase refl c.requires.awake
     (never_none (concrete v) c.args.t c.requires.thread.0 c.requires.thread.1)

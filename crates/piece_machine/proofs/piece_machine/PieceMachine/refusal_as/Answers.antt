@@ -60,7 +60,7 @@ returns-in-None c = λ here stands is.
     subst (λ (q : PieceView). c.refusal_as.result ≡ piece_fault_at q.view.program (parts q) t here) c.self.view_is
     (c.refusal_as.ensures here (sym c.in-Shared.is ∙ told)
     ∙ apart_fault v.program k t goes.origin here (goes.stands, awake)
-    (none_asked (pieces_at (with_local k t here)) t (look v.program t here) c.in-Shared.request (sym c.in-Shared.is ∙ told)
+    (none_asked _ (pieces_at (with_local k t here)) t (look v.program t here) c.in-Shared.request (sym c.in-Shared.is ∙ told)
     c.in-None.ensures))
 
 pub returns-else-is_held_up : goal.returns-else-is_held_up
@@ -75,7 +75,7 @@ returns-else-is_held_up c = λ here stands is.
     subst (λ (q : PieceView). c.refusal_as-in-Exit.result ≡ piece_fault_at q.view.program (parts q) t here) c.self.view_is
     (c.refusal_as-in-Exit.ensures here (sym c.in-Exit.is ∙ told)
     ∙ apart_fault v.program k t goes.origin here (goes.stands, awake)
-    (leaves (pieces_at (with_local k t here)) t (look v.program t here) c.in-Exit.phase (sym c.in-Exit.is ∙ told)
+    (leaves _ (pieces_at (with_local k t here)) t (look v.program t here) c.in-Exit.phase (sym c.in-Exit.is ∙ told)
     c.if-is_held_up.ensures))
 
 pub returns-in_default : goal.returns-in_default
@@ -90,5 +90,5 @@ returns-in_default c = λ here stands is.
     subst (λ (q : PieceView). c.refusal_as-in_default.result ≡ piece_fault_at q.view.program (parts q) t here) c.self.view_is
     (c.refusal_as-in_default.ensures here told
     ∙ apart_fault v.program k t goes.origin here (goes.stands, awake)
-    (others (pieces_at (with_local k t here)) t (look v.program t here) c.args.next told
+    (others _ (pieces_at (with_local k t here)) t (look v.program t here) c.args.next told
     c.in_default.not-Shared c.in_default.not-Exit))
