@@ -86,7 +86,14 @@ pub(crate) fn wait_statement(
     let link = site.layout.link(condition.monitor);
     let sequence = site.layout.address(condition);
     let recover = recover_of(site.program, condition.monitor);
-    wait(code, condition, link, sequence, recover)?;
+    wait(
+        code,
+        site.layout.version(),
+        condition,
+        link,
+        sequence,
+        recover,
+    )?;
     Ok(())
 }
 

@@ -111,7 +111,12 @@ pub(crate) fn ending(site: &Site, code: &mut Vec<Marked>) -> Result<(), AllocErr
         ++ statements.ending_code (setting_at site.now) (length code.old.items)) }
 {
     if let Role::Entry(monitor) = site.role {
-        exit(code, monitor, site.layout.link(monitor))?;
+        exit(
+            code,
+            site.layout.version(),
+            monitor,
+            site.layout.link(monitor),
+        )?;
     }
     proclower::ret(code, site.role, site.outcome)
 }

@@ -3,4 +3,6 @@
 
 mod lock;
 
-pub use lock::{enter, exit, got, got_from, leave, leave_from, recovery, take, take_from};
+pub use lock::{
+    enter, exit, got, got_from, leave, leave_from, leave_length, recovery, take, take_from,
+};

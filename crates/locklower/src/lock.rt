@@ -5,7 +5,7 @@ ghost use Rattle.lowering.specs.Locks as locks;
 use isa::{Instr, Operator, Slot};
 use lowering::{Mark, Marked};
 use std::alloc::AllocError;
-use words::{Fault, OWNER_DIED, ProcessWord, TID_MASK, WAITERS};
+use words::{Fault, ImageVersion, OWNER_DIED, ProcessWord, TID_MASK, WAITERS};
 
 const GET: Marked = Marked {
     instruction: Instr::GetLocal(Slot::Template),
@@ -67,13 +67,18 @@ const ZERO: Marked = Marked {
     mark: Mark::Plain,
 };
 
-const WAITERS_BIT: Marked = Marked {
+const WAITS_BIT: Marked = Marked {
     instruction: Instr::Push(WAITERS),
     mark: Mark::Plain,
 };
 
 const ONE: Marked = Marked {
     instruction: Instr::Push(1),
+    mark: Mark::Plain,
+};
+
+const NEGATE: Marked = Marked {
+    instruction: Instr::Negate,
     mark: Mark::Plain,
 };
 
@@ -154,7 +159,7 @@ pub fn take_from(
         lock,
         GET,
         GET,
-        WAITERS_BIT,
+        WAITS_BIT,
         OR,
         COMPARE_SWAP,
         GET,
@@ -162,7 +167,7 @@ pub fn take_from(
         again,
         lock,
         GET,
-        WAITERS_BIT,
+        WAITS_BIT,
         OR,
         SLEEP,
         POP,
@@ -170,7 +175,7 @@ pub fn take_from(
         lock,
         GET,
         OWN,
-        WAITERS_BIT,
+        WAITS_BIT,
         OR,
         swap,
         GET,
@@ -201,10 +206,11 @@ pub fn got_from(
     ])
 }
 
-/// The lock of the monitor with this link word is given up, in a template that begins at `start`, from its place `a`
-/// on.
+/// The lock of the monitor with this link word is given up as in an image of this version, in a template that begins
+/// at `start`, from its place `a` on.
 pub fn leave_from(
     code: &mut Vec<Marked>,
+    version: ImageVersion,
     mark: Mark,
     link: u32,
     start: u32,
@@ -212,36 +218,45 @@ pub fn leave_from(
 ) -> Result<(), AllocError>
     requires { (link < 2 ^ 16) × (start ≤ 2 ^ 17) × (a < 100) }
     ensures { OnOk result (code.new.items
-        ≡ code.old.items ++ rebase_all start (locks.leave_at mark link a)) }
+        ≡ code.old.items ++ rebase_all start (locks.leave_at version mark link a)) }
 {
     let lock = plain(Instr::Push(link + 1));
     let link = plain(Instr::Push(link));
-    let unwanted = plain(Instr::JumpIfZero(start + (a + 19)));
-    let swap = Marked {
-        instruction: Instr::Swap,
-        mark,
-    };
-    code.extend_from_slice(&[
-        OWN,
-        PENDING,
-        link,
-        STORE,
-        OWN,
-        HEAD,
-        link,
-        LOAD,
-        STORE,
-        lock,
-        ZERO,
-        swap,
-        WAITERS_BIT,
-        AND,
-        unwanted,
-        lock,
-        ONE,
-        WAKE,
-        POP,
-    ])
+    match version {
+        ImageVersion::One | ImageVersion::Two => {
+            let unwanted = plain(Instr::JumpIfZero(start + (a + 19)));
+            let swap = Marked {
+                instruction: Instr::Swap,
+                mark,
+            };
+            code.extend_from_slice(&[
+                OWN, PENDING, link, STORE, OWN, HEAD, link, LOAD, STORE, lock, ZERO, swap,
+                WAITS_BIT, AND, unwanted, lock, ONE, WAKE, POP,
+            ])
+        }
+        ImageVersion::Linux => {
+            let unwanted = plain(Instr::JumpIfZero(start + (a + 20)));
+            let add = Marked {
+                instruction: Instr::FetchAdd,
+                mark,
+            };
+            code.extend_from_slice(&[
+                OWN, PENDING, link, STORE, OWN, HEAD, link, LOAD, STORE, lock, OWN, NEGATE, add,
+                WAITS_BIT, AND, unwanted, lock, ONE, WAKE, POP,
+            ])
+        }
+    }
+}
+
+/// How many instructions `leave` is, in an image of this version.
+pub fn leave_length(version: ImageVersion) -> u32
+    ensures length { result ≡ locks.leave_length version }
+    ensures few { result ≤ 20 }
+{
+    match version {
+        ImageVersion::One | ImageVersion::Two => 19,
+        ImageVersion::Linux => 20,
+    }
 }
 
 /// The lock is taken in the form that tells of waiters; the mark stands where it is taken.
@@ -266,13 +281,18 @@ pub fn got(code: &mut Vec<Marked>, link: u32, recover: Option<u32>) -> Result<()
 }
 
 /// The lock is given up, and a waiter is woken where there may be one; the mark stands where it is given up.
-pub fn leave(code: &mut Vec<Marked>, mark: Mark, link: u32) -> Result<(), AllocError>
+pub fn leave(
+    code: &mut Vec<Marked>,
+    version: ImageVersion,
+    mark: Mark,
+    link: u32,
+) -> Result<(), AllocError>
     requires { (link < 2 ^ 16) × (length code.old.items ≤ 2 ^ 17) }
     ensures { OnOk result (code.new.items ≡ code.old.items
-        ++ rebase_all (length code.old.items) (locks.leave_code mark link)) }
+        ++ rebase_all (length code.old.items) (locks.leave_code version mark link)) }
 {
     let start = code.len() as u32;
-    leave_from(code, mark, link, start, 0)
+    leave_from(code, version, mark, link, start, 0)
 }
 
 // The beginning of `enter`, at this place: the entry is pending, and the lock is taken where it is free.
@@ -328,12 +348,17 @@ pub fn enter(
 }
 
 /// A monitor is left, by its number and its link word.
-pub fn exit(code: &mut Vec<Marked>, monitor: u32, link: u32) -> Result<(), AllocError>
+pub fn exit(
+    code: &mut Vec<Marked>,
+    version: ImageVersion,
+    monitor: u32,
+    link: u32,
+) -> Result<(), AllocError>
     requires { (link < 2 ^ 16) × (length code.old.items ≤ 2 ^ 17) }
-    ensures { OnOk result (code.new.items
-        ≡ code.old.items ++ rebase_all (length code.old.items) (locks.exit_code monitor link)) }
+    ensures { OnOk result (code.new.items ≡ code.old.items
+        ++ rebase_all (length code.old.items) (locks.exit_code version monitor link)) }
 {
     let start = code.len() as u32;
-    leave_from(code, Mark::Exit(monitor), link, start, 0)?;
+    leave_from(code, version, Mark::Exit(monitor), link, start, 0)?;
     code.extend_from_slice(&[OWN, PENDING, ZERO, STORE])
 }

@@ -16,6 +16,7 @@ visible_request p (told.Load a) v = is_process_word p 2 a.0 && (v == 0)
 visible_request p (told.Store a value) v =
     not (is_process_word p 0 a.0) && not (is_process_word p 1 a.0) && not (is_link_word p a.0)
 visible_request p (told.Wake a n) v = not (is_lock_word p a.0)
+visible_request p (told.FetchAdd a added) v = not (added == 1)
 visible_request p (told.Requeue from to wake moves expected) v = true
 visible_request p (told.Print number) v = true
 visible_request p request v = false
@@ -29,5 +30,5 @@ visible_step p word t step v = false
 
 -- whether a thread that comes to this raises the number of a condition's word
 abbrev pub raises : NextStep → Bool
-raises (next.Shared (told.FetchAdd a v)) = true
+raises (next.Shared (told.FetchAdd a v)) = v == 1
 raises step = false

@@ -78,6 +78,7 @@ fn completes(
         Request::Load(address) => is_of_process(version, address, ProcessWord::Id) && value == 0,
         Request::Store(address, _) => is_variable(version, layout, monitors, address),
         Request::Wake { address, .. } => !is_lock(layout, monitors, address),
+        Request::FetchAdd(_, added) => added != 1,
         Request::Requeue { .. } | Request::Print(_) => true,
         _ => false,
     }
@@ -158,7 +159,10 @@ pub fn is_visible(
 pub fn is_raise(step: NextStep) -> bool
     ensures { result ≡ raises step }
 {
-    matches!(step, NextStep::Shared(Request::FetchAdd(_, _)))
+    match step {
+        NextStep::Shared(Request::FetchAdd(_, added)) => added == 1,
+        _ => false,
+    }
 }
 
 /// The monitor whose link word has this address, if one has.

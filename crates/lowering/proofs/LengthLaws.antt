@@ -10,7 +10,7 @@ use Rattle.isa.specs.declared.instr.Instr.TheVariants.{JumpIfZero, Jump}
 use Rattle.lowering.specs.declared.mark.Mark.TheVariants.{Test}
 use Rattle.lowering.specs.declared.mark.Marked.{Marked}
 use Rattle.lowering.specs.Marks.{with_mark, plain, rebase_all, Code, sequence}
-use Rattle.lowering.specs.Layout.{link_word}
+use Rattle.lowering.specs.Layout.{link_word, member_address}
 use Rattle.lowering.specs.Locks.{exit_code, enter_code}
 use Rattle.lowering.specs.Processes.{join_code, call_code}
 use Rattle.lowering.specs.Expressions.{expression_code, arguments_code, value_code}
@@ -20,6 +20,11 @@ use Rattle.lowering.specs.Pieces.{setting_of, piece_code, unlinked_code, enterin
 use Rattle.lowering.specs.Pieces.{pieces_code, starts_from, start_of, marked_code}
 use Rattle.lowering.specs.Rebasing.{StandsFrom}
 use Rattle.std.specs.Prelude.{slice_get, slice_index}
+use Rattle.words.specs.declared.version.ImageVersion.{ImageVersion}
+use Rattle.words.specs.declared.version.ImageVersion.TheVariants.{One, Two, Linux}
+use Rattle.lowering.specs.Conditions.{wait_code}
+use Rattle.program.specs.declared.kinds.Member.{Member}
+use Rattle.isa.specs.declared.instr.Instr.{Instr}
 
 pub length-placed : (a : ℕ) (is : List Marked) → length (rebase_all a is) ≡ length is
 length-placed a [] = refl
@@ -84,6 +89,12 @@ call_same x y (Some slot) result = refl
 call_same x y None (Some t) = refl
 call_same x y None None = refl
 
+wait_same : (v : ImageVersion) (a b : ℕ) (c : Member) (e s : ℕ) (i j : Instr)
+    → length (rebase_all a (wait_code v c e s i)) ≡ length (rebase_all b (wait_code v c e s j))
+wait_same One a b c e s i j = refl
+wait_same Two a b c e s i j = refl
+wait_same Linux a b c e s i j = refl
+
 module _ (p : Program) (role : Role) (result : Option ValueType) (starts others : ℕ → ℕ) where
   abbrev here : Setting
   here = record { program = p; starts = starts; role = role; result = result }
@@ -93,7 +104,8 @@ module _ (p : Program) (role : Role) (result : Option ValueType) (starts others 
 
   leaving_same : (r : Role) → SameLength (leaving_code p r) (leaving_code p r)
   leaving_same (Entry m) a b =
-      length-placed a (exit_code m (link_word p m)) ∙ sym (length-placed b (exit_code m (link_word p m)))
+      length-placed a (exit_code p.version m (link_word p m))
+      ∙ sym (length-placed b (exit_code p.version m (link_word p m)))
   leaving_same (Internal m) a b = refl
   leaving_same (Recover m) a b = refl
   leaving_same External a b = refl
@@ -125,7 +137,9 @@ module _ (p : Program) (role : Role) (result : Option ValueType) (starts others 
         let x = length-append v (ending_code here (a + length v)) in
         let y = length-append v (ending_code elsewhere (b + length v)) in
         let h = ending_same (a + length v) (b + length v) in omega arith
-    statement_same (Wait m) a b = refl
+    statement_same (Wait m) a b =
+        wait_same p.version a b m (link_word p m.monitor) (member_address p m) (recovery_of here m.monitor)
+        (recovery_of elsewhere m.monitor)
     statement_same (Notify m) a b = refl
     statement_same (Broadcast m) a b = refl
     statement_same (Print e) a b = refl

@@ -31,6 +31,9 @@ use Rattle.lowering.specs.Statements.{block_code, aborted_code, ending_code, lea
 use Rattle.lowering.specs.Statements.{while_code, join_all_code}
 use Rattle.lowering.specs.Pieces.{setting_of, piece_code, unlinked_code, entering_code, parameters_code, default_code}
 use Rattle.lowering.specs.Linking.{linked_instruction, linked_code}
+use Rattle.words.specs.declared.version.ImageVersion.{ImageVersion}
+use Rattle.words.specs.declared.version.ImageVersion.TheVariants.{One, Two, Linux}
+use Rattle.program.specs.declared.kinds.Member.{Member as MemberOf}
 
 -- calls and forks by the places where pieces begin, jumps as they are
 abbrev called : (ℕ → ℕ) → Instr → Instr
@@ -247,13 +250,25 @@ module _ (starts : ℕ → ℕ) (base : ℕ) where
     abbrev there : Setting
     there = record { program = p; starts = starts; role = role; result = result }
 
+    exit_called : (v : ImageVersion) (m e : ℕ) → called_code starts (exit_code v m e) ≡ exit_code v m e
+    exit_called One m e = refl
+    exit_called Two m e = refl
+    exit_called Linux m e = refl
+
+    wait_called : (v : ImageVersion) (c : MemberOf) (e s : ℕ) (r : Instr)
+        → called_code starts (wait_code v c e s r) ≡ wait_code v c e s (called starts r)
+    wait_called One c e s r = refl
+    wait_called Two c e s r = refl
+    wait_called Linux c e s r = refl
+
     recovery_called : (piece : Option ℕ) → called starts (recovery (start_in (λ n. n) piece))
         ≡ recovery (start_in starts piece)
     recovery_called None = refl
     recovery_called (Some n) = refl
 
     leaving_moves : (r : Role) → Moves (leaving_code p r) (leaving_code p r)
-    leaving_moves (Entry m) a = placed_linked a (exit_code m (link_word p m))
+    leaving_moves (Entry m) a = placed_linked a (exit_code p.version m (link_word p m))
+        ∙ ap (λ l. rebase_all (base + a) l) (exit_called p.version m (link_word p m))
     leaving_moves (Internal m) a = refl
     leaving_moves (Recover m) a = refl
     leaving_moves External a = refl
@@ -288,8 +303,12 @@ module _ (starts : ℕ → ℕ) (base : ℕ) where
           let at : base + (a + length v) ≡ base + a + length v = omega arith in
           after v _ _ (value_stays p value) (ending_moves (a + length v) ∙ ap (ending_code there) at)
       statement_moves (Wait m) a =
-          placed_linked a (wait_code m (link_word p m.monitor) (member_address p m) (recovery_of here m.monitor))
-          ∙ ap (λ (i : Instr). rebase_all (base + a) (wait_code m (link_word p m.monitor) (member_address p m) i))
+          placed_linked a (wait_code p.version m (link_word p m.monitor) (member_address p m)
+          (recovery_of here m.monitor))
+          ∙ ap (λ l. rebase_all (base + a) l)
+          (wait_called p.version m (link_word p m.monitor) (member_address p m) (recovery_of here m.monitor))
+          ∙ ap (λ (i : Instr). rebase_all (base + a) (wait_code p.version m (link_word p m.monitor) (member_address p
+          m) i))
           (recovery_called (recover_of p m.monitor))
       statement_moves (Notify m) a = refl
       statement_moves (Broadcast m) a = refl

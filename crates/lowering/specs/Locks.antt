@@ -14,7 +14,10 @@ use Rattle.isa.specs.declared.instr.Instr.TheVariants.{CompareSwap, FutexWait, F
 use Rattle.lowering.specs.declared.mark.Mark.{Mark}
 use Rattle.lowering.specs.declared.mark.Mark.TheVariants.{Enter, Exit}
 use Rattle.lowering.specs.declared.mark.Marked.{Marked}
-use Rattle.lowering.specs.Marks.{with_mark, plainly}
+use Rattle.lowering.specs.Marks.{with_mark, plain, plainly}
+use Rattle.words.specs.declared.version.ImageVersion.{ImageVersion}
+use Rattle.words.specs.declared.version.ImageVersion.TheVariants.{One, Two, Linux}
+use Rattle.isa.specs.declared.instr.Instr.TheVariants.{Negate, FetchAdd}
 
 -- the waiters bit of a lock word, the mark of a death, and the owner's bits
 abbrev pub waiters : ℕ
@@ -81,18 +84,34 @@ try_code m e =
 abbrev pub enter_code : ℕ → ℕ → Instr → List Marked
 enter_code m e recover = try_code m e ++ (take_at (Enter m) e 11 ++ got_at e recover 43)
 
+-- how a lock's word is given up, by the version of an image: it is swapped for 0; or, by a fetch-and-add of 2^32 less
+-- that number, the number of its owner, who is the process that runs, is taken off it, which leaves the waiters bit
+abbrev pub give_up : ImageVersion → Mark → List Marked
+give_up One mark = plain (Push 0) ∷ with_mark mark Swap ∷ []
+give_up Two mark = plain (Push 0) ∷ with_mark mark Swap ∷ []
+give_up Linux mark = plain OwnNumber ∷ plain Negate ∷ with_mark mark FetchAdd ∷ []
+
+-- how many instructions the giving up of a lock is, and the leaving of a monitor
+abbrev pub leave_length : ImageVersion → ℕ
+leave_length One = 19
+leave_length Two = 19
+leave_length Linux = 20
+
+abbrev pub exit_length : ImageVersion → ℕ
+exit_length v = leave_length v + 4
+
 -- the lock is given up, from a place on, and one waiter is woken where there may be any; the mark stands where it is
 -- given up
-abbrev pub leave_at : Mark → ℕ → ℕ → List Marked
-leave_at mark e start =
-    plainly (own Pending ++ (Push e ∷ Store ∷ (own Head ++ (Push e ∷ Load ∷ Store ∷ Push (e + 1) ∷ Push 0 ∷ [])))) ++
-    (with_mark mark Swap ∷ plainly (Push waiters ∷ Operate BitAnd ∷ JumpIfZero (start + 19) ∷
+abbrev pub leave_at : ImageVersion → Mark → ℕ → ℕ → List Marked
+leave_at v mark e start =
+    plainly (own Pending ++ (Push e ∷ Store ∷ (own Head ++ (Push e ∷ Load ∷ Store ∷ Push (e + 1) ∷ [])))) ++
+    (give_up v mark ++ plainly (Push waiters ∷ Operate BitAnd ∷ JumpIfZero (start + leave_length v) ∷
     Push (e + 1) ∷ Push 1 ∷ FutexWake ∷ Pop ∷ []))
 
 -- the giving up of a lock, from place 0 on
-abbrev pub leave_code : Mark → ℕ → List Marked
-leave_code mark e = leave_at mark e 0
+abbrev pub leave_code : ImageVersion → Mark → ℕ → List Marked
+leave_code v mark e = leave_at v mark e 0
 
 -- a monitor is left, by its number and its link word
-abbrev pub exit_code : ℕ → ℕ → List Marked
-exit_code m e = leave_at (Exit m) e 0 ++ plainly (own Pending ++ (Push 0 ∷ Store ∷ []))
+abbrev pub exit_code : ImageVersion → ℕ → ℕ → List Marked
+exit_code v m e = leave_at v (Exit m) e 0 ++ plainly (own Pending ++ (Push 0 ∷ Store ∷ []))

@@ -83,7 +83,7 @@ join_all_code handle into aborted start =
 
 -- the lock is given up at the end of an ENTRY procedure
 abbrev pub leaving_code : Program → Role → Code
-leaving_code p (Entry m) place = rebase_all place (exit_code m (link_word p m))
+leaving_code p (Entry m) place = rebase_all place (exit_code p.version m (link_word p m))
 leaving_code p (Internal m) place = []
 leaving_code p (Recover m) place = []
 leaving_code p External place = []
@@ -109,7 +109,7 @@ abbrev mutual
   statement_code c (Return value) start =
       let left = value_code c.program value in left ++ ending_code c (start + length left)
   statement_code c (Wait m) start =
-      rebase_all start (wait_code m (link_word c.program m.monitor) (member_address c.program m)
+      rebase_all start (wait_code c.program.version m (link_word c.program m.monitor) (member_address c.program m)
       (recovery_of c m.monitor))
   statement_code c (Notify m) start = notify_code m (member_address c.program m)
   statement_code c (Broadcast m) start =

@@ -20,8 +20,8 @@ use Rattle.program.specs.Typing.{unary_type}
 use Rattle.program.specs.WellFormed.{WellFormed}
 use Rattle.lowering.specs.Marks.{plain}
 use Rattle.lowering.specs.Layout.{link_word, member_address}
-use Rattle.lowering.specs.Locks.{exit_code}
-use Rattle.lowering.specs.Conditions.{wait_code, notify_code, broadcast_code}
+use Rattle.lowering.specs.Locks.{exit_code, exit_length}
+use Rattle.lowering.specs.Conditions.{wait_code, wait_length, notify_code, broadcast_code}
 use Rattle.lowering.specs.Processes.{call_code, return_code}
 use Rattle.lowering.specs.Expressions.{expression_code, arguments_code, value_code, unary_code}
 use Rattle.lowering.specs.Statements.{Setting, start_in, recovery_of, result_of, assignment_code, statement_code}
@@ -30,7 +30,7 @@ use Rattle.lowering.specs.Statements.{aborted_code, ending_code, leaving_code}
 use Rattle.lowering.specs.Pieces.{setting_of}
 use Rattle.lowering.proofs.LengthLaws.{length-placed}
 use Rattle.lowering_limits.proofs.Fine.{AreFine, HasRoom, Ends, fine_append, placed_fine}
-use Rattle.lowering_limits.proofs.Templates.{exit_fits, wait_fits, recovery_fits}
+use Rattle.lowering_limits.proofs.Templates.{exit_fits, exit_long, wait_long, wait_fits, recovery_fits}
 use Rattle.lowering_limits.proofs.Parts.{if_fine, if_else_fine, while_fine, join_fine}
 
 -- each piece of a program begins below the total
@@ -118,9 +118,11 @@ module _ (p : Program) (starts : ℕ → ℕ) (total : ℕ) (begun : BeginBelow 
 
     leaving_fine : (r : Role) → HasRoom total (leaving_code p r)
     leaving_fine (Entry m) a room =
-        let n = length-placed a (exit_code m (link_word p m)) in
-        placed_fine total 23 a (omega (arith, room, n)) (exit_code m (link_word p m))
-        (exit_fits total m (link_word p m))
+        let n = length-placed a (exit_code p.version m (link_word p m)) in
+        let long = exit_long p.version m (link_word p m) in
+        placed_fine total (exit_length p.version) a (omega (arith, room, n, long)) (exit_code p.version m (link_word p
+        m))
+        (exit_fits p.version total m (link_word p m))
     leaving_fine (Internal m) a room = tt
     leaving_fine (Recover m) a room = tt
     leaving_fine External a room = tt
@@ -166,11 +168,13 @@ module _ (p : Program) (starts : ℕ → ℕ) (total : ℕ) (begun : BeginBelow 
       statement_fine (Wait m) h a room =
           let e = link_word p m.monitor in
           let r = recovery_of here m.monitor in
-          let code = wait_code m e (member_address p m) r in
+          let code = wait_code p.version m e (member_address p m) r in
           let n = length-placed a code in
-          placed_fine total 74 a (omega (arith, room, n)) code
-          (wait_fits total m e (member_address p m) r
-          (recovery_fits total 74 (start_in starts (recover_of p m.monitor)) (recovery_below m.monitor)))
+          let long = wait_long p.version m e (member_address p m) r in
+          placed_fine total (wait_length p.version) a (omega (arith, room, n, long)) code
+          (wait_fits p.version total m e (member_address p m) r
+          (recovery_fits total (wait_length p.version) (start_in starts (recover_of p m.monitor)) (recovery_below
+          m.monitor)))
       statement_fine (Notify m) h a room =
           placed_fine total 7 a (omega (arith, room)) (notify_code m (member_address p m)) refl
       statement_fine (Broadcast m) h a room =

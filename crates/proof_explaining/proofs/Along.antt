@@ -3,6 +3,7 @@ use Rattle.std.proofs.Common.{◌≡◌, ℕ, ◌+◌, ◌<◌, inl, inr, Bool, 
 use Rattle.std.proofs.Common.{◌∙◌, subst}
 use Rattle.std.specs.Prelude.{◌^◌, MatchBool, if◌then◌else◌}
 use Rattle.std.proofs.lemmas.Bool.{false≢true}
+use Rattle.robustexit.specs.ExitRules.{exit_of}
 use Rattle.locals.specs.Threads.{Thread}
 use Rattle.locals.specs.Looks.{Look, Goes, Asks, Leaves, Breaks, Rests, look}
 use Rattle.machine.specs.States.{State, opening_state}
@@ -34,9 +35,11 @@ use Rattle.refinement.specs.Pieces.{ExplainedInPieces}
 
 -- a step with whole calls and this answer leads there
 look_same : (p : Program) (mark : Option Mark) (word : ℕ → ℕ) (s s' : State) (t : ℕ) (woken : List ℕ) (answer : ℕ)
-    (g : Progress) (l : Look) (m : MovesAnswered s t woken answer l s')
-    → progress_step p (visible_step p word t l (answer_whole s s' t woken l (moves_whole s t woken answer l s' m)))
-    (deferred_by_step mark l (answer_whole s s' t woken l (moves_whole s t woken answer l s' m))) (raises_number l) s' t g
+    (g : Progress) (l : Look) (m : MovesAnswered (exit_of p.version) s t woken answer l s')
+    → progress_step p (visible_step p word t l (answer_whole (exit_of p.version) s s' t woken l (moves_whole (exit_of
+    p.version) s t woken answer l s' m)))
+    (deferred_by_step mark l (answer_whole (exit_of p.version) s s' t woken l (moves_whole (exit_of p.version) s t
+    woken answer l s' m))) (raises_number l) s' t g
     ≡ progress_step p (visible_step p word t l answer) (deferred_by_step mark l answer) (raises_number l) s' t g
 look_same p mark word s s' t woken answer g (Goes x) m = refl
 look_same p mark word s s' t woken answer g (Asks request go) m = refl
@@ -45,8 +48,9 @@ look_same p mark word s s' t woken answer g Breaks m = absurd m
 look_same p mark word s s' t woken answer g Rests m = absurd m
 
 visible_same : (p : Program) (word : ℕ → ℕ) (s s' : State) (t : ℕ) (woken : List ℕ) (answer : ℕ) (l : Look)
-    (m : MovesAnswered s t woken answer l s')
-    → visible_step p word t l (answer_whole s s' t woken l (moves_whole s t woken answer l s' m))
+    (m : MovesAnswered (exit_of p.version) s t woken answer l s')
+    → visible_step p word t l (answer_whole (exit_of p.version) s s' t woken l (moves_whole (exit_of p.version) s t
+    woken answer l s' m))
     ≡ visible_step p word t l answer
 visible_same p word s s' t woken answer (Goes x) m = refl
 visible_same p word s s' t woken answer (Asks request go) m = refl

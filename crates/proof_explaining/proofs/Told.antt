@@ -10,6 +10,7 @@ use Rattle.futexcalls.specs.declared.pieces.FutexCall.TheVariants.{Wait, Wake, R
 use Rattle.futexcalls.specs.declared.pieces.FutexPhase.{FutexPhase}
 use Rattle.futexcalls.specs.declared.pieces.FutexPhase.TheVariants.{First, Second, Compare, Act}
 use Rattle.futexcalls.specs.Pieces.{buckets_of, takes_at, after_lock}
+use Rattle.robustexit.specs.ExitRules.{exit_of}
 use Rattle.locals.specs.Threads.{Thread, Exits}
 use Rattle.locals.specs.Looks.{Request, AskWait, AskWake, AskRequeue, Look, Goes, Asks, Leaves, look}
 use Rattle.machine.specs.declared.event.Event.{Event}
@@ -146,7 +147,8 @@ module _ (p : Program) (k k' : PieceConcrete) (t : ℕ) (event : Event) (x : Thr
   -- a step that is no call's is the machine's
   plain_given : (request : Request) (go : ℕ → Thread) → look (code_of p) t x ≡ Asks request go → call_of request ≡ None
       → (c : ConcreteState)
-      × (on_machine k.concrete t (machine_step (length k.concrete.threads) t k.concrete.common (Asks request go))
+      × (on_machine k.concrete t (machine_step (exit_of p.version) (length k.concrete.threads) t k.concrete.common
+      (Asks request go))
       ≡ Ok (c, event))
   plain_given request go looks isnt =
       let same : whole_at k (step_of (code_of p) k.concrete t) ≡ Ok (k', event) =
@@ -156,7 +158,8 @@ module _ (p : Program) (k k' : PieceConcrete) (t : ℕ) (event : Event) (x : Thr
         gave.0,
         sym (ap (step_thread (code_of p) k.concrete t) stands
             ∙ ap (step_awake (code_of p) k.concrete t x) awake
-            ∙ ap (λ l. on_machine k.concrete t (machine_step (length k.concrete.threads) t k.concrete.common l)) looks)
+            ∙ ap (λ l. on_machine k.concrete t (machine_step (exit_of p.version) (length k.concrete.threads) t
+            k.concrete.common l)) looks)
             ∙ gave.1,
       )
 

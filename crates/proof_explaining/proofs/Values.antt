@@ -5,6 +5,7 @@ use Rattle.std.proofs.Common.{lt-ltb}
 use Rattle.std.specs.Prelude.{nat_lt, if◌then◌else◌}
 use Rattle.std.proofs.lemmas.Bool.{eq-eqb, ne_eqb}
 use Rattle.words.specs.Process.{process_word}
+use Rattle.robustexit.specs.ExitRules.{exit_of}
 use Rattle.locals.specs.Threads.{Thread, opening_thread}
 use Rattle.locals.specs.Looks.{Request, AskLoad, AskSwap, AskCompareSwap, AskFork, Look, Asks}
 use Rattle.machine.specs.declared.event.Event.{Event}
@@ -31,7 +32,7 @@ module _ (p : Program) (k k' : ConcreteState) (t : ℕ) (event : Event) (woken :
   s = state_of k
 
   abbrev pub Gives : Look → Type 0
-  Gives l = on_machine k t (thread_step (length k.threads) t k.common l) ≡ Ok (k', event)
+  Gives l = on_machine k t (thread_step (exit_of p.version) (length k.threads) t k.common l) ≡ Ok (k', event)
 
   -- what a word is answered with is the value of the event
   by_word : (go : ℕ → Thread) (a answer : ℕ) (after : Common) (n : EventName) (b : Bool) → b ≡ true

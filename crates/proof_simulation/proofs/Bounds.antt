@@ -1,5 +1,5 @@
 -- How many steps a thread has left at most.
-use Rattle.std.proofs.Common.{ℕ, zero, suc, ◌+◌, ◌<◌, ◌≤◌, ◌==◌, Bool, true, false, List, Option, arith}
+use Rattle.std.proofs.Common.{ℕ, zero, suc, ◌+◌, ◌<◌, ◌≤◌, ◌==◌, Bool, true, false, List, Option, arith, sym}
 use Rattle.std.proofs.Common.{◌≡◌, ◌∙◌, refl, ap, Some, None}
 use Rattle.std.specs.Prelude.{if◌then◌else◌}
 use Rattle.locals.specs.Looks as M
@@ -26,6 +26,10 @@ use Rattle.refinement.specs.Pace.{stretch_length}
 use Rattle.proof_simulation.specs.Standing.{StandsAt, unmade, works, returns, inside, faults, killed, refused, reads}
 use Rattle.proof_simulation.specs.Standing.{sleeps, learns, takes, walks, clears, wakes, rests}
 use Rattle.proof_simulation.specs.Ranks.{rank, steps_left, more_steps, most_left}
+use Rattle.words.specs.declared.version.ImageVersion.{ImageVersion}
+use Rattle.words.specs.declared.version.ImageVersion.TheVariants.{One, Two, Linux}
+use Rattle.protocol.specs.Requests.{given_up}
+use Rattle.protocol.specs.Rules.{release_of}
 
 either_few : (b : Bool) (x y n : ℕ) → x ≤ n → y ≤ n → (if b then x else y) ≤ n
 either_few true x y n h g = h
@@ -101,8 +105,15 @@ abbrev asks_call : Option M.Request → Bool
 asks_call None = false
 asks_call (Some r) = is_call r
 
+swap_call : (v : ImageVersion) (p : Program) (t m : ℕ)
+    → asks_call (machine_request p (given_up (release_of v) t m)) ≡ false
+swap_call One p t m = refl
+swap_call Two p t m = refl
+swap_call Linux p t m = refl
+
 -- a point whose request is a call has as many to spare as its pieces
-pub call_spare : (p : Program) (t : ℕ) (pt : Point) (asks : M.Request) → machine_request p (request t pt) ≡ Some asks
+pub call_spare : (p : Program) (t : ℕ) (pt : Point) (asks : M.Request)
+    → machine_request p (request (release_of p.version) t pt) ≡ Some asks
     → is_call asks ≡ true → spare_at pt ≡ 3
 call_spare p t (TakeSleeps m v k) asks e h = refl
 call_spare p t (HasLeft m (ToWait c s)) asks e h = refl
@@ -110,6 +121,8 @@ call_spare p t (LeaveWakes m k) asks e h = refl
 call_spare p t (NotifyWakes c) asks e h = refl
 call_spare p t (BroadcastMoves c s) asks e h = refl
 call_spare p t (JoinSleeps q) asks e h = refl
+call_spare p t (LeaveSwaps m k) asks e h = absurd (let isnt = sym (swap_call p.version p t m) ∙ ap asks_call e ∙ h in
+    cc)
 call_spare p t (Dies (Faulted fault) x) asks e h = absurd (let isnt = ap asks_call e ∙ h in cc)
 call_spare p t (Dies Killed x) asks e h = absurd (let isnt = ap asks_call e ∙ h in cc)
 call_spare p t pt asks e h = absurd (let isnt = ap asks_call e ∙ h in cc)

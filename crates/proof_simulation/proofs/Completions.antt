@@ -7,6 +7,7 @@ use Rattle.std.proofs.lemmas.Bool.{cases_eq, cases_Bool, eq-eqb, eqb-true, ne_eq
 use Rattle.std.proofs.lemmas.Nat.{mod-mul-add, div-add-mod'}
 use Rattle.words.specs.Process.{process_word}
 use Rattle.words.specs.Versions.{most_of, base_of}
+use Rattle.robustexit.specs.ExitRules.{exit_of}
 use Rattle.locals.specs.Looks.{Request, Look, Goes, Asks, Leaves, Breaks, Rests, AskLoad, AskStore}
 use Rattle.machine.specs.States.{State}
 use Rattle.machine.specs.Runs.{Moves}
@@ -45,6 +46,12 @@ use Rattle.lowering.specs.declared.mark.Mark.{Mark}
 use Rattle.proof_thread.specs.Deferrals.{deferred_by_mark, deferred_by_request}
 use Rattle.proof_simulation.specs.Progress.{answer_in, visible_step}
 use Rattle.proof_thread.specs.Deferrals.{deferred_by_step}
+use Rattle.protocol.specs.Rules.{release_of}
+use Rattle.words.specs.declared.version.ImageVersion.{ImageVersion}
+use Rattle.words.specs.declared.version.ImageVersion.TheVariants.{One, Two, Linux}
+use Rattle.protocol.specs.Requests.{given_up}
+use Rattle.proof_templates.proofs.Negated.{most_few}
+use Rattle.protocol.specs.Requests as P
 
 none_below : (k : ℕ) (test : ℕ → Bool) → ((n : ℕ) → n < k → test n ≡ false) → any_below k test ≡ false
 none_below zero test h = refl
@@ -95,7 +102,8 @@ no_word p k a none = elim (cases_Bool (is_process_word p k a)) [
 
 -- what a step does, as it is an action or none
 pub plainly : (p : Program) (done raises : Bool) (deferral : Option Kind) (mark : Option Mark) (s : State) (t : ℕ)
-    (woken : List ℕ) (l : Look) (s' : State) → StepsSo p done raises deferral mark s t woken l s' → Moves s t woken l s'
+    (woken : List ℕ) (l : Look) (s' : State) → StepsSo p done raises deferral mark s t woken l s'
+    → Moves (exit_of p.version) s t woken l s'
 plainly p done raises deferral mark s t woken (Goes x) s' g = (g.0, g.1)
 plainly p done raises deferral mark s t woken (Asks request go) s' g = (g.0, g.1, g.2, g.3)
 plainly p done raises deferral mark s t woken (Leaves phase) s' g = (g.0, g.1, g.2, g.3)
@@ -103,7 +111,8 @@ plainly p done raises deferral mark s t woken Breaks s' g = g
 plainly p done raises deferral mark s t woken Rests s' g = g
 
 -- and which of the two
-pub told_apart : (p : Program) (s : State) (t : ℕ) (woken : List ℕ) (l : Look) (s' : State) → Moves s t woken l s'
+pub told_apart : (p : Program) (s : State) (t : ℕ) (woken : List ℕ) (l : Look) (s' : State)
+    → Moves (exit_of p.version) s t woken l s'
     → (done : Bool) × MovesSo p done s t woken l s'
 told_apart p s t woken (Goes x) s' g = (false, (g.0, g.1, refl))
 told_apart p s t woken (Asks request go) s' g = (completes p request g.0, (g.0, g.1, g.2, g.3, refl))
@@ -124,9 +133,9 @@ told_deferral p done mark s t woken Rests s' g = absurd g
 
 -- what a step does, with whether others learn of it and the action that waits
 pub steps_so : (p : Program) (mark : Option Mark) (s s' : State) (t : ℕ) (woken : List ℕ) (l : Look)
-    (g : Moves s t woken l s')
-    → StepsSo p (visible_step p s.word t l (answer_in s s' t woken l g)) (raises_number l) (deferred_by_step mark l
-    (answer_in s s' t woken l g)) mark s t woken l s'
+    (g : Moves (exit_of p.version) s t woken l s')
+    → StepsSo p (visible_step p s.word t l (answer_in (exit_of p.version) s s' t woken l g)) (raises_number l)
+    (deferred_by_step mark l (answer_in (exit_of p.version) s s' t woken l g)) mark s t woken l s'
 steps_so p mark s s' t woken (Goes x) g = (g.0, g.1, refl, refl, refl)
 steps_so p mark s s' t woken (Asks request go) g = (g.0, g.1, g.2, g.3, refl, refl, refl)
 steps_so p mark s s' t woken (Leaves phase) g = (g.0, g.1, g.2, g.3, refl, refl, refl)
@@ -138,18 +147,24 @@ abbrev DeferralOf : Option Mark → Option Request → ℕ → Option Kind
 DeferralOf mark None r = None
 DeferralOf mark (Some q) r = deferred_by_request mark q r
 
+swap_deferral : (v : ImageVersion) (p : Program) (mark : Option Mark) (t m r : ℕ)
+    → DeferralOf mark (machine_request p (given_up (release_of v) t m)) r ≡ None
+swap_deferral One p mark t m r = refl
+swap_deferral Two p mark t m r = refl
+swap_deferral Linux p mark t m r = refl
+
 none_deferral : (p : Program) (mark : Option Mark) (t : ℕ) (pt : Point) (r : ℕ) → stage_of pt ≡ Works
-    → DeferralOf mark (machine_request p (request t pt)) r ≡ None
+    → DeferralOf mark (machine_request p (request (release_of p.version) t pt)) r ≡ None
 none_deferral p mark t (Dies (Faulted fault) x) r h = absurd cc
 none_deferral p mark t (Dies Killed x) r h = absurd cc
-none_deferral p mark t (LeaveSwaps m ToExit) r h = refl
-none_deferral p mark t (LeaveSwaps m (ToWait c s)) r h = refl
+none_deferral p mark t (LeaveSwaps m k) r h = swap_deferral p.version p mark t m r
 none_deferral p mark t (HasLeft m ToExit) r h = refl
 none_deferral p mark t (HasLeft m (ToWait c s)) r h = refl
 none_deferral p mark t pt r h = refl
 
 pub point_deferral : (p : Program) (mark : Option Mark) (t : ℕ) (pt : Point) (r : ℕ) (asks : Request)
-    → stage_of pt ≡ Works → machine_request p (request t pt) ≡ Some asks → deferred_by_request mark asks r ≡ None
+    → stage_of pt ≡ Works → machine_request p (request (release_of p.version) t pt) ≡ Some asks
+    → deferred_by_request mark asks r ≡ None
 point_deferral p mark t pt r asks h same =
     sym (ap (λ (o : Option Request). DeferralOf mark o r) same) ∙ none_deferral p mark t pt r h
 
@@ -163,15 +178,27 @@ abbrev RaiseOf : Option Request → Bool
 RaiseOf None = false
 RaiseOf (Some q) = is_raise q
 
-raise_of : (p : Program) (t : ℕ) (pt : Point) → RaiseOf (machine_request p (request t pt)) ≡ raises_at pt
-raise_of p t (HasLeft m ToExit) = refl
-raise_of p t (HasLeft m (ToWait c s)) = refl
-raise_of p t pt = refl
+-- a thread's number isn't the one that a raise takes
+dropped_raise : (t : ℕ) → t ≤ 1000 → ((4294967296 - t) == 1) ≡ false
+dropped_raise t few = ne_eqb (4294967296 - t) 1 (λ h. omega (arith, few, h))
+
+swap_raise : (v : ImageVersion) (p : Program) (t m : ℕ) → t ≤ 1000
+    → RaiseOf (machine_request p (given_up (release_of v) t m)) ≡ false
+swap_raise One p t m few = refl
+swap_raise Two p t m few = refl
+swap_raise Linux p t m few = dropped_raise t few
+
+raise_of : (p : Program) (t : ℕ) → t ≤ 1000 → (pt : Point) → RaiseOf (machine_request p (request (release_of
+    p.version) t pt)) ≡ raises_at pt
+raise_of p t few (LeaveSwaps m k) = swap_raise p.version p t m few
+raise_of p t few (HasLeft m ToExit) = refl
+raise_of p t few (HasLeft m (ToWait c s)) = refl
+raise_of p t few pt = refl
 
 -- a point's request raises one just there
-pub point_raises : (p : Program) (t : ℕ) (pt : Point) (asks : Request)
-    → machine_request p (request t pt) ≡ Some asks → is_raise asks ≡ raises_at pt
-point_raises p t pt asks same = sym (ap RaiseOf same) ∙ raise_of p t pt
+pub point_raises : (p : Program) (t : ℕ) → t ≤ 1000 → (pt : Point) (asks : Request)
+    → machine_request p (request (release_of p.version) t pt) ≡ Some asks → is_raise asks ≡ raises_at pt
+point_raises p t few pt asks same = sym (ap RaiseOf same) ∙ raise_of p t few pt
 
 -- whether it is raised behind a step from a point, which carries an action or doesn't
 either_raised : (b : Bool) (x y : Point) (e : Option Event) → is_some (notified_at x) ≡ false
@@ -294,10 +321,15 @@ module _ (p : Program) where
 
   abbrev Shown : ℕ → Point → ℕ → Option Request → Bool
   Shown t pt r None = false
-  Shown t pt r (Some q) = completes p q (machine_answer p (request t pt) r)
+  Shown t pt r (Some q) = completes p q (machine_answer p (request (release_of p.version) t pt) r)
+
+  abbrev ShownBy : P.Request → ℕ → Option Request → Bool
+  ShownBy a r None = false
+  ShownBy a r (Some q) = completes p q (machine_answer p a r)
 
   abbrev Fine : World → Table → ℕ → Point → ℕ → World → End → Type 0
-  Fine w T t pt r w' e = Shown t pt r (machine_request p (request t pt)) ≡ is_some (source_event w T t pt r w' e)
+  Fine w T t pt r w' e = Shown t pt r (machine_request p (request (release_of p.version) t pt)) ≡ is_some
+      (source_event w T t pt r w' e)
 
   either : {A : Type 0} (b : Bool) (x : A) → b ≡ is_some (if b then Some x else None)
   either true x = refl
@@ -328,9 +360,16 @@ module _ (p : Program) where
   unfolding owner
   nobody = refl
 
+  swap_shown : (v : ImageVersion) (t m r : ℕ) → t ≤ 1000
+      → ShownBy (given_up (release_of v) t m) r (machine_request p (given_up (release_of v) t m)) ≡ true
+  swap_shown One t m r few = refl
+  swap_shown Two t m r few = refl
+  swap_shown Linux t m r few = ap not (dropped_raise t few)
+
   pub points : (w : World) (T : Table) (t : ℕ) (pt : Point) (r : ℕ) (w' : World) (e : End) (l : List ℕ)
-      → valid p (IdOf t) ≡ true → Listed pt l → MayAnswer pt r → IsAskable p (request t pt) → (asks : Request)
-      → machine_request p (request t pt) ≡ Some asks → Fine w T t pt r w' e
+      → valid p (IdOf t) ≡ true → Listed pt l → MayAnswer pt r → IsAskable p (request (release_of p.version) t pt)
+      → (asks : Request)
+      → machine_request p (request (release_of p.version) t pt) ≡ Some asks → Fine w T t pt r w' e
   points w T t (EnterPends m) r w' e l mine listed may ok asks same =
       rw (is_word 1 t (omega arith) mine) (second_no _ _)
   points w T t (EnterTries m) r w' e l mine listed may ok asks same =
@@ -360,6 +399,8 @@ module _ (p : Program) where
       rw (is_word 1 t (omega arith) mine) (second_no _ _)
   points w T t (LeaveReads m k) r w' e l mine listed may ok asks same = loaded (LinkOf m) _ ok (λ n e. cc)
   points w T t (LeaveHeads m h k) r w' e l mine listed may ok asks same = rw (is_word 0 t (omega arith) mine) refl
+  points w T t (LeaveSwaps m k) r w' e l mine listed may ok asks same =
+      swap_shown p.version t m r (let n = is_number p t mine in let h = most_few p.version in omega (arith, n.1, h))
   points w T t (LeaveWakes m k) r w' e l mine listed may ok asks same = rw (is_lock m ok) refl
   points w T t (HasLeft m ToExit) r w' e l mine listed may ok asks same =
       rw (is_word 1 t (omega arith) mine) (second_no _ _)
@@ -373,8 +414,10 @@ module _ (p : Program) where
 
   -- the answer of the machine to what a point asks
   pub point_completes : (w : World) (T : Table) (t : ℕ) (pt : Point) (r : ℕ) (w' : World) (e : End) (l : List ℕ)
-      (asks : Request) → valid p (IdOf t) ≡ true → Listed pt l → MayAnswer pt r → IsAskable p (request t pt)
-      → machine_request p (request t pt) ≡ Some asks
-      → completes p asks (machine_answer p (request t pt) r) ≡ is_some (source_event w T t pt r w' e)
+      (asks : Request) → valid p (IdOf t) ≡ true → Listed pt l → MayAnswer pt r
+      → IsAskable p (request (release_of p.version) t pt)
+      → machine_request p (request (release_of p.version) t pt) ≡ Some asks
+      → completes p asks (machine_answer p (request (release_of p.version) t pt) r) ≡ is_some (source_event w T t pt r
+      w' e)
   point_completes w T t pt r w' e l asks mine listed may ok same =
       sym (ap (λ (o : Option Request). Shown t pt r o) same) ∙ points w T t pt r w' e l mine listed may ok asks same

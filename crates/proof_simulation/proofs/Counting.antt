@@ -4,6 +4,7 @@ use Rattle.std.proofs.Common.{Option, Some, None, length, length-append, refl, a
 use Rattle.std.proofs.Common.{inr}
 use Rattle.std.specs.Prelude.{if◌then◌else◌, count_by, map}
 use Rattle.std.proofs.lemmas.Bool.{cases_eq, eq-eqb, ne_eqb}
+use Rattle.robustexit.specs.ExitRules.{exit_of}
 use Rattle.words.specs.Updates.{put}
 use Rattle.locals.specs.Looks.{look}
 use Rattle.machine.specs.States.{State}
@@ -50,7 +51,7 @@ abbrev pub done_count : (p : Program) → (s s' : State) → (l : Step) → (d :
     → List Kind → ℕ
 done_count p s s' l Own st ks =
     let looks = look (code_of p) l.thread st.thread in
-    let answer = answer_whole s s' l.thread l.woken looks st.moves in
+    let answer = answer_whole (exit_of p.version) s s' l.thread l.woken looks st.moves in
     step_count (visible_step p s.word l.thread looks answer) (deferred_by_step (mark_of (marks_of p) st.thread) looks
     answer) ks
 done_count p s s' l (Strayed a) st ks = 0
@@ -60,7 +61,7 @@ abbrev pub done_behind : (p : Program) → (s s' : State) → (l : Step) → (d 
     → List Kind → List Kind
 done_behind p s s' l Own st ks =
     let looks = look (code_of p) l.thread st.thread in
-    let answer = answer_whole s s' l.thread l.woken looks st.moves in
+    let answer = answer_whole (exit_of p.version) s s' l.thread l.woken looks st.moves in
     behind (visible_step p s.word l.thread looks answer) (deferred_by_step (mark_of (marks_of p) st.thread) looks
     answer) ks
 done_behind p s s' l (Strayed a) st ks = if is_condition_word p a then [] else ks

@@ -7,7 +7,7 @@ use Rattle.std.proofs.lemmas.Bool.{cases_Bool, cond-true, cond-false, or_left, o
 use Rattle.words.specs.Process.{process_word}
 use Rattle.words.specs.Versions.{most_of}
 use Rattle.isa.specs.Programs.{memory_size}
-use Rattle.robustexit.specs.RobustExit.{Shared, EntryStep, IsPending, IsForeign, IsOwned, PendingStep}
+use Rattle.robustexit.specs.RobustExit.{Shared, EntryStep, IsPending, IsForeign, IsPassed, IsOwned, PendingStep}
 use Rattle.robustexit.specs.RobustExit.{NoEntry as NoEntry', ExitStep, Abandons}
 use Rattle.robustexit.specs.Phases.{next_entry}
 use Rattle.robustexit.specs.declared.phase.ExitPhase.{ExitPhase}
@@ -31,7 +31,7 @@ use Rattle.protocol.specs.World.{World, mem, tail}
 use Rattle.protocol.specs.Cells.{LockOf, LinkOf, PendingOf, IdOf, write}
 use Rattle.protocol.specs.Memory.{entry_address}
 use Rattle.protocol.specs.Requests.{request}
-use Rattle.protocol.specs.Answers.{WakesOne, Abandon, ExitDoes, Serves, next, next_list}
+use Rattle.protocol.specs.Answers.{WakesOne, Foreign, Abandon, ExitDoes, Serves, next, next_list}
 use Rattle.protocol.specs.Exits.{Shares, IsLayout, PhaseIs, IsShort, PendingIsThere, NextIsThere}
 use Rattle.protocol.proofs.Good.{Good}
 use Rattle.protocol.proofs.Chains.{ChainAt, Chain, chain_some, chain_none}
@@ -49,6 +49,9 @@ use Rattle.proof_simulation.specs.Killing.{IsOfProgram}
 use Rattle.proof_simulation.specs.Standing.{entries_seen}
 use Rattle.proof_simulation.specs.Serving.{IsServed}
 use Rattle.proof_simulation.proofs.Pigeons.{short}
+use Rattle.protocol.specs.Rules.{ReleaseRule, release_of, version_rules, Rules, ExitRule, WakesAlways, WakesUnowned}
+use Rattle.protocol.specs.Rules.{WakesUncovered}
+use Rattle.robustexit.specs.ExitRules.{exit_of}
 
 -- a point of an exit
 abbrev pub IsExit : Point → Type 0
@@ -93,11 +96,22 @@ abandoned_world w w' t m h = elim h.1 [
       (record { made = refl; at = refl; result = refl; sequence = refl }) k.1
 ]
 
+foreign_world : (x : ExitRule) (w w' : World) (m : ℕ) → Foreign x w m w' → IsExitWorld w w'
+foreign_world WakesAlways w w' m f = waking_world w w w' (OnLock m) (same_world w) f
+foreign_world WakesUnowned w w' m f = elim f [
+  | inl k ↦ waking_world w w w' (OnLock m) (same_world w) k.1
+  | inr k ↦ subst (λ (y : World). IsExitWorld w y) (sym k.1) (same_world w)
+]
+foreign_world WakesUncovered w w' m f = elim f [
+  | inl k ↦ waking_world w w w' (OnLock m) (same_world w) k.1
+  | inr k ↦ subst (λ (y : World). IsExitWorld w y) (sym k.1) (same_world w)
+]
+
 exit_world : (w : World) (t : ℕ) (pt : Point) (w' : World) → IsExit pt → ExitDoes w t pt w' → IsExitWorld w w'
 exit_world w t (Walks zero x end) w' is h = elim h [
   | inl k ↦ subst (λ (y : World). IsExitWorld w y) (sym k.1) (same_world w)
   | inr k ↦ elim k.2 [
-    | inl f ↦ waking_world w w w' (OnLock k.0) (same_world w) f.1
+    | inl f ↦ foreign_world w.rules.exit w w' k.0 f.1
     | inr a ↦ abandoned_world w w' t k.0 a
   ]
 ]
@@ -113,14 +127,15 @@ exit_world w t (ClearsId end) w' is h = subst (λ (y : World). IsExitWorld w y) 
 exit_world w t (LastWakes end) w' is h = waking_world w w w' (OnId t) (same_world w) h
 exit_world w t pt w' is h = absurd is
 
-serves_exit : (w : World) (t : ℕ) (pt : Point) (w' : World) → IsExit pt → ExitDoes w t pt w'
-    → Serves w t pt (request t pt) 0 w'
-serves_exit w t (Walks e x end) w' is h = (refl, h)
-serves_exit w t (ClearsId end) w' is h = (refl, h)
-serves_exit w t (LastWakes end) w' is h = (refl, h)
-serves_exit w t pt w' is h = absurd is
+serves_exit : (u : ReleaseRule) (w : World) (t : ℕ) (pt : Point) (w' : World) → IsExit pt → ExitDoes w t pt w'
+    → Serves w t pt (request u t pt) 0 w'
+serves_exit u w t (Walks e x end) w' is h = (refl, h)
+serves_exit u w t (ClearsId end) w' is h = (refl, h)
+serves_exit u w t (LastWakes end) w' is h = (refl, h)
+serves_exit u w t pt w' is h = absurd is
 
-told_exit : (p : Program) (t : ℕ) (pt : Point) → IsExit pt → 0 ≡ machine_answer p (request t pt) 0
+told_exit : (p : Program) (t : ℕ) (pt : Point) → IsExit pt → 0 ≡ machine_answer p (request (release_of p.version) t
+    pt) 0
 told_exit p t (Walks e x end) is = refl
 told_exit p t (ClearsId end) is = refl
 told_exit p t (LastWakes end) is = refl
@@ -191,9 +206,13 @@ next_there p w T t pt is good point lists = absurd is
 
 module _ (p : Program) (fits : WellFormed p) (s : State) (w : World) (T : Table) (t : ℕ)
     (shares : Shares (place p) (valid p) (shared_of s) w) (good : Good w T) (some : 0 < t) (few : t ≤ most_of p.version)
-    (size : s.size ≡ memory_size (code_of p)) where
+    (size : s.size ≡ memory_size (code_of p)) (rules : w.rules ≡ version_rules p.version) where
   lay : IsLayout (place p) (valid p) s.size
   lay = subst (λ (n : ℕ). IsLayout (place p) (valid p) n) (sym size) (is_layout p fits)
+
+  -- the exit rule of the machine is that of the world
+  rule_is : exit_of p.version ≡ w.rules.exit
+  rule_is = sym (ap (λ (u : Rules). u.exit) rules)
 
   valid_t : valid p (PendingOf t) ≡ true
   valid_t = number_is p t some few
@@ -211,11 +230,12 @@ module _ (p : Program) (fits : WellFormed p) (s : State) (w : World) (T : Table)
   -- one step of the walk sees one entry
   still_short : (pt : Point) (phase later : ExitPhase) (woken : List ℕ) (after : Shared) → IsExit pt
       → (w.at t).point ≡ pt → PhaseIs (place p) (valid p) pt phase → WalkIsShort pt phase (w.at t).list
-      → ExitStep s.size t phase (shared_of s) woken after later → (end : End)
+      → ExitStep (exit_of p.version) s.size t phase (shared_of s) woken after later → (end : End)
       → WalkIsShort (next w end pt 0) later (next_list pt (w.at t).list)
   still_short (Walks zero x over) phase later woken after is point at short step end = tt
   still_short (Walks (suc m) x over) phase later woken after is point at short step end =
-      let d = subst (λ (y : ExitPhase). ExitStep s.size t y (shared_of s) woken after later) at.1.1 step in
+      let d = subst (λ (y : ExitPhase). ExitStep (exit_of p.version) s.size t y (shared_of s) woken after later)
+      at.1.1 step in
       let had = ap entries_seen at.1.1 in
       let here = (chain_some w.link m (w.at t).list (chain_here w T t (suc m) x over good point)).0 in
       let long = ap length here in
@@ -252,10 +272,12 @@ module _ (p : Program) (fits : WellFormed p) (s : State) (w : World) (T : Table)
 
     -- the pending entry is none, or that of a monitor of the program
     in_pending : (e n : ℕ) (x : PendingEntry) (woken : List ℕ) (after : Shared) → IsOfProgram p x
-        → n ≡ entry_word x → e ≡ entry_address (place p) n → PendingStep s.size t e (shared_of s) woken after
+        → n ≡ entry_word x → e ≡ entry_address (place p) n → PendingStep (exit_of p.version) s.size t e (shared_of s)
+        woken after
         → after.word a ≡ s.word a
     in_pending e n x woken after of is at (NoEntry' absent idle) = ap (λ (z : Shared). z.word a) idle.same
-    in_pending e n x woken after of is at (IsForeign ok h one) = ap (λ (f : ℕ → ℕ). f a) one.same
+    in_pending e n x woken after of is at (IsForeign ok h so one) = ap (λ (f : ℕ → ℕ). f a) one.same
+    in_pending e n x woken after of is at (IsPassed ok h so idle) = ap (λ (z : Shared). z.word a) idle.same
     in_pending e n NoEntry woken after of is at (IsOwned ok gone) =
         let none : e ≡ 0 = at ∙ ap (entry_address (place p)) is in absurd (omega (arith, ok.0, none))
     in_pending e n (Owned m) woken after of is at (IsOwned ok gone) =
@@ -265,27 +287,28 @@ module _ (p : Program) (fits : WellFormed p) (s : State) (w : World) (T : Table)
 
     variable_stays : (pt : Point) (phase later : ExitPhase) (woken : List ℕ) (after : Shared) → IsExit pt
         → IsOfProgram p (entry_at pt) → (w.at t).point ≡ pt → PhaseIs (place p) (valid p) pt phase
-        → ExitStep s.size t phase (shared_of s) woken after later → after.word a ≡ s.word a
+        → ExitStep (exit_of p.version) s.size t phase (shared_of s) woken after later → after.word a ≡ s.word a
     variable_stays (Walks zero x end) phase later woken after is of point at step =
-        let d : ExitStep s.size t Pending (shared_of s) woken after later =
-        subst (λ (y : ExitPhase). ExitStep s.size t y (shared_of s) woken after later) at step in
+        let d : ExitStep (exit_of p.version) s.size t Pending (shared_of s) woken after later =
+        subst (λ (y : ExitPhase). ExitStep (exit_of p.version) s.size t y (shared_of s) woken after later) at step in
         in_pending (s.word (process_word t 1)) (w.pending t) x woken after of
         (subst (λ (q : Point). PendAt q (w.pending t)) point (good.pends.pend t))
         (shares.words.word (PendingOf t) valid_t) d.0
     variable_stays (Walks (suc k) x end) phase later woken after is of point at step =
-        let d = subst (λ (y : ExitPhase). ExitStep s.size t y (shared_of s) woken after later) at.1.1 step in
+        let d = subst (λ (y : ExitPhase). ExitStep (exit_of p.version) s.size t y (shared_of s) woken after later)
+        at.1.1 step in
         elim d [
           | inl g ↦ in_entry k woken after at.0 g.1
           | inr g ↦ absurd (g.0 (lay.entry k at.0))
         ]
     variable_stays (ClearsId end) phase later woken after is of point at step =
-        let d : ExitStep s.size t ClearId (shared_of s) woken after later =
-        subst (λ (y : ExitPhase). ExitStep s.size t y (shared_of s) woken after later) at step in
+        let d : ExitStep (exit_of p.version) s.size t ClearId (shared_of s) woken after later =
+        subst (λ (y : ExitPhase). ExitStep (exit_of p.version) s.size t y (shared_of s) woken after later) at step in
         ap (λ (x : Shared). x.word a) d.1
         ∙ put_other s.word (process_word t 2) 0 a (λ q. variable_apart p m i (IdOf t) there valid_t q)
     variable_stays (LastWakes end) phase later woken after is of point at step =
-        let d : ExitStep s.size t LastWake (shared_of s) woken after later =
-        subst (λ (y : ExitPhase). ExitStep s.size t y (shared_of s) woken after later) at step in
+        let d : ExitStep (exit_of p.version) s.size t LastWake (shared_of s) woken after later =
+        subst (λ (y : ExitPhase). ExitStep (exit_of p.version) s.size t y (shared_of s) woken after later) at step in
         ap (λ (f : ℕ → ℕ). f a) d.0.same
     variable_stays pt phase later woken after is of point at step = absurd is
 
@@ -293,13 +316,15 @@ module _ (p : Program) (fits : WellFormed p) (s : State) (w : World) (T : Table)
   pub leaves_on : (pt : Point) (phase : ExitPhase) (woken : List ℕ) (s' : State) → IsExit pt
       → IsOfProgram p (entry_at pt) → (w.at t).point ≡ pt
       → ((m : ℕ) → mem m (w.at t).list ≡ true → m < length p.monitors) → PhaseIs (place p) (valid p) pt phase
-      → WalkIsShort pt phase (w.at t).list → Moves s t woken (Leaves phase) s' → LeavesOn p s s' w t pt
+      → WalkIsShort pt phase (w.at t).list → Moves (exit_of p.version) s t woken (Leaves phase) s'
+      → LeavesOn p s s' w t pt
   leaves_on pt phase woken s' is of point lists at short moves =
       let after : Shared = moves.0 in
       let later : ExitPhase = moves.1 in
-      let step : ExitStep s.size t phase (shared_of s) woken after later = moves.2 in
+      let step : ExitStep (exit_of p.version) s.size t phase (shared_of s) woken after later = moves.2 in
       let f = exits_follow (place p) (valid p) s.size t w pt phase later (shared_of s) after woken lay shares valid_t
-      valid_t (pends_there p w T t pt is of good point) at step in
+      valid_t (pends_there p w T t pt is of good point) at
+      (subst (λ (x : ExitRule). ExitStep x s.size t phase (shared_of s) woken after later) rule_is step) in
       let k = exit_world w t pt f.world is f.does in
       record {
         mid = with_shared s after;
@@ -307,7 +332,7 @@ module _ (p : Program) (fits : WellFormed p) (s : State) (w : World) (T : Table)
         served = record {
           reply = 0;
           after = f.world;
-          serves = serves_exit w t pt f.world is f.does;
+          serves = serves_exit (release_of p.version) w t pt f.world is f.does;
           told = told_exit p t pt is;
           shares = f.shares;
           keeps = record {
@@ -324,7 +349,8 @@ module _ (p : Program) (fits : WellFormed p) (s : State) (w : World) (T : Table)
           numbers = λ c. let same = ap (λ (g : Member → ℕ). g c) k.sequence in omega (arith, same);
         };
         same = moves.3;
-        phase = λ end. phases_follow (place p) (valid p) s.size t w pt end phase later (shared_of s) after woken lay
+        phase = λ end. phases_follow (exit_of p.version) (place p) (valid p) s.size t w pt end phase later (shared_of
+            s) after woken lay
             shares (next_there p w T t pt is good point lists) (is_short pt phase is at short) at step;
         short = λ end. still_short pt phase later woken after is point at short step end;
       }

@@ -3,6 +3,7 @@ use Rattle.std.proofs.Common.{◌≡◌, ℕ, suc, ◌+◌, ◌<◌, Bool, true,
 use Rattle.std.proofs.Common.{None, append-nil, append_assoc, sym, ◌∙◌, subst, arith}
 use Rattle.std.specs.Prelude.{◌^◌, ◌++◌, is_some, if◌then◌else◌, not}
 use Rattle.std.proofs.lemmas.Bool.{false≢true}
+use Rattle.robustexit.specs.ExitRules.{exit_of}
 use Rattle.words.specs.Updates.{put}
 use Rattle.locals.specs.Looks.{look, Look}
 use Rattle.machine.specs.States.{State, opening_state, with_sleepers}
@@ -115,7 +116,7 @@ module _ (p : Program) (w : WellFormed p) where
     looks = look (code_of p) t st.thread
 
     abbrev answer : ℕ
-    answer = answer_whole s s' t woken looks st.moves
+    answer = answer_whole (exit_of p.version) s s' t woken looks st.moves
 
     abbrev deferral : Option Kind
     deferral = deferred_by_step (mark_of (marks_of p) st.thread) looks answer
@@ -241,11 +242,13 @@ module _ (p : Program) (w : WellFormed p) where
   pub due : (taken : ℕ) (s : State) (g : Progress) → IsReached p w taken s g → (l : Step) (s' : State)
       (st : IsOwnStep (code_of p) s l s') → taken + 1 < 2 ^ 32
       → visible_step p s.word l.thread (look (code_of p) l.thread st.thread)
-      (answer_in s s' l.thread l.woken (look (code_of p) l.thread st.thread) st.moves) ≡ true → IsDue p s' l.thread g
+      (answer_in (exit_of p.version) s s' l.thread l.woken (look (code_of p) l.thread st.thread) st.moves) ≡ true
+      → IsDue p s' l.thread g
   due taken s g r l s' st short e =
       let looks = look (code_of p) l.thread st.thread in
       whole_due taken s g r l.thread l.woken s' (whole_own p s l s' st) short
-      (ap (visible_step p s.word l.thread looks) (answer_same s s' l.thread l.woken looks st.moves) ∙ e)
+      (ap (visible_step p s.word l.thread looks) (answer_same (exit_of p.version) s s' l.thread l.woken looks
+      st.moves) ∙ e)
 
   deferred_behind : (b : Bool) (k : Option Kind) (raises : Bool) (s : State) (u : ℕ) (g : Progress)
       → (progress_step p b k raises s u g).deferred ≡ put g.deferred u (behind b k (g.deferred u))
@@ -442,7 +445,7 @@ module _ (p : Program) (w : WellFormed p) where
   reaches taken s g r l s' Own st short =
       let x = step_so taken s g r l.thread l.woken s' st short in
       let looks = look (code_of p) l.thread st.thread in
-      let answer = answer_whole s s' l.thread l.woken looks st.moves in
+      let answer = answer_whole (exit_of p.version) s s' l.thread l.woken looks st.moves in
       record {
         is = x.0;
         strays = x.1 is_stray_kind (λ i h. (own_kinds i h).0) ∙ sym (append-nil _);

@@ -62,6 +62,8 @@ use Rattle.proof_simulation.proofs.Keeping.{goes_on_keeps, faults_keep}
 use Rattle.proof_simulation.proofs.Acting.{held_of}
 use Rattle.proof_simulation.specs.Deferred.{Stage, stages, stage_of, Agrees, Works, raised_at}
 use Rattle.proof_thread.specs.Deferrals.{mark_of, deferred_by_request}
+use Rattle.protocol.specs.Rules.{release_of}
+use Rattle.proof_templates.proofs.Negated.{most_few}
 
 cause_small : (cause : Cause) → cause_number cause ≢ 16
 cause_small (Faulted ResultOutOfRange) e = absurd cc
@@ -115,9 +117,10 @@ module _ (p : Program) (w : WellFormed p) (steps : ℕ) (s : State) (c : SourceS
   -- a request of a point of the JOIN, as it is served
   module _ (pt : Point) (q : Process) (x : Thread) (asks : Request) (go : ℕ → Thread)
       (proc : c.process t ≡ Some q) (point : (k.world.at t).point ≡ pt) (looks : look (code_of p) t x ≡ Asks asks go)
-      (askable : IsAskable p (request t pt)) (same : machine_request p (request t pt) ≡ Some asks)
+      (askable : IsAskable p (request (release_of p.version) t pt)) (same : machine_request p (request (release_of
+      p.version) t pt) ≡ Some asks)
       (before : IsBefore pt) (working : stage_of pt ≡ Works) (stays' : (o : ℕ)
-      → machine_answer p (request t pt) o ≡ o) (on : next_list pt l ≡ l) where
+      → machine_answer p (request (release_of p.version) t pt) o ≡ o) (on : next_list pt l ≡ l) where
     module _ (answer : ℕ) (mid : State) (sv : IsServed p s mid k.world t pt answer)
         (e' : s' ≡ with_thread mid t (go answer)) where
       abbrev y : Thread
@@ -184,7 +187,7 @@ module _ (p : Program) (w : WellFormed p) (steps : ℕ) (s : State) (c : SourceS
       went seen told_of raise goes =
           stepped p w steps s c k t done raises deferral pauses s' mid n answer y q pt number awake proc point sv came
           (told_of ∙ point_deferral p (mark_of (marks_of p) x) t pt answer asks working same)
-          (raise ∙ point_raises p t pt asks same)
+          (raise ∙ point_raises p t (let h = most_few p.version in omega (arith, number.1, few, h)) pt asks same)
           (subst (λ (i : Stage). Agrees i false) (sym working) refl)
           (shown seen)
           (λ e u label h. who_resumes p s' k.world c.table t pt sv.reply sv.after e u label

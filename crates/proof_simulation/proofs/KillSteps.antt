@@ -19,6 +19,8 @@ use Rattle.meaning.specs.Runs.{IsNotifying, IsLeft, IsStep}
 use Rattle.meaning.specs.States.{SourceState}
 use Rattle.meaning.specs.Table.{Table, HeldBy, AreResumed, without_waiters}
 use Rattle.meaning.specs.Values.{Variables}
+use Rattle.lowering.specs.Locks.{leave_length}
+use Rattle.protocol.specs.Rules.{release_of}
 use Rattle.protocol.specs.Word.{owner}
 use Rattle.protocol.specs.Points.{Entry, NoEntry, Owned, Unowned, Purpose, ToEnter, ToReenter, ToResume, Spot, Point}
 use Rattle.protocol.specs.Points.{NotifyWakes, BroadcastMarks, BroadcastReads, BroadcastMoves, Dies, Walks, ClearsId}
@@ -60,6 +62,7 @@ use Rattle.proof_simulation.proofs.Observing.{few_made}
 use Rattle.proof_simulation.proofs.Resumed.{waiters}
 use Rattle.proof_simulation.proofs.Strays.{index_below}
 use Rattle.proof_simulation.proofs.Worlds.{agrees_at, reached_good}
+use Rattle.lowering.specs.Conditions.{wait_takes}
 
 -- a condition is one of the program
 abbrev pub IsThere : Program → Option Member → Type 0
@@ -98,7 +101,8 @@ enters_in p t m base l fs pt x h L.EntersAt.tries_again = (tt, h, tt)
 enters_in p t m base l fs pt x h (L.EntersAt.takes_again k) = takes_in p t m ToReenter (base + 11) l.values fs pt x h k
 
 exits_in : (p : Program) (t m base : ℕ) (shown : Option ℕ) (l : _) (fs : List _) (pt : Point) (x : Thread)
-    → m < length p.monitors → L.ExitsAt p t m base shown l fs pt x → IsIn p pt
+    → m < length p.monitors → L.ExitsAt (leave_length p.version) (release_of p.version) p t m base shown l fs pt x
+    → IsIn p pt
 exits_in p t m base shown l fs pt x h L.ExitsAt.pends = (tt, tt, tt)
 exits_in p t m base shown l fs pt x h L.ExitsAt.reads = (tt, h, tt)
 exits_in p t m base shown l fs pt x h (L.ExitsAt.cuts e) = (tt, h, tt)
@@ -108,7 +112,8 @@ exits_in p t m base shown l fs pt x h L.ExitsAt.unpends = (tt, h, tt)
 exits_in p t m base shown l fs pt x h L.ExitsAt.goes = (tt, tt, tt)
 
 waits_in : (p : Program) (t : ℕ) (c : Member) (base : ℕ) (l : _) (fs : List _) (pt : Point) (x : Thread)
-    → c.monitor < length p.monitors → L.WaitsAt p t c base l fs pt x → IsIn p pt
+    → c.monitor < length p.monitors → L.WaitsAt (leave_length p.version) (release_of p.version) p t c base l fs pt x →
+    IsIn p pt
 waits_in p t c base l fs pt x h L.WaitsAt.numbers = (tt, tt, tt)
 waits_in p t c base l fs pt x h (L.WaitsAt.pends n) = (tt, tt, tt)
 waits_in p t c base l fs pt x h (L.WaitsAt.reads n) = (tt, h, tt)
@@ -117,7 +122,7 @@ waits_in p t c base l fs pt x h (L.WaitsAt.swaps n) = (tt, h, tt)
 waits_in p t c base l fs pt x h (L.WaitsAt.wakes n) = (tt, h, tt)
 waits_in p t c base l fs pt x h (L.WaitsAt.sleeps n) = (tt, h, tt)
 waits_in p t c base l fs pt x h (L.WaitsAt.takes k) =
-    takes_in p t c.monitor (ToResume c) (base + 24) l.values fs pt x h k
+    takes_in p t c.monitor (ToResume c) (base + wait_takes p.version) l.values fs pt x h k
 
 notifies_in : (p : Program) (c : Member) (base : ℕ) (l : _) (fs : List _) (pt : Point) (x : Thread)
     → valid p (SequenceOf c) ≡ true → N.NotifiesAt p c base l fs pt x → IsIn p pt

@@ -8,6 +8,8 @@ use Rattle.program.specs.Scope.{recover_of}
 use Rattle.meaning.specs.Processes.{without_monitor, recovers, recovers_by, opening_frame, frame_of, monitor_of_role}
 use Rattle.meaning.specs.Runs.{Enters, GivesUp}
 use Rattle.proof_thread.specs.Builds.{IsBuild}
+use Rattle.lowering.specs.Locks.{leave_length}
+use Rattle.protocol.specs.Rules.{release_of}
 use Rattle.protocol.specs.Points.{Entry as Pending, Owned, Unowned}
 use Rattle.protocol.specs.World.{mem}
 use Rattle.protocol.proofs.Roles.{Listed}
@@ -381,7 +383,8 @@ module _ (b : Build) (is : IsBuild b) (v : Variables) (t : ℕ) where
   exit_any : (u : Variables) (m base : ℕ) (shown : Option ℕ) (l : _) (fs : List _) (before : Process) (z : _)
       (cs : List Caller) (pt : Point) (y : Thread) → I.ExitFits b u t m base shown l fs before z cs
       → SameBefore (I.Exits m base shown l fs before z cs) pt u v
-      → L.ExitsAt b.program t m base shown l fs pt y → pt ≢ Runs
+      → L.ExitsAt (leave_length b.program.version) (release_of b.program.version) b.program t m base shown l fs pt y →
+      pt ≢ Runs
       → KillAny b.program v (process_at b.program (I.Exits m base shown l fs before z cs) pt) pt
       (list_at (I.Exits m base shown l fs before z cs) pt)
   exit_any u m base shown l fs before z cs pt y fits same L.ExitsAt.pends ne =
@@ -415,7 +418,8 @@ module _ (b : Build) (is : IsBuild b) (v : Variables) (t : ℕ) where
   wait_any : (u : Variables) (c : Member) (base : ℕ) (l : _) (fs : List _) (before : Process) (f : Frame)
       (cs : List Caller) (ms : List ℕ) (pt : Point) (y : Thread) → I.WaitFits b u t c base l fs before f cs ms
       → SameBefore (I.Waits c base l fs before f cs ms) pt u v
-      → L.WaitsAt b.program t c base l fs pt y → pt ≢ Runs → Listed pt (list_at (I.Waits c base l fs before f cs ms) pt)
+      → L.WaitsAt (leave_length b.program.version) (release_of b.program.version) b.program t c base l fs pt y
+      → pt ≢ Runs → Listed pt (list_at (I.Waits c base l fs before f cs ms) pt)
       → KillAny b.program v (process_at b.program (I.Waits c base l fs before f cs ms) pt) pt
       (list_at (I.Waits c base l fs before f cs ms) pt)
   wait_any u c base l fs before f cs ms pt y fits same L.WaitsAt.numbers ne k =

@@ -45,6 +45,8 @@ use Rattle.proof_simulation.proofs.ExitActions.{exit_told}
 use Rattle.proof_simulation.proofs.Ending.{walks_left}
 use Rattle.proof_simulation.proofs.Templating.{listed_next}
 use Rattle.proof_simulation.specs.Deferred.{stages, raised_at}
+use Rattle.protocol.proofs.Rest.{rules_kept}
+use Rattle.protocol.specs.World.{opening_world}
 
 -- a thread in its exit takes the step of its phase
 walking_look : (p : Program) (t e : ℕ) (x : PendingEntry) (end : End) (phase : ExitPhase)
@@ -129,6 +131,7 @@ module _ (p : Program) (w : WellFormed p) (steps : ℕ) (s : State) (c : SourceS
         (g : StepsWhole p done raises deferral None s t woken (Leaves phase) s') where
       on : LeavesOn p s s' k.world t (Walks e x end)
       on = leaves_on p w s k.world c.table t k.shares inv number.0 (omega (arith, number.1, few)) k.size
+          (rules_kept k.reached.moves (opening_world p.version) k.world k.reached.led)
           (Walks e x end) phase woken s' tt of point (k.lists t) is (short_walk e)
           (plainly p done raises deferral None s t woken (Leaves phase) s' g)
         where
@@ -281,6 +284,7 @@ module _ (p : Program) (w : WellFormed p) (steps : ℕ) (s : State) (c : SourceS
       → Next p w steps s' t done raises deferral pauses n c (stages k.world) (raised_at k.world)
   clear_step end proc point moves =
       let on = leaves_on p w s k.world c.table t k.shares inv number.0 (omega (arith, number.1, few)) k.size
+      (rules_kept k.reached.moves (opening_world p.version) k.world k.reached.led)
       (ClearsId end) ClearId woken s' tt tt point (k.lists t) refl tt (plainly p done raises deferral None s t woken
       (Leaves ClearId) s' moves) in
       stepped p w steps s c k t done raises deferral pauses s' on.mid n 0 (Exits on.later) (ending end [])
@@ -309,6 +313,7 @@ module _ (p : Program) (w : WellFormed p) (steps : ℕ) (s : State) (c : SourceS
       → Next p w steps s' t done raises deferral pauses n c (stages k.world) (raised_at k.world)
   wake_step end proc point enough moves =
       let on = leaves_on p w s k.world c.table t k.shares inv number.0 (omega (arith, number.1, few)) k.size
+      (rules_kept k.reached.moves (opening_world p.version) k.world k.reached.led)
       (LastWakes end) LastWake woken s' tt tt point (k.lists t) refl tt (plainly p done raises deferral None s t woken
       (Leaves LastWake) s' moves)
       in

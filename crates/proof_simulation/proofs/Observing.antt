@@ -74,6 +74,7 @@ use Rattle.proof_simulation.specs.Serving.{IsAskable}
 use Rattle.proof_simulation.proofs.Points.{in_template}
 use Rattle.proof_simulation.proofs.Standings.{first_in}
 use Rattle.proof_simulation.proofs.Worlds.{reached_good, reached_most}
+use Rattle.protocol.specs.Rules.{release_of}
 
 -- a thread that goes or asks what can be served: it is neither at an end nor broken
 pub data IsBusy (p : Program) (s : State) (t : ℕ) (x : Thread) : Type 0 where
@@ -341,7 +342,7 @@ module _ (p : Program) (w : WellFormed p) (s : State) (size : s.size ≡ memory_
     inside_busy u k pt y fits ne stands =
         let f = follows b u t k (is_build p w made) some few fits pt y ne stands in
         let i = in_template p t some few b refl u k pt y fits ne stands in
-        asks f.asks f.go f.look (asked_fine (request t pt) f.asks f.same i.askable)
+        asks f.asks f.go f.look (asked_fine (request (release_of p.version) t pt) f.asks f.same i.askable)
 
     begins_inside : (k : Template) → first_point false k ≢ Runs
     begins_inside (Enters m base l fs f cs) e = cc

@@ -25,6 +25,7 @@ use Rattle.proof_templates.specs.Inside.{taking_process}
 use Rattle.proof_templates.specs.Inside.{StandsIn, TemplateFits, IsBeforeRelease, SameBefore}
 use Rattle.proof_templates.specs.Templates.{ActsSo}
 use Rattle.proof_simulation.proofs.Ranking.{IsTemplate}
+use Rattle.lowering.specs.Conditions.{wait_takes}
 
 -- what a process that takes up an offer does is the same of an equal offer
 acts_by : (p : Program) (u v : Variables) (t : ℕ) (e : Option Event) (q r : Process)
@@ -84,7 +85,8 @@ module _ (w : World) (T : Table) (t r : ℕ) (w' : World) (e : End) (a : Event) 
   offers_now b u v (Waits c base l fs before f cs ms) pt x fit same (L.WaitsAt.takes g) h =
       wait_offers g h
     where
-      wait_offers : {at : Point} {y : Thread} → Takes b.program t c.monitor (ToResume c) (base + 24) l.values fs at y
+      wait_offers : {at : Point} {y : Thread} → Takes b.program t c.monitor (ToResume c) (base + wait_takes
+          b.program.version) l.values fs at y
           → Carries at → offer b.program v (process_at b.program (Waits c base l fs before f cs ms) at)
           ≡ offer b.program u (process_at b.program (Waits c base l fs before f cs ms) at)
       wait_offers (L.Takes.reads i) h = refl

@@ -23,11 +23,17 @@ use Rattle.proof_templates.specs.Inside.{Template, Enters, Exits, Waits, Notifie
 use Rattle.proof_templates.proofs.Layouts.{number_is, monitor_valid, monitor_below, sequence_valid}
 use Rattle.proof_simulation.specs.Serving.{IsAskable}
 use Rattle.proof_simulation.proofs.Ranking.{IsTemplate}
+use Rattle.protocol.specs.Rules.{release_of}
+use Rattle.words.specs.declared.version.ImageVersion.{ImageVersion}
+use Rattle.words.specs.declared.version.ImageVersion.TheVariants.{One, Two, Linux}
+use Rattle.protocol.specs.Requests.{given_up}
+use Rattle.lowering.specs.Conditions.{wait_takes}
+use Rattle.lowering.specs.Locks.{leave_length}
 
 -- all about a thread in the taking of a lock
 record Taking (p : Program) (t m : ℕ) (pt : Point) : Type 0 where
   template : IsTemplate pt
-  askable : IsAskable p (request t pt)
+  askable : IsAskable p (request (release_of p.version) t pt)
   got : (n v : ℕ) → pt ≡ GotHeads n v → n ≡ m
 
 module _ (p : Program) (t : ℕ) (some : 0 < t) (few : t ≤ most_of p.version) where
@@ -70,8 +76,15 @@ module _ (p : Program) (t : ℕ) (some : 0 < t) (few : t ≤ most_of p.version) 
   entering m base l fs pt x there ne (L.EntersAt.takes_again h) =
       taking m ToReenter (base + 11) l.values fs pt x there ne h
 
+  swap_askable : (v : ImageVersion) (m : ℕ) → is_monitor p m ≡ true
+      → IsAskable p (given_up (release_of v) t m)
+  swap_askable One m there = there
+  swap_askable Two m there = there
+  swap_askable Linux m there = there
+
   exiting : (m base : ℕ) (shown : Option ℕ) (l : Locals) (fs : List MachineFrame) (pt : Point) (x : Thread)
-      → is_monitor p m ≡ true → pt ≢ Runs → ExitsAt p t m base shown l fs pt x → Taking p t m pt
+      → is_monitor p m ≡ true → pt ≢ Runs → ExitsAt (leave_length p.version) (release_of p.version) p t m base shown l
+      fs pt x → Taking p t m pt
   exiting m base shown l fs pt x there ne L.ExitsAt.pends =
       record { template = tt; askable = mine; got = λ n u e. absurd cc }
   exiting m base shown l fs pt x there ne L.ExitsAt.reads =
@@ -79,7 +92,7 @@ module _ (p : Program) (t : ℕ) (some : 0 < t) (few : t ≤ most_of p.version) 
   exiting m base shown l fs pt x there ne (L.ExitsAt.cuts h) =
       record { template = tt; askable = mine; got = λ n u e. absurd cc }
   exiting m base shown l fs pt x there ne L.ExitsAt.swaps =
-      record { template = tt; askable = there; got = λ n u e. absurd cc }
+      record { template = tt; askable = swap_askable p.version m there; got = λ n u e. absurd cc }
   exiting m base shown l fs pt x there ne L.ExitsAt.wakes =
       record { template = tt; askable = there; got = λ n u e. absurd cc }
   exiting m base shown l fs pt x there ne L.ExitsAt.unpends =
@@ -87,7 +100,8 @@ module _ (p : Program) (t : ℕ) (some : 0 < t) (few : t ≤ most_of p.version) 
   exiting m base shown l fs pt x there ne L.ExitsAt.goes = absurd (ne refl)
 
   deferred : (c : Member) (base : ℕ) (l : Locals) (fs : List MachineFrame) (pt : Point) (x : Thread)
-      → is_monitor p c.monitor ≡ true → valid p (SequenceOf c) ≡ true → pt ≢ Runs → WaitsAt p t c base l fs pt x
+      → is_monitor p c.monitor ≡ true → valid p (SequenceOf c) ≡ true → pt ≢ Runs
+      → WaitsAt (leave_length p.version) (release_of p.version) p t c base l fs pt x
       → Taking p t c.monitor pt
   deferred c base l fs pt x there is ne L.WaitsAt.numbers =
       record { template = tt; askable = is; got = λ n u e. absurd cc }
@@ -98,13 +112,13 @@ module _ (p : Program) (t : ℕ) (some : 0 < t) (few : t ≤ most_of p.version) 
   deferred c base l fs pt x there is ne (L.WaitsAt.cuts v h) =
       record { template = tt; askable = mine; got = λ n u e. absurd cc }
   deferred c base l fs pt x there is ne (L.WaitsAt.swaps v) =
-      record { template = tt; askable = there; got = λ n u e. absurd cc }
+      record { template = tt; askable = swap_askable p.version c.monitor there; got = λ n u e. absurd cc }
   deferred c base l fs pt x there is ne (L.WaitsAt.wakes v) =
       record { template = tt; askable = there; got = λ n u e. absurd cc }
   deferred c base l fs pt x there is ne (L.WaitsAt.sleeps v) =
       record { template = tt; askable = is; got = λ n u e. absurd cc }
   deferred c base l fs pt x there is ne (L.WaitsAt.takes h) =
-      taking c.monitor (ToResume c) (base + 24) l.values fs pt x there ne h
+      taking c.monitor (ToResume c) (base + wait_takes p.version) l.values fs pt x there ne h
 
   notifying : (c : Member) (base : ℕ) (l : Locals) (fs : List MachineFrame) (pt : Point) (x : Thread)
       → valid p (SequenceOf c) ≡ true → pt ≢ Runs → NotifiesAt p c base l fs pt x → Taking p t c.monitor pt
@@ -139,7 +153,7 @@ module _ (p : Program) (t : ℕ) (some : 0 < t) (few : t ≤ most_of p.version) 
   -- takes a monitor of the program
   pub record InTemplate (pt : Point) : Type 0 where
     pub template : IsTemplate pt
-    pub askable : IsAskable p (request t pt)
+    pub askable : IsAskable p (request (release_of p.version) t pt)
     pub got : (n v : ℕ) → pt ≡ GotHeads n v → n < length p.monitors
 
   in_all : (m : ℕ) (pt : Point) → is_monitor p m ≡ true → Taking p t m pt → InTemplate pt

@@ -24,6 +24,7 @@ use Rattle.protocol.specs.Answers.{Serves, next}
 use Rattle.protocol.specs.Served.{MayAnswer, source_event}
 use Rattle.words.proofs.Updates.{put_same}
 use Rattle.proof_simulation.specs.Ranks.{rank}
+use Rattle.protocol.specs.Rules.{ReleaseRule}
 
 -- a point of a template of monitors and conditions
 abbrev pub IsTemplate : Point → Type 0
@@ -94,25 +95,25 @@ module _ (more : ℕ) (w : World) (T : Table) (t r : ℕ) (w' : World) (e : End)
   abbrev Falls : ℕ → ℕ → Point → Type 0
   Falls extra n to = rank more after to + 12 + extra < n
 
-  pub rank_falls : (pt : Point) → IsTemplate pt → Serves w t pt (request t pt) r w' → MayAnswer pt r
+  pub rank_falls : (u : ReleaseRule) (pt : Point) → IsTemplate pt → Serves w t pt (request u t pt) r w' → MayAnswer pt r
       → source_event w T t pt r w' e ≡ None → next w e pt r ≢ Runs
       → Falls (spare_at pt) (rank more w pt) (next w e pt r)
-  rank_falls Unmade is serves may none on = absurd is
-  rank_falls Runs is serves may none on = absurd is
-  rank_falls (EnterPends m) is serves may none on = omega arith
-  rank_falls (EnterTries m) is serves may none on =
+  rank_falls u Unmade is serves may none on = absurd is
+  rank_falls u Runs is serves may none on = absurd is
+  rank_falls u (EnterPends m) is serves may none on = omega arith
+  rank_falls u (EnterTries m) is serves may none on =
       let b = none_chosen (r == 0) _ none in
       chosen (Falls 0 52) (r == 0) (GotReads m 0) (TakeReads m ToEnter) (λ h. absurd (cc (h, b))) (λ h. omega arith)
-  rank_falls (ReenterPends m) is serves may none on = omega arith
-  rank_falls (ReenterTries m) is serves may none on =
+  rank_falls u (ReenterPends m) is serves may none on = omega arith
+  rank_falls u (ReenterTries m) is serves may none on =
       chosen (Falls 0 52) (r == 0) (GotReads m 0) (TakeReads m ToReenter) (λ h. absurd (may (eqb-true r 0 h)))
       (λ h. omega arith)
-  rank_falls (TakeReads m k) is serves may none on =
+  rank_falls u (TakeReads m k) is serves may none on =
       let same : w'.lock m ≡ r = ap (λ (x : World). x.lock m) serves.1 ∙ sym serves.0 in
       chosen (Falls 0 35) (owner r == 0) (TakeTries m r k) (TakeMarks m r k)
       (λ h. let x = fresh (w'.lock m) r 4 52 same in omega (arith, x))
       (λ h. let x = fresh (w'.lock m) r 18 52 same in omega (arith, x))
-  rank_falls (TakeMarks m v k) is serves may none on = elim serves.1 [
+  rank_falls u (TakeMarks m v k) is serves may none on = elim serves.1 [
     | inl z ↦
         let now : w'.lock m ≡ with_waiters v =
         ap (λ (x : World). x.lock m) z.1 ∙ put_same w.lock m (with_waiters v) in
@@ -125,54 +126,54 @@ module _ (more : ℕ) (w : World) (T : Table) (t r : ℕ) (w' : World) (e : End)
         chosen (Falls 0 (rank more w (TakeMarks m v k))) (r == v) (TakeSleeps m (with_waiters v) k) (TakeReads m k)
         (λ h. absurd (z.0 (sym serves.0 ∙ eqb-true r v h))) (λ h. omega (arith, was))
   ]
-  rank_falls (TakeSleeps m v k) is serves may none on = elim serves [
+  rank_falls u (TakeSleeps m v k) is serves may none on = elim serves [
     | inl z ↦ absurd (slept (w'.asleep t) (OnLock m)
         (ap (λ (x : World). x.asleep t) z.1 ∙ put_same w.asleep t (Some (OnLock m))) awake)
     | inr z ↦ let was = stale (w.lock m) v 4 52 z.0 in omega (arith, was)
   ]
-  rank_falls (TakeTries m v k) is serves may none on = elim serves.1 [
+  rank_falls u (TakeTries m v k) is serves may none on = elim serves.1 [
     | inl z ↦ let b = none_chosen (r == v) _ none in absurd (cc (b, eq-eqb r v (serves.0 ∙ z.0)))
     | inr z ↦
         let was = stale (w.lock m) v 4 52 z.0 in
         chosen (Falls 0 (rank more w (TakeTries m v k))) (r == v) (GotReads m v) (TakeReads m k)
         (λ h. absurd (z.0 (sym serves.0 ∙ eqb-true r v h))) (λ h. omega (arith, was))
   ]
-  rank_falls (GotReads m v) is serves may none on = omega arith
-  rank_falls (GotLinks m v h) is serves may none on = omega arith
-  rank_falls (GotHeads m v) is serves may none on = omega arith
-  rank_falls (GotUnpends m v) is serves may none on = absurd (on refl)
-  rank_falls (WaitReads c) is serves may none on = omega arith
-  rank_falls (NotifyAdds c) is serves may none on = omega arith
-  rank_falls (NotifyWakes c) is serves may none on = absurd cc
-  rank_falls (BroadcastAdds c) is serves may none on = omega arith
-  rank_falls (BroadcastMarks c) is serves may none on = omega arith
-  rank_falls (BroadcastReads c) is serves may none on = omega arith
-  rank_falls (BroadcastMoves c s) is serves may none on = absurd cc
-  rank_falls (JoinReads q) is serves may none on = absurd is
-  rank_falls (JoinSleeps q) is serves may none on = absurd is
-  rank_falls (JoinLearns q end) is serves may none on = absurd is
-  rank_falls (JoinTakes q end) is serves may none on = absurd is
-  rank_falls (MeetsClaimed q) is serves may none on = absurd is
-  rank_falls (LeavePends m k) is serves may none on = omega arith
-  rank_falls (LeaveReads m k) is serves may none on = omega arith
-  rank_falls (LeaveHeads m h k) is serves may none on = omega arith
-  rank_falls (LeaveSwaps m k) is serves may none on = absurd cc
-  rank_falls (LeaveLoads m k) is serves may none on = absurd serves
-  rank_falls (LeaveKeeps m v k) is serves may none on = absurd serves
-  rank_falls (LeaveClears m k) is serves may none on = absurd serves
-  rank_falls (LeaveWakes m ToExit) is serves may none on = omega arith
-  rank_falls (LeaveWakes m (ToWait c s)) is serves may none on = omega arith
-  rank_falls (HasLeft m ToExit) is serves may none on = absurd (on refl)
-  rank_falls (HasLeft m (ToWait c s)) is serves may none on = elim serves [
+  rank_falls u (GotReads m v) is serves may none on = omega arith
+  rank_falls u (GotLinks m v h) is serves may none on = omega arith
+  rank_falls u (GotHeads m v) is serves may none on = omega arith
+  rank_falls u (GotUnpends m v) is serves may none on = absurd (on refl)
+  rank_falls u (WaitReads c) is serves may none on = omega arith
+  rank_falls u (NotifyAdds c) is serves may none on = omega arith
+  rank_falls u (NotifyWakes c) is serves may none on = absurd cc
+  rank_falls u (BroadcastAdds c) is serves may none on = omega arith
+  rank_falls u (BroadcastMarks c) is serves may none on = omega arith
+  rank_falls u (BroadcastReads c) is serves may none on = omega arith
+  rank_falls u (BroadcastMoves c s) is serves may none on = absurd cc
+  rank_falls u (JoinReads q) is serves may none on = absurd is
+  rank_falls u (JoinSleeps q) is serves may none on = absurd is
+  rank_falls u (JoinLearns q end) is serves may none on = absurd is
+  rank_falls u (JoinTakes q end) is serves may none on = absurd is
+  rank_falls u (MeetsClaimed q) is serves may none on = absurd is
+  rank_falls u (LeavePends m k) is serves may none on = omega arith
+  rank_falls u (LeaveReads m k) is serves may none on = omega arith
+  rank_falls u (LeaveHeads m h k) is serves may none on = omega arith
+  rank_falls u (LeaveSwaps m k) is serves may none on = absurd cc
+  rank_falls u (LeaveLoads m k) is serves may none on = absurd serves
+  rank_falls u (LeaveKeeps m v k) is serves may none on = absurd serves
+  rank_falls u (LeaveClears m k) is serves may none on = absurd serves
+  rank_falls u (LeaveWakes m ToExit) is serves may none on = omega arith
+  rank_falls u (LeaveWakes m (ToWait c s)) is serves may none on = omega arith
+  rank_falls u (HasLeft m ToExit) is serves may none on = absurd (on refl)
+  rank_falls u (HasLeft m (ToWait c s)) is serves may none on = elim serves [
     | inl z ↦ absurd (slept (w'.asleep t) (OnSequence c)
         (ap (λ (x : World). x.asleep t) z.1 ∙ put_same w.asleep t (Some (OnSequence c))) awake)
     | inr z ↦ omega arith
   ]
-  rank_falls (Dies cause x) is serves may none on = absurd is
-  rank_falls (Walks a x end) is serves may none on = absurd is
-  rank_falls (ClearsId end) is serves may none on = absurd is
-  rank_falls (LastWakes end) is serves may none on = absurd is
-  rank_falls (HasEnded end) is serves may none on = absurd is
+  rank_falls u (Dies cause x) is serves may none on = absurd is
+  rank_falls u (Walks a x end) is serves may none on = absurd is
+  rank_falls u (ClearsId end) is serves may none on = absurd is
+  rank_falls u (LastWakes end) is serves may none on = absurd is
+  rank_falls u (HasEnded end) is serves may none on = absurd is
 
   -- behind the template there are so many more at most
   if_runs : (b : Bool) (x y : Point) → (x ≡ Runs → ⊥) → (y ≡ Runs → ⊥) → (if b then x else y) ≡ Runs → ⊥

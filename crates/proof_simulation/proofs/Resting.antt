@@ -25,6 +25,8 @@ use Rattle.meaning.specs.Processes.{Process}
 use Rattle.meaning.specs.Offers.{Effect, offer, TakesUp}
 use Rattle.meaning.specs.States.{SourceState}
 use Rattle.meaning.specs.Runs.{CanMove}
+use Rattle.lowering.specs.Locks.{leave_length}
+use Rattle.protocol.specs.Rules.{release_of}
 use Rattle.protocol.specs.Points.{Purpose, ToEnter, ToReenter, ToResume, Spot, Point, Unmade, Walks, HasEnded}
 use Rattle.protocol.specs.Points.{Entry as PendingEntry, NoEntry, Owned, Unowned, entry_word, taking_entry}
 use Rattle.protocol.specs.World.{World}
@@ -198,7 +200,8 @@ module _ (p : Program) (t n i : ℕ) (is : n ≡ suc i) where
       let there = monitor_valid p m (subst (λ (q : Program). m < length q.monitors) same fits.monitor) in
       by_point there pt x stands e
     where
-      by_point : is_monitor p m ≡ true → (pt : Point) (x : Thread) → ExitsAt p t m base shown l fs pt x → PendAt pt n
+      by_point : is_monitor p m ≡ true → (pt : Point) (x : Thread)
+          → ExitsAt (leave_length p.version) (release_of p.version) p t m base shown l fs pt x → PendAt pt n
           → is_monitor p i ≡ true
       by_point there pt x L.ExitsAt.pends e = none e
       by_point there pt x L.ExitsAt.reads e = here m e there
@@ -211,7 +214,8 @@ module _ (p : Program) (t n i : ℕ) (is : n ≡ suc i) where
       let there = home c (subst (λ (q : Program). member_type q c ≡ Some Condition) same fits.condition) in
       by_point there pt x stands e
     where
-      by_point : is_monitor p c.monitor ≡ true → (pt : Point) (x : Thread) → WaitsAt p t c base l fs pt x → PendAt pt n
+      by_point : is_monitor p c.monitor ≡ true → (pt : Point) (x : Thread)
+          → WaitsAt (leave_length p.version) (release_of p.version) p t c base l fs pt x → PendAt pt n
           → is_monitor p i ≡ true
       by_point there pt x L.WaitsAt.numbers e = none e
       by_point there pt x (L.WaitsAt.pends v) e = none e

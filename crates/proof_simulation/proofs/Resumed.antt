@@ -25,6 +25,7 @@ use Rattle.proof_templates.specs.Layout.{place, valid}
 use Rattle.proof_templates.proofs.Layouts.{apart}
 use Rattle.proof_simulation.specs.Ordering.{Resumes, sleeps_on, awake_waiters}
 use Rattle.proof_simulation.specs.Serving.{IsAskable}
+use Rattle.protocol.specs.Rules.{release_of}
 
 module _ (p : Program) (s : State) (w : World) (T : Table) where
   -- no label of another kind resumes
@@ -88,7 +89,8 @@ module _ (p : Program) (s : State) (w : World) (T : Table) where
 
   pub who_resumes : (t : ℕ) (pt : Point) (r : ℕ) (w' : World) (e : End) (u : ℕ) (label : Label) → s.made ≡ w.made
       → ((u : ℕ) → s.asleep u ≡ sleep_address (place p) (w'.asleep u))
-      → ((u : ℕ) (x : Spot) → w'.asleep u ≡ Some x → valid p (cell_of x) ≡ true) → IsAskable p (request t pt)
+      → ((u : ℕ) (x : Spot) → w'.asleep u ≡ Some x → valid p (cell_of x) ≡ true)
+      → IsAskable p (request (release_of p.version) t pt)
       → source_event w T t pt r w' e ≡ Some (Acts u label) → Resumes p s T label
   who_resumes t (EnterTries m) r w' e u label made sleeps spots ok h = if_so (r == 0) u t _ label tt h
   who_resumes t (TakeTries m v k) r w' e u label made sleeps spots ok h =

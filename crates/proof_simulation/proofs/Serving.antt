@@ -46,6 +46,8 @@ use Rattle.proof_templates.proofs.Addresses.{variable_apart}
 use Rattle.proof_simulation.specs.Serving.{IsAskable, Keeps, IsServed}
 use Rattle.proof_pieces.specs.WholeCalls.{ServesWhole}
 use Rattle.proof_simulation.proofs.Pigeons.{short}
+use Rattle.protocol.specs.Rules.{ReleaseRule, ClearsWord, KeepsWaiters, TidiesWaiters, DropsOwner, release_of}
+use Rattle.protocol.specs.Requests.{given_up}
 
 -- what is served for a request, whatever point asks it
 pub record IsAnswered (p : Program) (s mid : State) (w : World) (t : ℕ) (pt : Point) (r : Request)
@@ -402,42 +404,56 @@ module _ (p : Program) (s : State) (w : World) (t : ℕ) (pt : Point)
         (h.1.0 ∙ shares.words.word (HeadOf t) ok)
 
 -- points make usual requests
-usual_leave : (t m : ℕ) (k : Release) → IsUsual (request t (HasLeft m k))
-usual_leave t m ToExit = tt
-usual_leave t m (ToWait c s) = tt
+usual_leave : (u : ReleaseRule) (t m : ℕ) (k : Release) → IsUsual (request u t (HasLeft m k))
+usual_leave u t m ToExit = tt
+usual_leave u t m (ToWait c s) = tt
 
-usual : (t : ℕ) (pt : Point) → IsUsual (request t pt)
-usual t (EnterPends m) = tt
-usual t (EnterTries m) = tt
-usual t (ReenterPends m) = tt
-usual t (ReenterTries m) = tt
-usual t (TakeMarks m v k) = tt
-usual t (TakeTries m v k) = tt
-usual t (GotLinks m v h) = tt
-usual t (GotHeads m v) = tt
-usual t (GotUnpends m v) = tt
-usual t (NotifyAdds c) = tt
-usual t (BroadcastAdds c) = tt
-usual t (BroadcastMarks c) = tt
-usual t (LeavePends m r) = tt
-usual t (LeaveHeads m h r) = tt
-usual t (LeaveSwaps m r) = tt
-usual t (HasLeft m r) = usual_leave t m r
-usual t pt = tt
+usual_swap : (u : ReleaseRule) (t m : ℕ) → IsUsual (given_up u t m)
+usual_swap ClearsWord t m = tt
+usual_swap KeepsWaiters t m = tt
+usual_swap TidiesWaiters t m = tt
+usual_swap DropsOwner t m = tt
+
+usual : (u : ReleaseRule) (t : ℕ) (pt : Point) → IsUsual (request u t pt)
+usual u t (EnterPends m) = tt
+usual u t (EnterTries m) = tt
+usual u t (ReenterPends m) = tt
+usual u t (ReenterTries m) = tt
+usual u t (TakeMarks m v k) = tt
+usual u t (TakeTries m v k) = tt
+usual u t (GotLinks m v h) = tt
+usual u t (GotHeads m v) = tt
+usual u t (GotUnpends m v) = tt
+usual u t (NotifyAdds c) = tt
+usual u t (BroadcastAdds c) = tt
+usual u t (BroadcastMarks c) = tt
+usual u t (LeavePends m r) = tt
+usual u t (LeaveHeads m h r) = tt
+usual u t (LeaveSwaps m r) = usual_swap u t m
+usual u t (HasLeft m r) = usual_leave u t m r
+usual u t pt = tt
 
 -- the number of a requeue is still the word's
 abbrev pub IsFresh : World → Request → Type 0
 IsFresh w (AskRequeue c v) = v ≡ w.sequence c
 IsFresh w r = Unit {0}
 
-fresh_leave : (w : World) (t m : ℕ) (k : Release) → IsFresh w (request t (HasLeft m k))
-fresh_leave w t m ToExit = tt
-fresh_leave w t m (ToWait c s) = tt
+fresh_leave : (u : ReleaseRule) (w : World) (t m : ℕ) (k : Release) → IsFresh w (request u t (HasLeft m k))
+fresh_leave u w t m ToExit = tt
+fresh_leave u w t m (ToWait c s) = tt
 
-fresh_request : (w : World) (t : ℕ) (pt : Point) → FreshAt w.sequence pt → IsFresh w (request t pt)
-fresh_request w t (BroadcastMoves c s) h = h
-fresh_request w t (HasLeft m r) h = fresh_leave w t m r
-fresh_request w t pt h = tt
+fresh_swap : (u : ReleaseRule) (w : World) (t m : ℕ) → IsFresh w (given_up u t m)
+fresh_swap ClearsWord w t m = tt
+fresh_swap KeepsWaiters w t m = tt
+fresh_swap TidiesWaiters w t m = tt
+fresh_swap DropsOwner w t m = tt
+
+fresh_request : (u : ReleaseRule) (w : World) (t : ℕ) (pt : Point) → FreshAt w.sequence pt
+    → IsFresh w (request u t pt)
+fresh_request u w t (BroadcastMoves c s) h = h
+fresh_request u w t (LeaveSwaps m r) h = fresh_swap u w t m
+fresh_request u w t (HasLeft m r) h = fresh_leave u w t m r
+fresh_request u w t pt h = tt
 
 -- what a thread at a point knows of the number there
 pub fresh_at : (w : World) (T : Table) → Good w T → (t : ℕ) (pt : Point) → (w.at t).point ≡ pt → FreshAt w.sequence pt
@@ -501,12 +517,13 @@ sleeper_few w T good u c e =
 pub served : (p : Program) (s : State) (w : World) (T : Table) (t : ℕ) (pt : Point) (asks : M.Request) (woken : List ℕ)
     (answer : ℕ) (mid : State) → Shares (place p) (valid p) (shared_of s) w → Good w T → 0 < t
     → t ≤ most_of p.version → ((c : Member) → w.sequence c + 1 < 4294967296) → FreshAt w.sequence pt
-    → IsAskable p (request t pt)
-    → machine_request p (request t pt) ≡ Some asks
+    → IsAskable p (request (release_of p.version) t pt)
+    → machine_request p (request (release_of p.version) t pt) ≡ Some asks
     → ServesWhole t asks s woken answer mid → IsServed p s mid w t pt answer
 served p s w T t pt asks woken answer mid shares good some few low fresh ok e h =
-    let a = answered p s w t pt (request t pt) asks woken answer mid shares some few low
-    (λ u c z. sleeper_few w T good u c z) (fresh_request w t pt fresh) (usual t pt) ok e h in
+    let a = answered p s w t pt (request (release_of p.version) t pt) asks woken answer mid shares some few low
+    (λ u c z. sleeper_few w T good u c z) (fresh_request (release_of p.version) w t pt fresh) (usual (release_of
+    p.version) t pt) ok e h in
     record {
       reply = a.reply;
       after = a.after;

@@ -19,25 +19,24 @@ use Rattle.protocol.specs.Points.{Purpose, ToEnter, ToReenter, ToResume, Spot, O
 use Rattle.protocol.specs.Points.{TakeReads, JoinReads, JoinSleeps}
 use Rattle.protocol.specs.Cells.{Cell, LockOf, cell_of}
 use Rattle.protocol.specs.Exits.{sleep_address}
-use Rattle.protocol.specs.Rules.{standard_rules}
-use Rattle.protocol.specs.Runs.{HoldIs, Matches}
+use Rattle.protocol.specs.Rules.{ReleaseRule, ClearsWord, release_of, version_rules}
+use Rattle.protocol.specs.Runs.{FreeIs, HoldIs, Matches}
 use Rattle.protocol.proofs.Good.{Good}
 use Rattle.protocol.proofs.Rest.{no_wake_lost}
 use Rattle.protocol.proofs.Roles.{may_sleep, point_sleeps}
 use Rattle.protocol.proofs.Joins.{joins, point_joins}
 use Rattle.protocol.proofs.Conds.{Stage, stage, stage_of}
-use Rattle.protocol.proofs.Waits.{HomeAt}
 use Rattle.refinement.specs.Built.{build_of}
 use Rattle.refinement.specs.Monitors.{hold_told, machine_hold, SleepsFor, StandsAsleep}
 use Rattle.refinement.specs.Monitors as M
-use Rattle.proof_templates.specs.Layout.{place, valid}
+use Rattle.proof_templates.specs.Layout.{place}
 use Rattle.proof_templates.specs.Locking as L
 use Rattle.proof_templates.specs.Notifying as N
 use Rattle.proof_templates.specs.Inside.{Template, Enters, Exits, Waits, Notifies, Broadcasts, process_at, StandsIn}
 use Rattle.proof_templates.proofs.Layouts.{monitor_valid}
 use Rattle.proof_simulation.specs.Standing as S
 use Rattle.proof_simulation.specs.Standing.{StandsAt}
-use Rattle.proof_simulation.specs.Corresponding.{Reached, Corresponds}
+use Rattle.proof_simulation.specs.Corresponding.{Corresponds}
 use Rattle.proof_simulation.proofs.Worlds.{reached_good}
 
 -- a thread was made just where its process was
@@ -47,19 +46,21 @@ made_both p w made v t o q pt l S.unmade = refl
 made_both p w made v t o q pt l stand = refl
 
 -- what a lock word tells is the monitor's state
-told_free : (v : ℕ) → v ≡ 0 → hold_told (owner_of v) (died_of v) ≡ Free
-told_free v e = subst (λ n. hold_told (owner_of n) (died_of n) ≡ Free) (sym e) refl
+told_free : (u : ReleaseRule) (v : ℕ) → FreeIs u v → hold_told (owner_of v) (died_of v) ≡ Free
+unfolding owner owner_died_bit
+told_free ClearsWord v is = subst (λ n. hold_told (owner_of n) (died_of n) ≡ Free) (sym is) refl
+told_free u v is = ap (λ n. hold_told n (died_of v)) is.0 ∙ ap (λ n. hold_told 0 (not (n == 0))) is.1
 
 told_held : (t : ℕ) → 0 < t → hold_told t false ≡ HeldBy t
 told_held zero some = absurd (omega (arith, some))
 told_held (suc t) some = refl
 
-told : (h : Hold) (v : ℕ) → HoldIs standard_rules.release h v → hold_told (owner_of v) (died_of v) ≡ h
+told : (u : ReleaseRule) (h : Hold) (v : ℕ) → HoldIs u h v → hold_told (owner_of v) (died_of v) ≡ h
 unfolding owner owner_died_bit
-told Free v is = told_free v is
-told (HeldBy t) v is =
+told u Free v is = told_free u v is
+told u (HeldBy t) v is =
     ap (λ n. hold_told n (died_of v)) is.0 ∙ ap (λ n. hold_told t (not (n == 0))) is.2 ∙ told_held t is.1
-told Abandoned v is = ap (λ n. hold_told n (died_of v)) is.0 ∙ ap (λ n. hold_told 0 (not (n == 0))) is.1
+told u Abandoned v is = ap (λ n. hold_told n (died_of v)) is.0 ∙ ap (λ n. hold_told 0 (not (n == 0))) is.1
 
 -- a process that takes a monitor's lock, for this purpose
 pub data Takes (m : ℕ) : Purpose → Process → Type 0 where
@@ -135,8 +136,8 @@ module _ (p : Program) (w : WellFormed p) (steps : ℕ) (s : State) (c : SourceS
   inv : Good k.world c.table
   inv = reached_good p.version k.world c.table k.reached
 
-  table : Matches standard_rules k.world c.table
-  table = subst (λ x. Matches standard_rules k.world x) (sym k.reached.table)
+  table : Matches (version_rules p.version) k.world c.table
+  table = subst (λ x. Matches (version_rules p.version) k.world x) (sym k.reached.table)
       (no_wake_lost p.version k.reached.moves k.world k.reached.led).matches
 
   pub made : (q : ℕ) → is_some (s.thread q) ≡ is_some (c.process q)
@@ -146,7 +147,7 @@ module _ (p : Program) (w : WellFormed p) (steps : ℕ) (s : State) (c : SourceS
   pub locks : (m : ℕ) → m < length p.monitors → machine_hold p s m ≡ c.table.hold m
   locks m below =
       ap (λ v. hold_told (owner_of v) (died_of v)) (k.shares.words.word (LockOf m) (monitor_valid p m below))
-      ∙ told (c.table.hold m) (k.world.lock m) (table.hold m)
+      ∙ told (release_of p.version) (c.table.hold m) (k.world.lock m) (table.hold m)
 
   module _ (q : ℕ) where
     abbrev pt : Point

@@ -22,6 +22,9 @@ use Rattle.proof_templates.specs.Inside.{TemplateFits}
 use Rattle.proof_templates.specs.Inside.{IsSteady, IsBeforeRelease, SameBefore}
 use Rattle.proof_simulation.specs.Standing.{IsChild, StandsAt, unmade, works, returns, inside, faults, killed, refused}
 use Rattle.proof_simulation.specs.Standing.{reads, sleeps, learns, takes, walks, clears, wakes, rests}
+use Rattle.lowering.specs.Conditions.{wait_takes, wait_recovers}
+use Rattle.lowering.specs.Locks.{leave_length}
+use Rattle.protocol.specs.Rules.{release_of}
 
 -- the first of a list is on it
 pub first_in : (m : ℕ) (ms l : List ℕ) → l ≡ m ∷ ms → mem m l ≡ true
@@ -49,7 +52,8 @@ same_on own u v v' h g m e n i = h m e n i ∙ g m e n i
 
 -- in the giving up of a monitor the thread has it until the swap of its lock word: on its list, or as its entry
 exit_has : (p : Program) (t m base : ℕ) (shown : Option ℕ) (l : Locals) (fs : List MachineFrame) (before : Process)
-    (z : ℤ) (cs : List Caller) (pt : Point) (x : Thread) → ExitsAt p t m base shown l fs pt x → IsBeforeRelease pt
+    (z : ℤ) (cs : List Caller) (pt : Point) (x : Thread) → ExitsAt (leave_length p.version) (release_of p.version) p t
+    m base shown l fs pt x → IsBeforeRelease pt
     → (mem m (list_at (Exits m base shown l fs before z cs) pt) ≡ true) ⊎ (entry_at pt ≡ Owned m)
 exit_has p t m base shown l fs before z cs pt x L.ExitsAt.pends b = inl (first_in m _ _ refl)
 exit_has p t m base shown l fs before z cs pt x L.ExitsAt.reads b = inl (first_in m _ _ refl)
@@ -73,7 +77,8 @@ take_none p t m k first values fs pt x (L.Takes.enters v h) b = b
 take_none p t m k first values fs pt x (L.Takes.recovers v h) b = b
 
 wait_has : (p : Program) (t : ℕ) (c : Member) (base : ℕ) (l : Locals) (fs : List MachineFrame) (before : Process)
-    (f : Frame) (cs : List Caller) (ms : List ℕ) (pt : Point) (x : Thread) → WaitsAt p t c base l fs pt x
+    (f : Frame) (cs : List Caller) (ms : List ℕ) (pt : Point) (x : Thread)
+    → WaitsAt (leave_length p.version) (release_of p.version) p t c base l fs pt x
     → IsBeforeRelease pt
     → (mem c.monitor (list_at (Waits c base l fs before f cs ms) pt) ≡ true) ⊎ (entry_at pt ≡ Owned c.monitor)
 wait_has p t c base l fs before f cs ms pt x L.WaitsAt.numbers b = inl (first_in c.monitor _ _ refl)
@@ -84,7 +89,7 @@ wait_has p t c base l fs before f cs ms pt x (L.WaitsAt.swaps v) b = inr refl
 wait_has p t c base l fs before f cs ms pt x (L.WaitsAt.wakes v) b = absurd b
 wait_has p t c base l fs before f cs ms pt x (L.WaitsAt.sleeps v) b = absurd b
 wait_has p t c base l fs before f cs ms pt x (L.WaitsAt.takes h) b =
-    absurd (take_none p t c.monitor (ToResume c) (base + 24) l.values fs pt x h b)
+    absurd (take_none p t c.monitor (ToResume c) (base + wait_takes p.version) l.values fs pt x h b)
 
 module _ (b : Build) (made : ℕ) (le : b.made ≤ made) (v v' : Variables) (t : ℕ) where
   steady_moves : (q : Process) → IsSteady b.program q v → SameIn (own_of q) v v' → IsSteady b.program q v'
@@ -116,7 +121,7 @@ module _ (b : Build) (made : ℕ) (le : b.made ≤ made) (v v' : Variables) (t :
     had = h.had;
     held = h.held;
     code = h.code;
-    after = goes_on_grows b made le t c.monitor (base + 73) l fs f cs h.after;
+    after = goes_on_grows b made le t c.monitor (base + wait_recovers b.program.version) l fs f cs h.after;
   }
   fits_grows u (Notifies c base l fs before after ms) h = record {
     condition = h.condition;

@@ -59,6 +59,8 @@ use Rattle.proof_simulation.proofs.Offering.{acts_now, same_next}
 use Rattle.proof_simulation.specs.Deferred.{Stage, stages, stage_of, Agrees, raised_at}
 use Rattle.proof_thread.specs.Deferrals.{mark_of, deferred_by_request}
 use Rattle.proof_simulation.specs.Deferred as W
+use Rattle.protocol.specs.Rules.{release_of}
+use Rattle.proof_templates.proofs.Negated.{most_few}
 
 -- a thread that comes within a few steps to where it stands for a process works at what the process offers
 pub works_on : (p : Program) (w : WellFormed p) (made : ℕ) (v : Variables) (t : ℕ) (x y : Thread) (q : Process)
@@ -150,7 +152,7 @@ module _ (p : Program) (w : WellFormed p) (steps : ℕ) (s : State) (c : SourceS
         (told_of : deferral ≡ deferred_by_request (mark_of (marks_of p) x) goes.asks answer)
         (raise : raises ≡ is_raise goes.asks) where
       abbrev y : Thread
-      y = goes.go (machine_answer p (request t pt) sv.reply)
+      y = goes.go (machine_answer p (request (release_of p.version) t pt) sv.reply)
 
       came : s' ≡ with_thread mid t y
       came = e' ∙ ap (λ a. with_thread mid t (goes.go a)) sv.told
@@ -184,7 +186,8 @@ module _ (p : Program) (w : WellFormed p) (steps : ℕ) (s : State) (c : SourceS
                 (same_next k.world e kind pt sv.reply u c.variable within.template same) off at,
             λ none z.
                 let less = rank_falls (more_steps b) k.world c.table t sv.reply sv.after e (next k.world e pt sv.reply)
-                (next_list pt (k.world.at t).list) (after_awake z) pt within.template sv.serves may none off in
+                (next_list pt (k.world.at t).list) (after_awake z) (release_of p.version) pt within.template sv.serves
+                may none off in
                 omega (arith, less, enough),
           ))
       fine e may q l z walk (inr (off, at, on)) =
@@ -245,7 +248,8 @@ module _ (p : Program) (w : WellFormed p) (steps : ℕ) (s : State) (c : SourceS
           came
           (told_of ∙ point_deferral p (mark_of (marks_of p) x) t pt answer goes.asks
           (template_works pt within.template) goes.same)
-          (raise ∙ point_raises p t pt goes.asks goes.same)
+          (raise ∙ point_raises p t (let h = most_few p.version in omega (arith, number.1, few, h)) pt goes.asks
+          goes.same)
           (subst (λ (i : Stage). Agrees i false) (sym (template_works pt within.template)) refl)
           shown (λ e u label h. who_resumes p s' k.world c.table t pt sv.reply sv.after e u label
           (ap (λ (x : State). x.made) came ∙ sv.keeps.made ∙ k.made)

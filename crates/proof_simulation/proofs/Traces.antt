@@ -1,6 +1,7 @@
 -- A run of the machine is a trace without silent steps, along which the source comes to the same.
 use Rattle.std.proofs.Common.{◌≡◌, ℕ, true, List, [], ◌∷◌, inl, refl, ap, sym, ◌∙◌, arith}
 use Rattle.std.proofs.lemmas.Bool.{false≢true}
+use Rattle.robustexit.specs.ExitRules.{exit_of}
 use Rattle.locals.specs.Looks.{look}
 use Rattle.machine.specs.States.{State}
 use Rattle.machine.specs.Runs.{Doing, Own, Strayed, Killed, is_own, Step, IsOwnStep, IsDone, GoesBy}
@@ -35,7 +36,7 @@ own_same p s s' l st g =
     let looks = look (code_of p) l.thread st.thread in
     ap (λ (a : ℕ). progress_step p (visible_step p s.word l.thread looks a)
     (deferred_by_step (mark_of (marks_of p) st.thread) looks a) (raises_number looks) s' l.thread g)
-    (answer_same s s' l.thread l.woken looks st.moves)
+    (answer_same (exit_of p.version) s s' l.thread l.woken looks st.moves)
 
 done_same : (p : Program) (s s' : State) (l : Step) (d : Doing) (st : IsDone (code_of p) s l s' d) (g : Progress)
     → progress_whole p s s' l d (whole_done p s l s' d st) g ≡ progress_done p s s' l d st g

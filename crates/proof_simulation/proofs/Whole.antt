@@ -3,6 +3,7 @@ use Rattle.std.proofs.Common.{◌≡◌, ◌⊎◌, ℕ, zero, suc, ◌+◌, ◌
 use Rattle.std.proofs.Common.{refl, sym, subst, arith, Option, Some, None, ◌∙◌, inl, inr}
 use Rattle.std.specs.Prelude.{map, filter, is_some, if◌then◌else◌, ◌^◌, not}
 use Rattle.locals.specs.Threads.{Thread, is_dying}
+use Rattle.robustexit.specs.ExitRules.{exit_of}
 use Rattle.locals.specs.Looks.{Look, Goes, Asks, Leaves, Breaks, Rests, look}
 use Rattle.locals.specs.Steps.{local_next, and_step, local_after}
 use Rattle.machine.specs.States.{State, opening_state, with_thread}
@@ -198,7 +199,7 @@ module _ (p : Program) (w : WellFormed p) where
       let t = l.thread in
       let looks = look (code_of p) t st.thread in
       let mark = mark_of (marks_of p) st.thread in
-      let answer = answer_whole s s' t l.woken looks st.moves in
+      let answer = answer_whole (exit_of p.version) s s' t l.woken looks st.moves in
       let done = visible_step p s.word t looks answer in
       let deferral = deferred_by_step mark looks answer in
       let n = next_spared p w steps s c k t l.woken s' st.thread st.stands st.awake done (raises_number looks) deferral
@@ -476,7 +477,8 @@ module _ (p : Program) (w : WellFormed p) where
       let after = with_thread mid t y in
       let looks = look (code_of p) t m in
       let mark = mark_of (marks_of p) m in
-      let moves : Moves mid t [] looks after = subst (λ (l : Look). Moves mid t [] l after) (sym h) (refl, refl) in
+      let moves : Moves (exit_of p.version) mid t [] looks after =
+      subst (λ (l : Look). Moves (exit_of p.version) mid t [] l after) (sym h) (refl, refl) in
       let so = told_apart p mid t [] looks after moves in
       let deferral = told_deferral p so.0 mark mid t [] looks after so.1 in
       let n = next p w r.taken mid r.source r.ties t [] after m (put_same s.thread t (Some m)) awake so.0

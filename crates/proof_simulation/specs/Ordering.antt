@@ -32,6 +32,7 @@ pub use Rattle.refinement.specs.Outside.{any_below}
 use Rattle.proof_pieces.specs.WholeCalls.{ServesWhole}
 use Rattle.proof_simulation.specs.Deferred.{Stage, Works, Meets, Agrees, Stays, is_failing}
 use Rattle.proof_simulation.specs.Deferred as W
+use Rattle.robustexit.specs.ExitRules.{exit_of}
 
 -- the address is that of the k-th word of a process: each has six of them, from 1 on, and the monitors lie behind them
 abbrev pub is_process_word : Program → ℕ → ℕ → Bool
@@ -52,6 +53,7 @@ is_lock_word p a = any_below (length p.monitors) (λ m. lock_word_address p m ==
 abbrev pub completes : Program → Request → (answer : ℕ) → Bool
 completes p (AskCompareSwap a expected new) r = (r == expected) && (owner expected == 0)
 completes p (AskSwap a v) r = (v == 0) || (r == 0)
+completes p (AskAdd a v) r = not (v == 1)
 completes p (AskLoad a) r = is_process_word p 2 a && (r == 0)
 completes p (AskStore a v) r = not (is_process_word p 0 a) && not (is_process_word p 1 a) && not (is_link_word p a)
 completes p (AskWake a n) r = not (is_lock_word p a)
@@ -72,7 +74,7 @@ completes_exit word t Ended = false
 
 -- whether a request raises the number of a condition's word, which is all that is added to; and a step that looks so
 abbrev pub is_raise : Request → Bool
-is_raise (AskAdd a v) = true
+is_raise (AskAdd a v) = v == 1
 is_raise request = false
 
 abbrev pub raises_number : Look → Bool
@@ -86,7 +88,7 @@ MovesSo p done s t woken (Asks request go) s' =
     (answer : ℕ) × (mid : State) × Serves t request s woken answer mid × (s' ≡ with_thread mid t (go answer))
     × (done ≡ completes p request answer)
 MovesSo p done s t woken (Leaves phase) s' =
-    (after : Shared) × (next : ExitPhase) × ExitStep s.size t phase (shared_of s) woken after next
+    (after : Shared) × (next : ExitPhase) × ExitStep (exit_of p.version) s.size t phase (shared_of s) woken after next
     × (s' ≡ with_thread (with_shared s after) t (Exits next)) × (done ≡ completes_exit s.word t phase)
 MovesSo p done s t woken Breaks s' = ⊥
 MovesSo p done s t woken Rests s' = ⊥
@@ -101,7 +103,7 @@ StepsSo p done raises deferral mark s t woken (Asks request go) s' =
     × (done ≡ completes p request answer) × (deferral ≡ deferred_by_request mark request answer)
     × (raises ≡ is_raise request)
 StepsSo p done raises deferral mark s t woken (Leaves phase) s' =
-    (after : Shared) × (next : ExitPhase) × ExitStep s.size t phase (shared_of s) woken after next
+    (after : Shared) × (next : ExitPhase) × ExitStep (exit_of p.version) s.size t phase (shared_of s) woken after next
     × (s' ≡ with_thread (with_shared s after) t (Exits next)) × (done ≡ completes_exit s.word t phase)
     × (deferral ≡ None) × (raises ≡ false)
 StepsSo p done raises deferral mark s t woken Breaks s' = ⊥

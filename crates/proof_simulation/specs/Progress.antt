@@ -3,6 +3,8 @@ use Rattle.std.specs.Prelude.{ℕ, Bool, true, false, List, [], ◌∷◌, ◌++
 use Rattle.program.specs.declared.kinds.Member.{Member}
 use Rattle.proof_simulation.specs.Strays.{stray_condition, stray_kinds, after_stray}
 use Rattle.words.specs.Updates.{put}
+use Rattle.robustexit.specs.declared.rule.ExitRule.{ExitRule}
+use Rattle.robustexit.specs.ExitRules.{exit_of}
 use Rattle.locals.specs.Looks.{Look, Goes, Asks, Leaves, Breaks, Rests, look}
 use Rattle.machine.specs.States.{State, opening_state}
 use Rattle.machine.specs.Runs.{Doing, Own, Strayed, Killed, Step, Moves, IsOwnStep, IsDone, IsStep, GoesBy, MachineRun}
@@ -19,21 +21,23 @@ use Rattle.proof_simulation.specs.Deferred.{deferred_then, raised_then}
 use Rattle.proof_pieces.specs.WholeCalls.{MovesWhole, IsWholeStep, IsWholeDone}
 use Rattle.proof_pieces.specs.Traces.{TraceStep, Loud, Silent, Trace, none_taken}
 
--- the answer to what a step asks
-abbrev pub answer_in : (s s' : State) (t : ℕ) (woken : List ℕ) (l : Look) → Moves s t woken l s' → ℕ
-answer_in s s' t woken (Goes x) g = 0
-answer_in s s' t woken (Asks request go) g = g.0
-answer_in s s' t woken (Leaves phase) g = 0
-answer_in s s' t woken Breaks g = 0
-answer_in s s' t woken Rests g = 0
+-- the answer to what a step asks, by any rule of exits
+abbrev pub answer_in : (rule : ExitRule) (s s' : State) (t : ℕ) (woken : List ℕ) (l : Look)
+    → Moves rule s t woken l s' → ℕ
+answer_in rule s s' t woken (Goes x) g = 0
+answer_in rule s s' t woken (Asks request go) g = g.0
+answer_in rule s s' t woken (Leaves phase) g = 0
+answer_in rule s s' t woken Breaks g = 0
+answer_in rule s s' t woken Rests g = 0
 
 -- the same with whole calls
-abbrev pub answer_whole : (s s' : State) (t : ℕ) (woken : List ℕ) (l : Look) → MovesWhole s t woken l s' → ℕ
-answer_whole s s' t woken (Goes x) g = 0
-answer_whole s s' t woken (Asks request go) g = g.0
-answer_whole s s' t woken (Leaves phase) g = 0
-answer_whole s s' t woken Breaks g = 0
-answer_whole s s' t woken Rests g = 0
+abbrev pub answer_whole : (rule : ExitRule) (s s' : State) (t : ℕ) (woken : List ℕ) (l : Look)
+    → MovesWhole rule s t woken l s' → ℕ
+answer_whole rule s s' t woken (Goes x) g = 0
+answer_whole rule s s' t woken (Asks request go) g = g.0
+answer_whole rule s s' t woken (Leaves phase) g = 0
+answer_whole rule s s' t woken Breaks g = 0
+answer_whole rule s s' t woken Rests g = 0
 
 -- whether a step of thread t that looks so is visible, by the words before it
 abbrev pub visible_step : Program → (word : ℕ → ℕ) → ℕ → Look → (answer : ℕ) → Bool
@@ -109,7 +113,7 @@ abbrev pub progress_own : (p : Program) → (s s' : State) → (l : Step) → Is
     → Progress → Progress
 progress_own p s s' l st g =
     let looks = look (code_of p) l.thread st.thread in
-    let answer = answer_in s s' l.thread l.woken looks st.moves in
+    let answer = answer_in (exit_of p.version) s s' l.thread l.woken looks st.moves in
     let deferral = deferred_by_step (mark_of (marks_of p) st.thread) looks answer in
     progress_step p (visible_step p s.word l.thread looks answer) deferral (raises_number looks) s' l.thread g
 
@@ -146,7 +150,7 @@ abbrev pub progress_whole_own : (p : Program) → (s s' : State) → (t : ℕ) �
     → IsWholeStep (code_of p) s t woken s' → Progress → Progress
 progress_whole_own p s s' t woken st g =
     let looks = look (code_of p) t st.thread in
-    let answer = answer_whole s s' t woken looks st.moves in
+    let answer = answer_whole (exit_of p.version) s s' t woken looks st.moves in
     let deferral = deferred_by_step (mark_of (marks_of p) st.thread) looks answer in
     progress_step p (visible_step p s.word t looks answer) deferral (raises_number looks) s' t g
 

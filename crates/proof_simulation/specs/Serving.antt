@@ -14,6 +14,7 @@ use Rattle.protocol.specs.Answers.{Serves}
 use Rattle.proof_thread.specs.Variables.{IsVariable, variable_address}
 use Rattle.proof_templates.specs.Layout.{place, valid}
 use Rattle.proof_templates.specs.Asking.{machine_answer}
+use Rattle.protocol.specs.Rules.{release_of}
 
 -- the request names words that the program has
 abbrev pub IsAskable : Program → Request → Type 0
@@ -45,8 +46,8 @@ pub record Keeps (p : Program) (s mid : State) : Type 0 where
 pub record IsServed (p : Program) (s mid : State) (w : World) (t : ℕ) (pt : Point) (answer : ℕ) : Type 0 where
   pub reply : ℕ
   pub after : World
-  pub serves : Serves w t pt (request t pt) reply after
-  pub told : answer ≡ machine_answer p (request t pt) reply
+  pub serves : Serves w t pt (request (release_of p.version) t pt) reply after
+  pub told : answer ≡ machine_answer p (request (release_of p.version) t pt) reply
   pub shares : Shares (place p) (valid p) (shared_of mid) after
   pub keeps : Keeps p s mid
   -- no other word of the world changes

@@ -1,4 +1,5 @@
 ghost use Rattle.std.specs.Prelude.{◌≡◌, ◌+◌, ◌<◌, ◌^◌, ◌∷◌, [], ℕ, suc, Bool, true, false, List, Option, Some, length};
+ghost use Rattle.robustexit.specs.ExitRules.{exit_of};
 ghost use Rattle.lowering.specs.Pieces.{code_of, marks_of};
 ghost use Rattle.proof_commutation.specs.Deferring.{is_internal};
 ghost use Rattle.proof_thread.specs.Variables.{IsVariable, variable_address};
@@ -148,7 +149,7 @@ pub fn run_explains()
         → IsReached p w steps s g
         → (l : Step) (s' : State) (st : IsOwnStep (code_of p) s l s') → steps + 1 < 2 ^ 32
         → visible_step p s.word l.thread (look (code_of p) l.thread st.thread)
-        (answer_in s s' l.thread l.woken (look (code_of p) l.thread st.thread) st.moves) ≡ true
+        (answer_in (exit_of p.version) s s' l.thread l.woken (look (code_of p) l.thread st.thread) st.moves) ≡ true
         → IsDue p s' l.thread g }
     ensures explained { (p : Program) → WellFormed p → (steps : List Step) (s : State)
         (run : MachineRun (code_of p) steps s)

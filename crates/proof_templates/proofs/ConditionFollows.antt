@@ -18,6 +18,7 @@ use Rattle.proof_templates.specs.Inside.{Template, Notifies, Broadcasts, NotifyF
 use Rattle.proof_templates.specs.Templates.{Follows}
 use Rattle.proof_templates.proofs.Notifying.{notifies_follow, broadcasts_follow}
 use Rattle.proof_templates.proofs.Taken.{follows_by}
+use Rattle.protocol.specs.Rules.{release_of}
 
 module _ (b : Build) (vs : Variables) (t : ℕ) (c : Member) (base : ℕ) (l : Locals) (fs : List MachineFrame)
     (before after : Process) (ms : List ℕ) where
@@ -26,8 +27,8 @@ module _ (b : Build) (vs : Variables) (t : ℕ) (c : Member) (base : ℕ) (l : L
     notify = Notifies c base l fs before after ms
 
     asks : (pt : Point) (x : Thread) → (pt ≡ Runs → ⊥) → NotifiesAt b.program c base l fs pt x
-        → AsksSo b.program b.code t (NotifiesAt b.program c base l fs) pt x
-    asks = notifies_follow b.program b.code t base c l fs fits.code
+        → AsksSo (release_of b.program.version) b.program b.code t (NotifiesAt b.program c base l fs) pt x
+    asks = notifies_follow (release_of b.program.version) b.program b.code t base c l fs fits.code
 
     behind : (y : Thread) → NotifiesAt b.program c base l fs Runs y → Stands b t y after
     behind y N.NotifiesAt.goes = fits.goes
@@ -55,8 +56,9 @@ module _ (b : Build) (vs : Variables) (t : ℕ) (c : Member) (base : ℕ) (l : L
     abbrev In : Point → Thread → Type 0
     In = BroadcastsAt b.program c base l fs
 
-    asks_all : (pt : Point) (x : Thread) → (pt ≡ Runs → ⊥) → In pt x → AsksSo b.program b.code t In pt x
-    asks_all = broadcasts_follow b.program b.code t base c l fs fits.code
+    asks_all : (pt : Point) (x : Thread) → (pt ≡ Runs → ⊥) → In pt x
+        → AsksSo (release_of b.program.version) b.program b.code t In pt x
+    asks_all = broadcasts_follow (release_of b.program.version) b.program b.code t base c l fs fits.code
 
     behind_all : (y : Thread) → In Runs y → Stands b t y after
     behind_all y N.BroadcastsAt.goes = fits.goes

@@ -32,6 +32,7 @@ use Rattle.proof_templates.specs.Templates.{ActsSo, StandsOn, Comes, Follows}
 use Rattle.proof_templates.proofs.Locking.{to_enter, to_recover, unpends_look}
 use Rattle.proof_templates.proofs.Entering.{enters_follow, taking}
 use Rattle.proof_templates.proofs.Taken.{entry_alone, taken_free, taken_abandoned, taken_holds, follows_by}
+use Rattle.protocol.specs.Rules.{release_of}
 
 module _ (b : Build) (vs : Variables) (t m base : ℕ) (l : Locals) (fs : List MachineFrame) (f : Frame)
     (cs : List Caller) (is : IsBuild b) (some : 0 < t) (few : t ≤ most_of b.code.image.version)
@@ -49,8 +50,10 @@ module _ (b : Build) (vs : Variables) (t m base : ℕ) (l : Locals) (fs : List M
   abbrev On : Option Event → Process → Point → List ℕ → Thread → Type 0
   On event q pt ms y = (q' : Process) × ActsSo b.program vs t event q q' × StandsOn b t k pt ms y q'
 
-  asks : (pt : Point) (x : Thread) → (pt ≡ Runs → ⊥) → In pt x → AsksSo b.program b.code t In pt x
-  asks = enters_follow b.program b.code t m base (recovery_in b m) l fs fits.code some few
+  asks : (pt : Point) (x : Thread) → (pt ≡ Runs → ⊥) → In pt x
+      → AsksSo (release_of b.program.version) b.program b.code t In pt x
+  asks = enters_follow (release_of b.program.version) b.program b.code t m base (recovery_in b m) l fs fits.code some
+      few
 
   nobody : owner_died_bit 0 ≡ 0
   unfolding owner_died_bit
@@ -100,8 +103,10 @@ module _ (b : Build) (vs : Variables) (t m base : ℕ) (l : Locals) (fs : List M
       got : (v n : ℕ) → owner_died_bit v ≡ n → Comes b vs t k (GotUnpends m v) w table e r w' (at 45 v)
       got v zero free = record {
         thread = at 50 v;
-        walk = to_enter b.program b.code t m K (Enter m) (recovery_in b m) base 11 l.values fs
-            (taking b.program b.code t m base (recovery_in b m) l fs fits.code some few) some few v free;
+        walk = to_enter (release_of b.program.version) b.program b.code t m K (Enter m) (recovery_in b m) base 11
+            l.values fs
+            (taking (release_of b.program.version) b.program b.code t m base (recovery_in b m) l fs fits.code some
+            few) some few v free;
         process = lock_taker b.program m f cs v;
         acts = refl;
         stands = inr (
@@ -118,8 +123,10 @@ module _ (b : Build) (vs : Variables) (t m base : ℕ) (l : Locals) (fs : List M
           got_abandoned : (v : ℕ) → owner_died_bit v ≢ 0 → Comes b vs t k (GotUnpends m v) w table e r w' (at 45 v)
           got_abandoned v ne = record {
             thread = at 49 v;
-            walk = to_recover b.program b.code t m K (Enter m) (recovery_in b m) base 11 l.values fs
-                (taking b.program b.code t m base (recovery_in b m) l fs fits.code some few) some few v ne;
+            walk = to_recover (release_of b.program.version) b.program b.code t m K (Enter m) (recovery_in b m) base
+                11 l.values fs
+                (taking (release_of b.program.version) b.program b.code t m base (recovery_in b m) l fs fits.code some
+                few) some few v ne;
             process = lock_taker b.program m f cs v;
             acts = refl;
             stands = inr (
@@ -152,8 +159,10 @@ module _ (b : Build) (vs : Variables) (t m base : ℕ) (l : Locals) (fs : List M
       asks = AskStore (process_word t 1) 0;
       go = λ r. at 45 v;
       same = refl;
-      look = unpends_look b.program b.code t m K (Enter m) (recovery_in b m) base 11 l.values fs
-          (taking b.program b.code t m base (recovery_in b m) l fs fits.code some few) some few v;
+      look = unpends_look (release_of b.program.version) b.program b.code t m K (Enter m) (recovery_in b m) base 11
+          l.values fs
+          (taking (release_of b.program.version) b.program b.code t m base (recovery_in b m) l fs fits.code some few)
+          some few v;
       goes = λ w tb e r w' may. got w tb e r w' v (owner_died_bit v) refl;
     }
     takes_go pt x inside s (enters v e) = absurd (inside refl)

@@ -27,8 +27,10 @@ use Rattle.proof_templates.specs.Locking.{reads, heads, EntersAt, pends, tries, 
 use Rattle.proof_templates.specs.Locking.{takes_again}
 use Rattle.proof_templates.specs.Locking.{template_locals}
 use Rattle.proof_templates.proofs.Locking.{takes_follow, to_list, again, address_step}
+use Rattle.protocol.specs.Rules.{ReleaseRule}
 
-module _ (p : Program) (image : MarkedImage) (t m base : ℕ) (recover : Instr) (l : Locals) (fs : List Frame)
+module _ (u : ReleaseRule) (p : Program) (image : MarkedImage) (t m base : ℕ) (recover : Instr) (l : Locals) (fs :
+    List Frame)
     (code : StandAt image base (rebase_all base (enter_code m (link_word p m) recover))) (some : 0 < t)
     (few : t ≤ most_of image.image.version) where
   abbrev link : ℕ
@@ -98,7 +100,7 @@ module _ (p : Program) (image : MarkedImage) (t m base : ℕ) (recover : Instr) 
       (subst (λ k. Go 1 (Runs' k [] (template_locals l.values (suc n)) fs)
       (Runs' (base + 11 + 1) (lock ∷ []) (template_locals l.values
       (suc n)) fs))
-      (omega arith) (again p image t m ToEnter (Enter m) recover base 11 l.values fs taking some few (suc n))))))
+      (omega arith) (again u p image t m ToEnter (Enter m) recover base 11 l.values fs taking some few (suc n))))))
 
   -- after the first compare-and-swap: with the lock, or to the taking of it
   after_try : (r : ℕ) → (y : Thread) × Go template_steps (at 8 (r ∷ []) l) y
@@ -114,7 +116,7 @@ module _ (p : Program) (image : MarkedImage) (t m base : ℕ) (recover : Instr) 
         (subst (λ n. Go 3 (Runs' n [] (template_locals l.values 0) fs)
         (Runs' (base + 11 + 35) (process_word t 0 ∷ link ∷ [])
         (template_locals l.values 0) fs)) (omega arith)
-        (to_list p image t m ToEnter (Enter m) recover base 11 l.values fs taking some few 0))))),
+        (to_list u p image t m ToEnter (Enter m) recover base 11 l.values fs taking some few 0))))),
     takes (heads 0),
   )
   after_try (suc n) = (
@@ -151,13 +153,13 @@ module _ (p : Program) (image : MarkedImage) (t m base : ℕ) (recover : Instr) 
       (then_go 1 _ _ _ (step 5 6 _ _ (lock ∷ []) (0 ∷ lock ∷ []) l l refl refl (omega arith))
       (step 6 7 _ _ (0 ∷ lock ∷ []) _ l l refl refl (omega arith))))
 
-  pub enters_follow : (pt : Point) (x : Thread) → (pt ≡ Runs → ⊥) → In pt x → AsksSo p image t In pt x
+  pub enters_follow : (pt : Point) (x : Thread) → (pt ≡ Runs → ⊥) → In pt x → AsksSo u p image t In pt x
   enters_follow pt x inside pends =
       record { asks = _; go = _; same = refl; look = pended_look; goes = λ w e r may. (_, to_try, tries) }
   enters_follow pt x inside tries =
       record { asks = _; go = _; same = refl; look = tried_look; goes = λ w e r may. after_try r }
   enters_follow pt x inside (takes h) =
-      let k = takes_follow p image t m ToEnter (Enter m) recover base 11 l.values fs taking some few pt x inside h in
+      let k = takes_follow u p image t m ToEnter (Enter m) recover base 11 l.values fs taking some few pt x inside h in
       record {
         asks = k.asks;
         go = k.go;
@@ -170,7 +172,8 @@ module _ (p : Program) (image : MarkedImage) (t m base : ℕ) (recover : Instr) 
   enters_follow pt x inside tries_again =
       record { asks = _; go = _; same = refl; look = tried_look; goes = λ w e r may. after_try_again r may }
   enters_follow pt x inside (takes_again h) =
-      let k = takes_follow p image t m ToReenter (Enter m) recover base 11 l.values fs taking some few pt x inside h in
+      let k = takes_follow u p image t m ToReenter (Enter m) recover base 11 l.values fs taking some few pt x inside h
+      in
       record {
         asks = k.asks;
         go = k.go;

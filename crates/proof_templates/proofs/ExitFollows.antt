@@ -6,6 +6,7 @@ use Rattle.words.specs.Versions.{most_of}
 use Rattle.locals.specs.declared.frame.Locals.{Locals}
 use Rattle.locals.specs.declared.frame.Frame.{Frame as MachineFrame}
 use Rattle.locals.specs.Threads.{Thread}
+use Rattle.lowering.specs.Locks.{leave_length}
 use Rattle.meaning.specs.Labels as L
 use Rattle.meaning.specs.Values.{Variables}
 use Rattle.meaning.specs.Processes.{Caller, Process, Returning, callers_monitors}
@@ -17,8 +18,9 @@ use Rattle.proof_templates.specs.Asking.{AsksSo}
 use Rattle.proof_templates.specs.Locking.{ExitsAt, pends, reads, cuts, swaps, wakes, unpends, goes}
 use Rattle.proof_templates.specs.Inside.{Template, Exits, ExitFits}
 use Rattle.proof_templates.specs.Templates.{StandsOn, Follows}
-use Rattle.proof_templates.proofs.Exiting.{exits_follow}
+use Rattle.proof_templates.proofs.Leavings.{exits_ask}
 use Rattle.proof_templates.proofs.Taken.{follows_by}
+use Rattle.protocol.specs.Rules.{release_of}
 
 module _ (b : Build) (vs : Variables) (t m base : ℕ) (shown : Option ℕ) (l : Locals) (fs : List MachineFrame)
     (before : Process) (value : ℤ) (cs : List Caller) (some : 0 < t) (few : t ≤ most_of b.code.image.version)
@@ -27,10 +29,11 @@ module _ (b : Build) (vs : Variables) (t m base : ℕ) (shown : Option ℕ) (l :
   k = Exits m base shown l fs before value cs
 
   abbrev In : Point → Thread → Type 0
-  In = ExitsAt b.program t m base shown l fs
+  In = ExitsAt (leave_length b.program.version) (release_of b.program.version) b.program t m base shown l fs
 
-  asks : (pt : Point) (x : Thread) → (pt ≡ Runs → ⊥) → In pt x → AsksSo b.program b.code t In pt x
-  asks = exits_follow b.program b.code t m base shown l fs fits.code some few
+  asks : (pt : Point) (x : Thread) → (pt ≡ Runs → ⊥) → In pt x
+      → AsksSo (release_of b.program.version) b.program b.code t In pt x
+  asks = exits_ask b.program.version b.program b.code t m base shown l fs fits.code some few
 
   after_swap : (x : Bool) (y : Thread) → In (if x then HasLeft m ToExit else LeaveWakes m ToExit) y
       → StandsOn b t k (if x then HasLeft m ToExit else LeaveWakes m ToExit) (callers_monitors cs) y

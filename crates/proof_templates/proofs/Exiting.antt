@@ -1,4 +1,4 @@
--- The template that leaves a monitor goes through its points.
+-- The template that leaves a monitor goes through its points, where the lock word is swapped for 0.
 use Rattle.std.proofs.Common.{◌≡◌, ◌≢◌, ℕ, zero, suc, ◌+◌, ◌<◌, ◌≤◌, ◌==◌, Bool, List, ◌∷◌, length, Option, Some, None}
 use Rattle.std.proofs.Common.{slice_get, refl, ap, sym, ◌∙◌, subst, arith, le-leb}
 use Rattle.std.specs.Prelude.{if◌then◌else◌, ◌&&◌, nat_le}
@@ -30,6 +30,8 @@ use Rattle.proof_thread.proofs.Awaiting.{stand_index}
 use Rattle.proof_templates.specs.Layout.{place}
 use Rattle.proof_templates.specs.Asking.{AsksSo, template_steps}
 use Rattle.proof_templates.specs.Locking.{ExitsAt, pends, reads, cuts, swaps, wakes, unpends, goes}
+use Rattle.words.specs.declared.version.ImageVersion.TheVariants.{One}
+use Rattle.protocol.specs.Rules.{ClearsWord}
 
 -- a result leaves room for all that the template pushes
 room_beneath : (shown : Option ℕ) → length (result_operands shown) ≤ 1
@@ -37,7 +39,7 @@ room_beneath None = omega arith
 room_beneath (Some w) = omega arith
 
 module _ (p : Program) (image : MarkedImage) (t m base : ℕ) (shown : Option ℕ) (l : Locals) (fs : List Frame)
-    (code : StandAt image base (rebase_all base (exit_code m (link_word p m)))) (some : 0 < t)
+    (code : StandAt image base (rebase_all base (exit_code One m (link_word p m)))) (some : 0 < t)
     (few : t ≤ most_of image.image.version) where
   abbrev link : ℕ
   link = link_word p m
@@ -49,7 +51,7 @@ module _ (p : Program) (image : MarkedImage) (t m base : ℕ) (shown : Option �
   rest = result_operands shown
 
   abbrev segment : List Marked
-  segment = rebase_all base (exit_code m (link_word p m))
+  segment = rebase_all base (exit_code One m (link_word p m))
 
   abbrev Go : ℕ → Thread → Thread → Type 0
   Go n x y = WalksWithin image t (empty_view p) n x y
@@ -115,7 +117,7 @@ module _ (p : Program) (image : MarkedImage) (t m base : ℕ) (shown : Option �
       looks i x operands e ∙ h ∙ ap (λ n. Asks request (λ r. Runs' n (after r) l fs)) same
 
   abbrev In : Point → Thread → Type 0
-  In = ExitsAt p t m base shown l fs
+  In = ExitsAt 19 ClearsWord p t m base shown l fs
 
   abbrev Comes : Thread → Point → Type 0
   Comes x pt = (y : Thread) × Go template_steps x y × In pt y
@@ -165,7 +167,7 @@ module _ (p : Program) (image : MarkedImage) (t m base : ℕ) (shown : Option �
             (sym (ne_eqb (suc n) 0 (λ z. omega (arith, z)))) wakes,
       )
 
-  pub exits_follow : (pt : Point) (x : Thread) → (pt ≡ Runs → ⊥) → In pt x → AsksSo p image t In pt x
+  pub exits_follow : (pt : Point) (x : Thread) → (pt ≡ Runs → ⊥) → In pt x → AsksSo ClearsWord p image t In pt x
   exits_follow pt x inside pends = record {
     asks = _;
     go = λ r. at 4 rest;

@@ -3,7 +3,11 @@ pub mod Addresses
 pub mod Locking
 pub mod Entering
 pub mod Exiting
+pub mod ExitingDrops
+pub mod Negated
 pub mod Waiting
+pub mod WaitingDrops
+pub mod Leavings
 pub mod Notifying
 pub mod Begins
 pub mod Taken

@@ -32,6 +32,7 @@ use Rattle.proof_templates.specs.Locking.{Takes, reads, marks, sleeps, tries, he
 use Rattle.proof_templates.specs.Locking.{recovers}
 use Rattle.proof_templates.specs.Locking.{template_locals}
 use Rattle.protocol.specs.Memory.{entry_address}
+use Rattle.protocol.specs.Rules.{ReleaseRule}
 
 pub address_step : (most t place h : ℕ) (word : ProcessWord) (rest : List ℕ) (values : List ℕ) (s : ℕ) (fs : List Frame)
     → 0 < h
@@ -47,7 +48,8 @@ address_step most t place h word rest values s fs some few =
     (template_locals values s) fs)))
     (le-leb h most few)
 
-module _ (p : Program) (image : MarkedImage) (t m : ℕ) (k : Purpose) (mark : Mark) (recover : Instr) (base a : ℕ)
+module _ (u : ReleaseRule) (p : Program) (image : MarkedImage) (t m : ℕ) (k : Purpose) (mark : Mark) (recover : Instr)
+    (base a : ℕ)
     (values : List ℕ) (fs : List Frame)
     (code : StandAt image (base + a) (rebase_all base (take_at mark (link_word p m) a ++ got_at (link_word p m) recover
     (a + 32))))
@@ -259,7 +261,7 @@ module _ (p : Program) (image : MarkedImage) (t m : ℕ) (k : Purpose) (mark : M
   stay x = record { count = 0; few = omega arith; walk = stays }
 
   -- a thread at a point of the template asks what the point asks, and goes on as the point does
-  pub takes_follow : (pt : Point) (x : Thread) → (pt ≡ Runs → ⊥) → In pt x → AsksSo p image t In pt x
+  pub takes_follow : (pt : Point) (x : Thread) → (pt ≡ Runs → ⊥) → In pt x → AsksSo u p image t In pt x
   takes_follow pt x inside (reads word) = record {
     asks = _;
     go = λ r. at 2 (r ∷ []) word;

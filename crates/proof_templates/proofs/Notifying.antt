@@ -21,6 +21,7 @@ use Rattle.proof_templates.specs.Notifying.{NotifiesAt, BroadcastsAt}
 use Rattle.proof_templates.specs.Notifying as T
 use Rattle.lowering.specs.Marks.{plain}
 use Rattle.isa.specs.declared.instr.Instr.{Instr}
+use Rattle.protocol.specs.Rules.{ReleaseRule}
 
 module _ (p : Program) (image : MarkedImage) (t base : ℕ) (l : Locals) (fs : List Frame) (segment : List Marked)
     (code : StandAt image base segment) where
@@ -53,7 +54,8 @@ module _ (p : Program) (image : MarkedImage) (t base : ℕ) (l : Locals) (fs : L
       (stand_index image base segment i (base + i) x code e refl)
       ∙ h ∙ ap (λ n. Asks request (λ r. Runs' n (after r) l fs)) same
 
-module _ (p : Program) (image : MarkedImage) (t base : ℕ) (c : Member) (l : Locals) (fs : List Frame) where
+module _ (u : ReleaseRule) (p : Program) (image : MarkedImage) (t base : ℕ) (c : Member) (l : Locals) (fs : List
+    Frame) where
   abbrev s : ℕ
   s = member_address p c
 
@@ -70,7 +72,7 @@ module _ (p : Program) (image : MarkedImage) (t base : ℕ) (c : Member) (l : Lo
   at i operands = Runs' (base + i) operands l fs
 
   pub notifies_follow : StandAt image base (notify_code c (member_address p c)) → (pt : Point) (x : Thread)
-      → (pt ≡ Runs → ⊥) → NotifiesAt p c base l fs pt x → AsksSo p image t (NotifiesAt p c base l fs) pt x
+      → (pt ≡ Runs → ⊥) → NotifiesAt p c base l fs pt x → AsksSo u p image t (NotifiesAt p c base l fs) pt x
   notifies_follow code pt x inside T.NotifiesAt.adds = record {
     asks = _;
     go = λ r. at 3 (r ∷ []);
@@ -102,7 +104,7 @@ module _ (p : Program) (image : MarkedImage) (t base : ℕ) (c : Member) (l : Lo
 
   pub broadcasts_follow : StandAt image base (broadcast_code c (link_word p c.monitor) (member_address p c))
       → (pt : Point) (x : Thread) → (pt ≡ Runs → ⊥) → BroadcastsAt p c base l fs pt x
-      → AsksSo p image t (BroadcastsAt p c base l fs) pt x
+      → AsksSo u p image t (BroadcastsAt p c base l fs) pt x
   broadcasts_follow code pt x inside T.BroadcastsAt.adds = record {
     asks = _;
     go = λ r. at 3 (r ∷ []);

@@ -24,6 +24,7 @@ use Rattle.proof_thread.proofs.Holding.{goes_on_holds}
 use Rattle.proof_templates.specs.Asking.{AsksSo}
 use Rattle.proof_templates.specs.Inside.{Template, lock_taker, process_at, list_at, StandsIn}
 use Rattle.proof_templates.specs.Templates.{ActsSo, StandsOn, Follows}
+use Rattle.protocol.specs.Rules.{release_of}
 
 -- a procedure that belongs to a monitor isn't the main part
 pub owned_alone : (m : ℕ) (f : Frame) (cs : List Caller) → own_monitor f.role ≡ Some m → f.role ≡ Main → cs ≡ []
@@ -83,7 +84,7 @@ Moves b vs t k pt w T e r w' y = (q : Process)
     × StandsOn b t k (next w e pt r) (next_list pt (list_at k pt)) y q
 
 pub follows_by : (b : Build) (vs : Variables) (t : ℕ) (k : Template) (pt : Point) (x : Thread)
-    → AsksSo b.program b.code t (StandsIn b.program t k) pt x
+    → AsksSo (release_of b.program.version) b.program b.code t (StandsIn b.program t k) pt x
     → ((w : World) (T : Table) (e : End) (r : ℕ) (w' : World) (y : Thread) → MayAnswer pt r
     → StandsIn b.program t k (next w e pt r) y → Moves b vs t k pt w T e r w' y) → Follows b vs t k pt x
 follows_by b vs t k pt x a moves = record {

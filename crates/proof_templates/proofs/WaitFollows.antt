@@ -29,8 +29,18 @@ use Rattle.proof_templates.specs.Locking as T
 use Rattle.proof_templates.specs.Inside.{Template, Waits, lock_taker, WaitFits}
 use Rattle.proof_templates.specs.Templates.{ActsSo, StandsOn, Comes, Follows}
 use Rattle.proof_templates.proofs.Locking.{to_enter, to_recover, unpends_look}
-use Rattle.proof_templates.proofs.Waiting.{waits_follow, taking}
+use Rattle.proof_templates.proofs.Leavings.{waits_ask, waits_taking}
 use Rattle.proof_templates.proofs.Taken.{owned_alone, taken_free, taken_abandoned, taken_holds, follows_by}
+use Rattle.protocol.specs.Rules.{release_of}
+use Rattle.words.specs.declared.version.ImageVersion.{ImageVersion}
+use Rattle.words.specs.declared.version.ImageVersion.TheVariants.{One, Two, Linux}
+use Rattle.lowering.specs.Conditions.{wait_takes, wait_recovers}
+use Rattle.lowering.specs.Locks.{leave_length}
+
+recovers_behind : (v : ImageVersion) → wait_recovers v ≡ wait_takes v + 49
+recovers_behind One = refl
+recovers_behind Two = refl
+recovers_behind Linux = refl
 
 module _ (b : Build) (vs : Variables) (t : ℕ) (c : Member) (base : ℕ) (l : Locals) (fs : List MachineFrame)
     (before : Process) (f : Frame) (cs : List Caller) (ms : List ℕ) (is : IsBuild b) (some : 0 < t)
@@ -46,17 +56,18 @@ module _ (b : Build) (vs : Variables) (t : ℕ) (c : Member) (base : ℕ) (l : L
   K = ToResume c
 
   abbrev In : Point → Thread → Type 0
-  In = WaitsAt b.program t c base l fs
+  In = WaitsAt (leave_length b.program.version) (release_of b.program.version) b.program t c base l fs
 
   abbrev at : ℕ → ℕ → Thread
-  at i word = Runs' (base + 24 + i) [] (template_locals l.values word) fs
+  at i word = Runs' (base + wait_takes b.program.version + i) [] (template_locals l.values word) fs
 
   -- the process does what a step carries, and the thread stands at the next point
   abbrev On : Option Event → Point → Thread → Type 0
   On event pt y = (q' : Process) × ActsSo b.program vs t event (Suspended c f cs) q' × StandsOn b t k pt ms y q'
 
-  asks : (pt : Point) (x : Thread) → (pt ≡ Runs → ⊥) → In pt x → AsksSo b.program b.code t In pt x
-  asks = waits_follow b.program b.code t base c (recovery_in b c.monitor) l fs fits.code some few
+  asks : (pt : Point) (x : Thread) → (pt ≡ Runs → ⊥) → In pt x
+      → AsksSo (release_of b.program.version) b.program b.code t In pt x
+  asks = waits_ask b.program.version b.program b.code t base c (recovery_in b c.monitor) l fs fits.code some few
 
   after_swap : (x : Bool) (v : ℕ) (y : Thread) → In (if x then HasLeft m (ToWait c v) else LeaveWakes m (ToWait c v)) y
       → StandsOn b t k (if x then HasLeft m (ToWait c v) else LeaveWakes m (ToWait c v)) ms y (Suspended c f cs)
@@ -87,14 +98,17 @@ module _ (b : Build) (vs : Variables) (t : ℕ) (c : Member) (base : ℕ) (l : L
     got : (v n : ℕ) → owner_died_bit v ≡ n → Comes b vs t k (GotUnpends m v) w table e r w' (at 45 v)
     got v zero free = record {
       thread = at 50 v;
-      walk = to_enter b.program b.code t m K (Resume m) (recovery_in b m) base 24 l.values fs
-          (taking b.program b.code t base c (recovery_in b m) l fs fits.code some few) some few v free;
+      walk = to_enter (release_of b.program.version) b.program b.code t m K (Resume m) (recovery_in b m) base
+          (wait_takes b.program.version) l.values fs
+          (waits_taking b.program.version b.program b.code t base c (recovery_in b m) l fs fits.code some few) some
+          few v free;
       process = lock_taker b.program m f cs v;
       acts = refl;
       stands = inr (
         refl,
         subst (λ (q : Process). Stands b t (at 50 v) q) (sym (taken_free b m f cs v free))
-            (subst (λ n. Stands b t (Runs' n [] (template_locals l.values v) fs) (goes_on (Some m) f cs)) (omega arith)
+            (subst (λ n. Stands b t (Runs' n [] (template_locals l.values v) fs) (goes_on (Some m) f cs)) (let k =
+            recovers_behind b.program.version in omega (arith, k))
             (fits.after.enters v)),
         sym (taken_holds b is m f cs v (owned_alone m f cs fits.own) ∙ fits.held),
       );
@@ -104,21 +118,24 @@ module _ (b : Build) (vs : Variables) (t : ℕ) (c : Member) (base : ℕ) (l : L
         got_abandoned : (v : ℕ) → owner_died_bit v ≢ 0 → Comes b vs t k (GotUnpends m v) w table e r w' (at 45 v)
         got_abandoned v ne = record {
           thread = at 49 v;
-          walk = to_recover b.program b.code t m K (Resume m) (recovery_in b m) base 24 l.values fs
-              (taking b.program b.code t base c (recovery_in b m) l fs fits.code some few) some few v ne;
+          walk = to_recover (release_of b.program.version) b.program b.code t m K (Resume m) (recovery_in b m) base
+              (wait_takes b.program.version) l.values fs
+              (waits_taking b.program.version b.program b.code t base c (recovery_in b m) l fs fits.code some few)
+              some few v ne;
           process = lock_taker b.program m f cs v;
           acts = refl;
           stands = inr (
             refl,
             subst (λ (q : Process). Stands b t (at 49 v) q) (sym (taken_abandoned b m f cs v ne))
                 (subst (λ n. Stands b t (Runs' n [] (template_locals l.values v) fs) (recovers' b.program m f cs))
-                (omega arith)
+                (let k = recovers_behind b.program.version in omega (arith, k))
                 (fits.after.recovers v)),
             sym (taken_holds b is m f cs v (owned_alone m f cs fits.own) ∙ fits.held),
           );
         }
 
-  takes_go : (pt : Point) (x : Thread) → pt ≢ Runs → In pt x → Takes b.program t m K (base + 24) l.values fs pt x
+  takes_go : (pt : Point) (x : Thread) → pt ≢ Runs → In pt x
+      → Takes b.program t m K (base + wait_takes b.program.version) l.values fs pt x
       → Follows b vs t k pt x
   takes_go pt x inside s (T.Takes.reads word) = follows_by b vs t k pt x (asks pt x inside s)
       (λ w tb e r w' y may z. after_read (owner r == 0) r y z)
@@ -138,8 +155,9 @@ module _ (b : Build) (vs : Variables) (t : ℕ) (c : Member) (base : ℕ) (l : L
     asks = AskStore (process_word t 1) 0;
     go = λ r. at 45 v;
     same = refl;
-    look = unpends_look b.program b.code t m K (Resume m) (recovery_in b m) base 24 l.values fs
-        (taking b.program b.code t base c (recovery_in b m) l fs fits.code some few) some few v;
+    look = unpends_look (release_of b.program.version) b.program b.code t m K (Resume m) (recovery_in b m) base
+        (wait_takes b.program.version) l.values fs
+        (waits_taking b.program.version b.program b.code t base c (recovery_in b m) l fs fits.code some few) some few v;
     goes = λ w tb e r w' may. got w tb e r w' v (owner_died_bit v) refl;
   }
   takes_go pt x inside s (T.Takes.enters v e) = absurd (inside refl)

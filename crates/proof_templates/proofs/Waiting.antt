@@ -1,4 +1,4 @@
--- The template of WAIT goes through its points.
+-- The template of WAIT goes through its points, where the lock word is swapped for 0.
 use Rattle.std.proofs.Common.{◌≡◌, ◌≢◌, ℕ, zero, suc, ◌+◌, ◌<◌, ◌≤◌, ◌==◌, Bool, List, [], ◌∷◌, Some, slice_get, refl}
 use Rattle.std.proofs.Common.{ap, sym, ◌∙◌, subst, arith, le-leb, ◌++◌}
 use Rattle.std.specs.Prelude.{if◌then◌else◌, ◌&&◌, nat_le}
@@ -35,9 +35,11 @@ use Rattle.proof_templates.specs.Locking.{WaitsAt, template_locals}
 use Rattle.proof_templates.specs.Locking.WaitsAt.{numbers, pends, reads, cuts, swaps, wakes, sleeps, takes}
 use Rattle.proof_templates.specs.Locking as L
 use Rattle.proof_templates.proofs.Locking as T
+use Rattle.words.specs.declared.version.ImageVersion.TheVariants.{One}
+use Rattle.protocol.specs.Rules.{ClearsWord}
 
 module _ (p : Program) (image : MarkedImage) (t base : ℕ) (c : Member) (recover : Instr) (l : Locals) (fs : List Frame)
-    (code : StandAt image base (rebase_all base (wait_code c (link_word p c.monitor) (member_address p c) recover)))
+    (code : StandAt image base (rebase_all base (wait_code One c (link_word p c.monitor) (member_address p c) recover)))
     (some : 0 < t) (few : t ≤ most_of image.image.version) where
   abbrev link : ℕ
   link = link_word p c.monitor
@@ -49,7 +51,7 @@ module _ (p : Program) (image : MarkedImage) (t base : ℕ) (c : Member) (recove
   number = member_address p c
 
   abbrev segment : List Marked
-  segment = rebase_all base (sleep_code c (link_word p c.monitor) (member_address p c))
+  segment = rebase_all base (sleep_code One c (link_word p c.monitor) (member_address p c))
 
   abbrev later : List Marked
   later = rebase_all base (take_at (Resume c.monitor) (link_word p c.monitor) 24 ++ got_at (link_word p c.monitor)
@@ -106,7 +108,7 @@ module _ (p : Program) (image : MarkedImage) (t base : ℕ) (c : Member) (recove
       ∙ h ∙ ap (λ n. Asks request (λ r. Runs' n (after r) l fs)) same
 
   abbrev In : Point → Thread → Type 0
-  In = WaitsAt p t c base l fs
+  In = WaitsAt 19 ClearsWord p t c base l fs
 
   abbrev Comes : Thread → Point → Type 0
   Comes x pt = (y : Thread) × Go template_steps x y × In pt y
@@ -147,7 +149,7 @@ module _ (p : Program) (image : MarkedImage) (t base : ℕ) (c : Member) (recove
             (sym (ne_eqb (suc n) 0 (λ z. omega (arith, z)))) (wakes v),
       )
 
-  pub waits_follow : (pt : Point) (x : Thread) → (pt ≡ Runs → ⊥) → In pt x → AsksSo p image t In pt x
+  pub waits_follow : (pt : Point) (x : Thread) → (pt ≡ Runs → ⊥) → In pt x → AsksSo ClearsWord p image t In pt x
   waits_follow pt x inside numbers = record {
     asks = _;
     go = λ v. at 3 (v ∷ number ∷ []);
@@ -230,13 +232,15 @@ module _ (p : Program) (image : MarkedImage) (t base : ℕ) (c : Member) (recove
       Runs' (base + 24 + 1) (lock ∷ []) (template_locals l.values l.scratch) fs,
       enough 2 _ _ (omega arith) (then_go 1 _ _ _ (step 23 24 _ _ (r ∷ []) [] refl refl (omega arith))
           (subst (λ n. Go 1 (Runs' n [] l fs) (Runs' (base + 24 + 1) (lock ∷ []) l fs)) (omega arith)
-          (T.again p image t c.monitor (ToResume c) (Resume c.monitor) recover base 24 l.values fs taking some few
+          (T.again ClearsWord p image t c.monitor (ToResume c) (Resume c.monitor) recover base 24 l.values fs taking
+          some few
           l.scratch))),
       takes (L.Takes.reads l.scratch),
     );
   }
   waits_follow pt x inside (takes h) =
-      let k = T.takes_follow p image t c.monitor (ToResume c) (Resume c.monitor) recover base 24 l.values fs taking
+      let k = T.takes_follow ClearsWord p image t c.monitor (ToResume c) (Resume c.monitor) recover base 24 l.values
+      fs taking
       some few pt
       x inside h in
       record {

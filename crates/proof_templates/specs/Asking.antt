@@ -18,6 +18,7 @@ use Rattle.protocol.specs.Answers.{next}
 use Rattle.protocol.specs.Served.{MayAnswer}
 use Rattle.proof_thread.specs.Walks.{WalksWithin, empty_view}
 use Rattle.proof_templates.specs.Layout.{place}
+use Rattle.protocol.specs.Rules.{ReleaseRule}
 
 -- none for a step of an exit, which is no request, and for a thread's own code
 abbrev pub machine_request : Program → Request → Option M.Request
@@ -48,12 +49,13 @@ template_steps = 12
 
 -- a thread asks what its point asks, and comes after each answer, within few local steps, to where a thread of the next
 -- point stands
-pub record AsksSo (p : Program) (image : MarkedImage) (t : ℕ) (stands : Point → Thread → Type 0) (pt : Point)
+pub record AsksSo (u : ReleaseRule) (p : Program) (image : MarkedImage) (t : ℕ) (stands : Point → Thread
+    → Type 0) (pt : Point)
     (x : Thread) : Type 0 where
   pub asks : M.Request
   pub go : ℕ → Thread
-  pub same : machine_request p (request t pt) ≡ Some asks
+  pub same : machine_request p (request u t pt) ≡ Some asks
   pub look : look image.image t x ≡ Asks asks go
   pub goes : (w : World) (e : End) (r : ℕ) → MayAnswer pt r → (y : Thread)
-      × WalksWithin image t (empty_view p) template_steps (go (machine_answer p (request t pt) r)) y × stands
+      × WalksWithin image t (empty_view p) template_steps (go (machine_answer p (request u t pt) r)) y × stands
       (next w e pt r) y

@@ -7,8 +7,8 @@ use Rattle.program.specs.declared.kinds.MemberType.TheVariants.{Condition}
 use Rattle.program.specs.Scope.{member_type, own_monitor}
 use Rattle.program.specs.Trees.{Program}
 use Rattle.lowering.specs.Layout.{link_word, member_address}
-use Rattle.lowering.specs.Locks.{enter_code, exit_code}
-use Rattle.lowering.specs.Conditions.{wait_code, notify_code, broadcast_code}
+use Rattle.lowering.specs.Locks.{enter_code, exit_code, exit_length}
+use Rattle.lowering.specs.Conditions.{wait_code, wait_recovers, notify_code, broadcast_code}
 use Rattle.lowering.specs.Marks.{rebase_all}
 use Rattle.locals.specs.declared.frame.Locals.{Locals}
 use Rattle.locals.specs.declared.frame.Frame.{Frame as MachineFrame}
@@ -43,8 +43,8 @@ pub record ExitFits (b : Build) (v : Variables) (t m base : ℕ) (shown : Option
   pub offers : offer b.program v before ≡ Does (L.Exits m) Nothing (Returning z cs)
   pub steady : IsSteady b.program before v
   pub held : holds before ≡ m ∷ callers_monitors cs
-  pub code : StandAt b.code base (rebase_all base (exit_code m (link_word b.program m)))
-  pub after : Stands b t (Runs' (base + 23) (result_operands shown) l fs) (Returning z cs)
+  pub code : StandAt b.code base (rebase_all base (exit_code b.program.version m (link_word b.program m)))
+  pub after : Stands b t (Runs' (base + exit_length b.program.version) (result_operands shown) l fs) (Returning z cs)
 
 -- a WAIT on condition c
 pub record WaitFits (b : Build) (v : Variables) (t : ℕ) (c : Member) (base : ℕ) (l : Locals)
@@ -55,9 +55,9 @@ pub record WaitFits (b : Build) (v : Variables) (t : ℕ) (c : Member) (base : �
   pub had : holds before ≡ c.monitor ∷ ms
   pub own : own_monitor f.role ≡ Some c.monitor
   pub held : all_monitors f cs ≡ c.monitor ∷ ms
-  pub code : StandAt b.code base (rebase_all base (wait_code c (link_word b.program c.monitor)
+  pub code : StandAt b.code base (rebase_all base (wait_code b.program.version c (link_word b.program c.monitor)
       (member_address b.program c) (recovery_in b c.monitor)))
-  pub after : GoesOn b t c.monitor (base + 73) l fs f cs
+  pub after : GoesOn b t c.monitor (base + wait_recovers b.program.version) l fs f cs
 
 -- a NOTIFY of condition c
 pub record NotifyFits (b : Build) (v : Variables) (t : ℕ) (c : Member) (base : ℕ) (l : Locals)

@@ -2,6 +2,7 @@
 use Rattle.std.specs.Prelude.{ℕ, ℤ, Bool, List, [], ◌∷◌, Option, Some, if◌then◌else◌}
 use Rattle.program.specs.declared.kinds.Member.{Member}
 use Rattle.program.specs.Trees.{Program}
+use Rattle.lowering.specs.Locks.{leave_length}
 use Rattle.locals.specs.declared.frame.Locals.{Locals}
 use Rattle.locals.specs.declared.frame.Frame.{Frame as MachineFrame}
 use Rattle.locals.specs.Threads.{Thread, Runs as Runs'}
@@ -9,6 +10,7 @@ use Rattle.meaning.specs.Values.{Variables}
 use Rattle.meaning.specs.Processes.{Frame, Caller, Process, Entering, Suspended, Returning, goes_on, recovers}
 use Rattle.meaning.specs.Processes.{callers_monitors}
 use Rattle.protocol.specs.Carries.{has_died}
+use Rattle.protocol.specs.Rules.{release_of}
 use Rattle.protocol.specs.Points.{Point, EnterPends, ReenterPends, GotReads, GotLinks, GotHeads, GotUnpends, WaitReads}
 use Rattle.protocol.specs.Points.{NotifyAdds, BroadcastAdds, ToExit, LeavePends, LeaveReads, LeaveHeads, LeaveSwaps}
 use Rattle.proof_thread.specs.Variables.{SameIn}
@@ -88,8 +90,10 @@ list_at (Broadcasts c base l fs before after ms) pt = c.monitor ∷ ms
 -- a thread of the machine stands at this point of the template
 abbrev pub StandsIn : Program → ℕ → Template → Point → Thread → Type 0
 StandsIn p t (Enters m base l fs f cs) pt x = EntersAt p t m base l fs pt x
-StandsIn p t (Exits m base shown l fs before z cs) pt x = ExitsAt p t m base shown l fs pt x
-StandsIn p t (Waits c base l fs before f cs ms) pt x = WaitsAt p t c base l fs pt x
+StandsIn p t (Exits m base shown l fs before z cs) pt x = ExitsAt (leave_length p.version) (release_of p.version) p t
+    m base shown l fs pt x
+StandsIn p t (Waits c base l fs before f cs ms) pt x = WaitsAt (leave_length p.version) (release_of p.version) p t c
+    base l fs pt x
 StandsIn p t (Notifies c base l fs before after ms) pt x = NotifiesAt p c base l fs pt x
 StandsIn p t (Broadcasts c base l fs before after ms) pt x = BroadcastsAt p c base l fs pt x
 

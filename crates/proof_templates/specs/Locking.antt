@@ -1,5 +1,5 @@
 -- Where a thread stands in the templates of a lock, at each of their points.
-use Rattle.std.specs.Prelude.{ℕ, ◌+◌, ◌≡◌, ◌≢◌, List, [], ◌∷◌, Option}
+use Rattle.std.specs.Prelude.{ℕ, ◌+◌, ◌-◌, ◌≡◌, ◌≢◌, List, [], ◌∷◌, Option}
 use Rattle.words.specs.Process.{process_word}
 use Rattle.locals.specs.declared.frame.Locals.{Locals}
 use Rattle.locals.specs.declared.frame.Frame.{Frame}
@@ -15,6 +15,7 @@ use Rattle.protocol.specs.Points.{LeaveWakes, HasLeft, WaitReads, ToWait, ToResu
 use Rattle.protocol.specs.Memory.{entry_address}
 use Rattle.proof_thread.specs.Following.{result_operands}
 use Rattle.proof_templates.specs.Layout.{place}
+use Rattle.protocol.specs.Rules.{ReleaseRule, DropsOwner}
 
 -- locals of these values, with a word in the templates' own
 abbrev pub template_locals : List ℕ → ℕ → Locals
@@ -60,39 +61,44 @@ pub data EntersAt (p : Program) (t m base : ℕ) (l : Locals) (fs : List Frame) 
   takes_again : {pt : Point} {x : Thread} → Takes p t m ToReenter (base + 11) l.values fs pt x
       → EntersAt p t m base l fs pt x
 
--- in the leaving of a monitor, with a result on the operands beneath
-pub data ExitsAt (p : Program) (t m base : ℕ) (shown : Option ℕ) (l : Locals) (fs : List Frame) : Point → Thread
-    → Type 0 where
-  pends : ExitsAt p t m base shown l fs (LeavePends m ToExit)
+-- the operand of the step that gives up a lock that thread t owns
+abbrev pub swap_operand : ReleaseRule → ℕ → ℕ
+swap_operand DropsOwner t = 4294967296 - t
+swap_operand u t = 0
+
+-- in the leaving of a monitor, with a result on the operands beneath; the giving up of its lock has n instructions
+pub data ExitsAt (n : ℕ) (u : ReleaseRule) (p : Program) (t m base : ℕ) (shown : Option ℕ) (l : Locals)
+    (fs : List Frame) : Point → Thread → Type 0 where
+  pends : ExitsAt n u p t m base shown l fs (LeavePends m ToExit)
       (Runs' (base + 3) (link_word p m ∷ process_word t 1 ∷ result_operands shown) l fs)
-  reads : ExitsAt p t m base shown l fs (LeaveReads m ToExit)
+  reads : ExitsAt n u p t m base shown l fs (LeaveReads m ToExit)
       (Runs' (base + 7) (link_word p m ∷ process_word t 0 ∷ result_operands shown) l fs)
-  cuts : (h : ℕ) → ExitsAt p t m base shown l fs (LeaveHeads m h ToExit)
+  cuts : (h : ℕ) → ExitsAt n u p t m base shown l fs (LeaveHeads m h ToExit)
       (Runs' (base + 8) (entry_address (place p) h ∷ process_word t 0 ∷ result_operands shown) l fs)
-  swaps : ExitsAt p t m base shown l fs (LeaveSwaps m ToExit)
-      (Runs' (base + 11) (0 ∷ lock_word_address p m ∷ result_operands shown) l fs)
-  wakes : ExitsAt p t m base shown l fs (LeaveWakes m ToExit)
-      (Runs' (base + 17) (1 ∷ lock_word_address p m ∷ result_operands shown) l fs)
-  unpends : ExitsAt p t m base shown l fs (HasLeft m ToExit)
-      (Runs' (base + 22) (0 ∷ process_word t 1 ∷ result_operands shown) l fs)
-  goes : ExitsAt p t m base shown l fs Runs (Runs' (base + 23) (result_operands shown) l fs)
+  swaps : ExitsAt n u p t m base shown l fs (LeaveSwaps m ToExit)
+      (Runs' (base + (n - 8)) (swap_operand u t ∷ lock_word_address p m ∷ result_operands shown) l fs)
+  wakes : ExitsAt n u p t m base shown l fs (LeaveWakes m ToExit)
+      (Runs' (base + (n - 2)) (1 ∷ lock_word_address p m ∷ result_operands shown) l fs)
+  unpends : ExitsAt n u p t m base shown l fs (HasLeft m ToExit)
+      (Runs' (base + (n + 3)) (0 ∷ process_word t 1 ∷ result_operands shown) l fs)
+  goes : ExitsAt n u p t m base shown l fs Runs (Runs' (base + (n + 4)) (result_operands shown) l fs)
 
 -- in a WAIT: the sequence word is read, the monitor left, and the thread sleeps; then the lock is taken again
-pub data WaitsAt (p : Program) (t : ℕ) (c : Member) (base : ℕ) (l : Locals) (fs : List Frame) : Point → Thread
-    → Type 0 where
-  numbers : WaitsAt p t c base l fs (WaitReads c)
+pub data WaitsAt (n : ℕ) (u : ReleaseRule) (p : Program) (t : ℕ) (c : Member) (base : ℕ) (l : Locals)
+    (fs : List Frame) : Point → Thread → Type 0 where
+  numbers : WaitsAt n u p t c base l fs (WaitReads c)
       (Runs' (base + 2) (member_address p c ∷ member_address p c ∷ []) l fs)
-  pends : (v : ℕ) → WaitsAt p t c base l fs (LeavePends c.monitor (ToWait c v))
+  pends : (v : ℕ) → WaitsAt n u p t c base l fs (LeavePends c.monitor (ToWait c v))
       (Runs' (base + 6) (link_word p c.monitor ∷ process_word t 1 ∷ v ∷ member_address p c ∷ []) l fs)
-  reads : (v : ℕ) → WaitsAt p t c base l fs (LeaveReads c.monitor (ToWait c v))
+  reads : (v : ℕ) → WaitsAt n u p t c base l fs (LeaveReads c.monitor (ToWait c v))
       (Runs' (base + 10) (link_word p c.monitor ∷ process_word t 0 ∷ v ∷ member_address p c ∷ []) l fs)
-  cuts : (v h : ℕ) → WaitsAt p t c base l fs (LeaveHeads c.monitor h (ToWait c v))
+  cuts : (v h : ℕ) → WaitsAt n u p t c base l fs (LeaveHeads c.monitor h (ToWait c v))
       (Runs' (base + 11) (entry_address (place p) h ∷ process_word t 0 ∷ v ∷ member_address p c ∷ []) l fs)
-  swaps : (v : ℕ) → WaitsAt p t c base l fs (LeaveSwaps c.monitor (ToWait c v))
-      (Runs' (base + 14) (0 ∷ lock_word_address p c.monitor ∷ v ∷ member_address p c ∷ []) l fs)
-  wakes : (v : ℕ) → WaitsAt p t c base l fs (LeaveWakes c.monitor (ToWait c v))
-      (Runs' (base + 20) (1 ∷ lock_word_address p c.monitor ∷ v ∷ member_address p c ∷ []) l fs)
-  sleeps : (v : ℕ) → WaitsAt p t c base l fs (HasLeft c.monitor (ToWait c v))
-      (Runs' (base + 22) (v ∷ member_address p c ∷ []) l fs)
-  takes : {pt : Point} {x : Thread} → Takes p t c.monitor (ToResume c) (base + 24) l.values fs pt x
-      → WaitsAt p t c base l fs pt x
+  swaps : (v : ℕ) → WaitsAt n u p t c base l fs (LeaveSwaps c.monitor (ToWait c v))
+      (Runs' (base + (n - 5)) (swap_operand u t ∷ lock_word_address p c.monitor ∷ v ∷ member_address p c ∷ []) l fs)
+  wakes : (v : ℕ) → WaitsAt n u p t c base l fs (LeaveWakes c.monitor (ToWait c v))
+      (Runs' (base + (n + 1)) (1 ∷ lock_word_address p c.monitor ∷ v ∷ member_address p c ∷ []) l fs)
+  sleeps : (v : ℕ) → WaitsAt n u p t c base l fs (HasLeft c.monitor (ToWait c v))
+      (Runs' (base + (n + 3)) (v ∷ member_address p c ∷ []) l fs)
+  takes : {pt : Point} {x : Thread} → Takes p t c.monitor (ToResume c) (base + (n + 5)) l.values fs pt x
+      → WaitsAt n u p t c base l fs pt x

@@ -21,6 +21,7 @@ use Rattle.proof_thread.specs.Builds.{IsBuild}
 use Rattle.proof_templates.specs.Asking.{machine_request, machine_answer, template_steps}
 use Rattle.proof_templates.specs.Inside.{Template, process_at, list_at, StandsIn, first_thread, first_point}
 use Rattle.proof_templates.specs.Inside.{TemplateFits}
+use Rattle.protocol.specs.Rules.{release_of}
 
 -- the process does what a step of its thread carries, or nothing
 abbrev pub ActsSo : Program → Variables → ℕ → Option Event → Process → Process → Type 0
@@ -49,10 +50,10 @@ pub record Comes (b : Build) (v : Variables) (t : ℕ) (k : Template) (pt : Poin
 pub record Follows (b : Build) (v : Variables) (t : ℕ) (k : Template) (pt : Point) (x : Thread) : Type 0 where
   pub asks : M.Request
   pub go : ℕ → Thread
-  pub same : machine_request b.program (request t pt) ≡ Some asks
+  pub same : machine_request b.program (request (release_of b.program.version) t pt) ≡ Some asks
   pub look : look b.code.image t x ≡ Asks asks go
   pub goes : (w : World) (T : Table) (e : End) (r : ℕ) (w' : World) → MayAnswer pt r
-      → Comes b v t k pt w T e r w' (go (machine_answer b.program (request t pt) r))
+      → Comes b v t k pt w T e r w' (go (machine_answer b.program (request (release_of b.program.version) t pt) r))
 
 -- a thread comes from before a template to its first point
 pub record Begins (b : Build) (t : ℕ) (held : Bool) (k : Template) : Type 0 where

@@ -1,11 +1,11 @@
 -- WAIT, NOTIFY and BROADCAST: a thread stands before the template, and where it goes on behind it.
-use Rattle.std.proofs.Common.{◌≡◌, ℕ, ◌+◌, List, [], Option, Some, None, refl, subst, arith, ℤ}
+use Rattle.std.proofs.Common.{◌≡◌, ℕ, ◌+◌, List, [], Option, Some, None, refl, subst, arith, ℤ, length, slice_get}
 use Rattle.program.specs.declared.kinds.Member.{Member}
 use Rattle.program.specs.Trees.{Statement, Wait, Notify, Broadcast, Block, Then, Procedure}
 use Rattle.program.specs.Scope.{own_monitor, recover_of}
 use Rattle.lowering.specs.Layout.{link_word, member_address}
-use Rattle.lowering.specs.Conditions.{wait_code}
-use Rattle.lowering.specs.Marks.{plain, rebase_all}
+use Rattle.lowering.specs.Conditions.{wait_code, wait_recovers}
+use Rattle.lowering.specs.Marks.{plain, rebase, rebase_all}
 use Rattle.lowering.specs.Statements.{start_in}
 use Rattle.lowering.specs.Pieces.{setting_of}
 use Rattle.locals.specs.declared.frame.Locals.{Locals}
@@ -23,6 +23,21 @@ use Rattle.proof_thread.proofs.Awaiting.{stand_index}
 use Rattle.proof_thread.proofs.Holding.{own_first_by, goes_on_holds, main_alone}
 use Rattle.proof_thread.proofs.Recovering.{moved_recovery, goes_on_here}
 use Rattle.proof_thread.specs.Deferrals.{IsAt}
+use Rattle.words.specs.declared.version.ImageVersion.{ImageVersion}
+use Rattle.words.specs.declared.version.ImageVersion.TheVariants.{One, Two, Linux}
+use Rattle.isa.specs.declared.instr.Instr.{Instr}
+
+wait_long : (v : ImageVersion) (place : ℕ) (c : Member) (e s : ℕ) (r : Instr)
+    → length (rebase_all place (wait_code v c e s r)) ≡ wait_recovers v + 1
+wait_long One place c e s r = refl
+wait_long Two place c e s r = refl
+wait_long Linux place c e s r = refl
+
+recovery_there : (v : ImageVersion) (place : ℕ) (c : Member) (e s : ℕ) (r : Instr)
+    → slice_get (rebase_all place (wait_code v c e s r)) (wait_recovers v) ≡ Some (plain (rebase place r))
+recovery_there One place c e s r = refl
+recovery_there Two place c e s r = refl
+recovery_there Linux place c e s r = refl
 
 module _ (b : Build) (is : IsBuild b) (t : ℕ) (v : Variables) (place : ℕ) (l : Locals) (fs : List MachineFrame)
     (values : List ℤ) (rest : Block) (procedure : Procedure) (cs : List Caller) (entered : Option ℕ) where
@@ -40,8 +55,9 @@ module _ (b : Build) (is : IsBuild b) (t : ℕ) (v : Variables) (place : ℕ) (l
 
   -- where a WAIT goes on
   wait_goes_on : (m : Member) → Context b t v place l fs values (Wait m) rest procedure cs
-      → GoesOn b t m.monitor (place + 73) l fs (frame_at procedure values rest) cs
-  wait_goes_on m c = goes_on_here b is t m.monitor (place + 73) l fs (frame_at procedure values rest) cs c.number
+      → GoesOn b t m.monitor (place + wait_recovers b.program.version) l fs (frame_at procedure values rest) cs
+  wait_goes_on m c = goes_on_here b is t m.monitor (place + wait_recovers b.program.version) l fs (frame_at procedure
+      values rest) cs c.number
       procedure frame c.sound.fits.1.0 c.sound.fits.0 here c.head.jumps (omega (arith, c.head.few, c.head.deep)) behind
       c.callers
     where
@@ -56,16 +72,22 @@ module _ (b : Build) (is : IsBuild b) (t : ℕ) (v : Variables) (place : ℕ) (l
         body = c.later;
       }
 
-      here : IsAt b.code (place + 73) (plain (recovery_in b m.monitor))
-      here = subst (λ i. IsAt b.code (place + 73) (plain i))
+      here : IsAt b.code (place + wait_recovers b.program.version) (plain (recovery_in b m.monitor))
+      here = subst (λ i. IsAt b.code (place + wait_recovers b.program.version) (plain i))
           (moved_recovery place (start_in b.starts (recover_of b.program m.monitor)))
-          (stand_index b.code place (rebase_all place (wait_code m (link_word b.program m.monitor)
-          (member_address b.program m) (recovery_in b m.monitor))) 73 (place + 73) _ c.head.here refl refl)
+          (stand_index b.code place (rebase_all place (wait_code b.program.version m (link_word b.program m.monitor)
+          (member_address b.program m) (recovery_in b m.monitor))) (wait_recovers b.program.version)
+          (place + wait_recovers b.program.version) _ c.head.here
+          (recovery_there b.program.version place m (link_word b.program m.monitor) (member_address b.program m)
+          (recovery_in b m.monitor)) refl)
 
-      at : place + 74 ≡ place + 73 + 1
-      at = omega arith
+      at : place + length (rebase_all place (wait_code b.program.version m (link_word b.program m.monitor)
+          (member_address b.program m) (recovery_in b m.monitor))) ≡ place + wait_recovers b.program.version + 1
+      at = let n = wait_long b.program.version place m (link_word b.program m.monitor) (member_address b.program m)
+          (recovery_in b m.monitor) in omega (arith, n)
 
-      behind : Implements b.code (setting_of b.program b.starts procedure) b.most c.head.jumps (place + 73 + 1) rest
+      behind : Implements b.code (setting_of b.program b.starts procedure) b.most c.head.jumps (place + wait_recovers
+          b.program.version + 1) rest
       behind = subst (λ k. Implements b.code (setting_of b.program b.starts procedure) b.most c.head.jumps k rest) at
           c.head.more
 

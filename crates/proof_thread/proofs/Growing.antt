@@ -24,6 +24,7 @@ use Rattle.proof_thread.specs.Completing.{GoesAborted, Awaits, GoesOn, Completes
 use Rattle.proof_thread.specs.Completing as F
 use Rattle.proof_thread.specs.Builds.{IsBuild}
 use Rattle.proof_thread.proofs.Walking.{same_within}
+use Rattle.lowering.specs.Conditions.{wait_recovers}
 
 pub value_grows : (most m n : ℕ) → m ≤ n → (t : ValueType) (z : ℤ) → HasValue most m t z → HasValue most n t z
 value_grows most m n le Integer z h = h
@@ -206,7 +207,8 @@ module _ (b : Build) (n : ℕ) (le : b.made ≤ n) where
     completes_grow v x q (F.exits m base shown o first e code s) = F.exits m base shown o first e code
         (stands_grow _ _ s)
     completes_grow v x q (F.waits {f = f} {cs = cs} {l = l} {fs = fs} c base is o held own all e code on) =
-        F.waits c base is o held own all e code (goes_on_grows c.monitor (base + 73) l fs f cs on)
+        F.waits c base is o held own all e code (goes_on_grows c.monitor (base + wait_recovers b.program.version) l fs
+        f cs on)
     completes_grow v x q (F.notifies c base is o first keeps e code s) =
         F.notifies c base is o first keeps e code (stands_grow _ _ s)
     completes_grow v x q (F.broadcasts c base is o first keeps e code s) =

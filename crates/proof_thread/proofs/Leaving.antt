@@ -9,7 +9,7 @@ use Rattle.program.specs.Trees.{Block, Done, Procedure}
 use Rattle.program.specs.Typing.{IsNoRecover}
 use Rattle.program.specs.WellFormed.{RoleFits}
 use Rattle.lowering.specs.Layout.{link_word}
-use Rattle.lowering.specs.Locks.{exit_code}
+use Rattle.lowering.specs.Locks.{exit_code, exit_length}
 use Rattle.lowering.specs.Marks.{rebase_all}
 use Rattle.lowering.specs.Processes.{return_code}
 use Rattle.lowering.specs.Statements.{ending_code, leaving_code}
@@ -33,6 +33,8 @@ use Rattle.proof_thread.proofs.Putting.{zero_value}
 use Rattle.proof_thread.proofs.Contexts.{frame_at, view_at, proceeds_on, proceeds_wider, stay}
 use Rattle.proof_thread.proofs.Returning.{HandsOver, called_returns, main_returns, done}
 use Rattle.proof_thread.specs.Deferrals.{IsAt, deferred_by_mark}
+use Rattle.words.specs.declared.version.ImageVersion.{ImageVersion}
+use Rattle.words.specs.declared.version.ImageVersion.TheVariants.{One, Two, Linux}
 
 -- it is no RECOVER part
 pub no_recover : (role : Role) → HandsOver role → IsNoRecover role
@@ -51,6 +53,11 @@ before_answer (Recover m) rest entered f cs h = absurd h
 before_answer External rest entered f cs h = refl
 before_answer Main rest entered f cs h = absurd h
 
+exit_long : (v : ImageVersion) (place m e : ℕ) → length (rebase_all place (exit_code v m e)) ≡ exit_length v
+exit_long One place m e = refl
+exit_long Two place m e = refl
+exit_long Linux place m e = refl
+
 module _ (b : Build) (t : ℕ) (v : Variables) where
   -- an ENTRY procedure stands before its EXIT
   exits_at : (m : ℕ) (shown : Option ℕ) (place : ℕ) (l : Locals) (fs : List MachineFrame) (number : ℕ) (q : Procedure)
@@ -60,21 +67,25 @@ module _ (b : Build) (t : ℕ) (v : Variables) where
       → offer b.program v r ≡ Does (Exits m) Nothing (Returning z cs) → holds r ≡ m ∷ callers_monitors cs
       → Proceeds b t v 0 (Runs place (result_operands shown) l fs) r
   exits_at m shown place l fs number q cs z r e callers shows code o held =
-      let template = rebase_all place (exit_code m (link_word b.program m)) in
+      let template = rebase_all place (exit_code b.program.version m (link_word b.program m)) in
       let all : StandAt b.code place (template ++ return_code (Entry m) q.result ∷ []) =
       subst (λ (role : Role). StandAt b.code place
       (leaving_code b.program role place ++ return_code role q.result ∷ []))
       e code in
-      let behind : StandAt b.code (place + 23) (return_code (Entry m) q.result ∷ []) =
-      back_stands b.code place template (return_code (Entry m) q.result ∷ []) all in
+      let behind : StandAt b.code (place + exit_length b.program.version) (return_code (Entry m) q.result ∷ []) =
+      subst (λ (n : ℕ). StandAt b.code (place + n) (return_code (Entry m) q.result ∷ []))
+      (exit_long b.program.version place m (link_word b.program m))
+      (back_stands b.code place template (return_code (Entry m) q.result ∷ []) all) in
       done b t v (Runs place (result_operands shown) l fs) r
       (F.exits m place shown o held refl (front_stands b.code place template (return_code (Entry m) q.result ∷ []) all)
-      (returns z cs (place + 23) shown l fs (stay b t 16 (Runs (place + 23) (result_operands shown) l fs)) (record {
+      (returns z cs (place + exit_length b.program.version) shown l fs (stay b t 16 (Runs (place + exit_length
+      b.program.version) (result_operands shown) l fs)) (record {
         number = number;
         procedure = q;
         monitor = m;
         role = e;
-        code = subst (λ (k : Role). StandAt b.code (place + 23) (return_code k q.result ∷ [])) (sym e) behind;
+        code = subst (λ (k : Role). StandAt b.code (place + exit_length b.program.version) (return_code k q.result ∷
+            [])) (sym e) behind;
         result = shows;
         callers = callers;
       }) refl))

@@ -33,6 +33,8 @@ use Rattle.proof_thread.specs.Following.{StepsWithin, Stands}
 pub use Rattle.proof_thread.specs.Awaiting.{IsOwn, IsInternal, return_request, left_value, IsResult, join_steps}
 pub use Rattle.proof_thread.specs.Awaiting.{GoesAborted}
 pub use Rattle.proof_thread.specs.Awaiting.{Awaits}
+use Rattle.lowering.specs.Locks.{exit_length}
+use Rattle.lowering.specs.Conditions.{wait_recovers}
 
 -- locals with a word in the templates' own
 abbrev pub with_scratch : Locals → ℕ → Locals
@@ -99,15 +101,17 @@ pub data Completes (b : Build) (t : ℕ) (v : Variables) (x : Thread) (q : Proce
   exits : {z : ℤ} {cs : List Caller} {l : Locals} {fs : List MachineFrame} (m base : ℕ) (shown : Option ℕ)
       → offer b.program v q ≡ Does (Exits m) Nothing (Returning z cs) → holds q ≡ m ∷ callers_monitors cs
       → x ≡ Runs base (result_operands shown) l fs
-      → StandAt b.code base (rebase_all base (exit_code m (link_word b.program m)))
-      → Stands b t (Runs (base + 23) (result_operands shown) l fs) (Returning z cs) → Completes b t v x q
+      → StandAt b.code base (rebase_all base (exit_code b.program.version m (link_word b.program m)))
+      → Stands b t (Runs (base + exit_length b.program.version) (result_operands shown) l fs) (Returning z cs)
+      → Completes b t v x q
   waits : {f : Frame} {cs : List Caller} {l : Locals} {fs : List MachineFrame} {ms : List ℕ} (c : Member) (base : ℕ)
       → member_type b.program c ≡ Some Condition
       → offer b.program v q ≡ Does (Waits c) Nothing (Suspended c f cs) → holds q ≡ c.monitor ∷ ms
       → own_monitor f.role ≡ Some c.monitor → all_monitors f cs ≡ c.monitor ∷ ms → x ≡ Runs base [] l fs
-      → StandAt b.code base (rebase_all base (wait_code c (link_word b.program c.monitor) (member_address b.program c)
+      → StandAt b.code base (rebase_all base (wait_code b.program.version c (link_word b.program c.monitor)
+      (member_address b.program c)
       (recovery_in b c.monitor)))
-      → GoesOn b t c.monitor (base + 73) l fs f cs → Completes b t v x q
+      → GoesOn b t c.monitor (base + wait_recovers b.program.version) l fs f cs → Completes b t v x q
   notifies : {r : Process} {l : Locals} {fs : List MachineFrame} (c : Member) (base : ℕ)
       → member_type b.program c ≡ Some Condition → offer b.program v q ≡ NotifiesSome c r → HasFirst q c.monitor
       → holds r ≡ holds q → x ≡ Runs base [] l fs → StandAt b.code base (notify_code c (member_address b.program c))

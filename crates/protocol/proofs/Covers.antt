@@ -5,6 +5,7 @@ use Rattle.std.proofs.lemmas.Bool.{cond-false, cases_eq, false≢true, eq-eqb, n
 use Rattle.program.specs.declared.kinds.Member.{Member}
 use Rattle.meaning.specs.Labels.{Killed, End, Aborted, Notifies, Broadcasts}
 use Rattle.words.specs.declared.version.ImageVersion.{ImageVersion}
+use Rattle.words.specs.declared.version.ImageVersion.TheVariants.{One, Two, Linux}
 use Rattle.words.specs.Versions.{most_of}
 use Rattle.meaning.specs.Table.{HeldBy, Table, first_table}
 use Rattle.protocol.specs.Word.{owner, waiters}
@@ -36,17 +37,18 @@ use Rattle.protocol.specs.Moves.{CutToLoad, LoadLock, KeepWake, KeepAlone, KeepF
 use Rattle.protocol.specs.Moves.{PendPassed}
 use Rattle.protocol.specs.Points.{Release, Spot, OnLock, OnSequence, LeaveLoads, LeaveKeeps, LeaveClears}
 use Rattle.protocol.specs.Cells.{HeadOf, write}
-use Rattle.protocol.specs.Rules.{Rules, AreSafe, standard_rules, ReleaseRule, ClearsWord, KeepsWaiters, TidiesWaiters}
-use Rattle.protocol.specs.Rules.{Clears, Keeps, Tidies, ExitRule, WakesAlways, WakesUnowned, WakesUncovered, Wakes, Passes}
+use Rattle.protocol.specs.Rules.{Rules, AreSafe, release_of, version_rules, ReleaseRule, ClearsWord, KeepsWaiters}
+use Rattle.protocol.specs.Rules.{TidiesWaiters}
+use Rattle.protocol.specs.Rules.{Keeps, Tidies, ExitRule, WakesAlways, WakesUnowned, WakesUncovered, Wakes, Passes}
 use Rattle.protocol.specs.World.{opening_under, awake_after, IsWake}
-use Rattle.protocol.specs.Requests.{request}
-use Rattle.protocol.specs.Answers.{WakesOne, Abandon, Serves}
+use Rattle.protocol.specs.Requests.{request, given_up}
+use Rattle.protocol.specs.Answers.{WakesOne, Foreign, Abandon, Serves}
 use Rattle.protocol.specs.Served.{IsMove, is_pending}
-use Rattle.protocol.specs.Ruled.{given_up, request_under, Foreign, WakesUnder, ExitDoesUnder, ServesUnder, released_at, woken_at}
+use Rattle.protocol.specs.Ruled.{request_under, WakesUnder, ExitDoesUnder, ServesUnder, released_at, woken_at}
 use Rattle.protocol.specs.Ruled.{IsMoveUnder}
 use Rattle.protocol.specs.Carries.{Acts, resumed_by}
 use Rattle.protocol.specs.Runs.{Leads, last_table}
-use Rattle.protocol.proofs.Rest.{good_under, rules_kept}
+use Rattle.protocol.proofs.Rest.{good_under, rules_kept, version_safe}
 use Rattle.protocol.proofs.Good.{Good}
 use Rattle.protocol.specs.Rules.{DropsOwner, Swaps, left_by}
 use Rattle.protocol.proofs.Words.{owner_dropped}
@@ -907,25 +909,75 @@ every_step_under version rules safe ss w run t p r w' pos high a s d =
     covers rules w (last_table (opening_under version rules) (first_table (most_of version)) ss) t p r w'
     (rules_kept ss (opening_under version rules) w run) (good_under version rules safe ss w run) pos high a s d
 
--- at the points of this machine's rules the two say the same
-served_plainly : (w : World) (t : ℕ) (p : Point) (r : ℕ) (w' : World) → Serves w t p (request t p) r w'
-    → ServesUnder standard_rules w t p (request_under ClearsWord t p) r w'
-served_plainly w t (LeaveLoads m k) r w' d = absurd d
-served_plainly w t (LeaveKeeps m v k) r w' d = absurd d
-served_plainly w t (LeaveClears m k) r w' d = absurd d
-served_plainly w t (LeaveSwaps m k) r w' d = d
-served_plainly w t (HasLeft m ToExit) r w' d = d
-served_plainly w t (HasLeft m (ToWait c s)) r w' d = d
-served_plainly w t (Walks zero x end) r w' d = d
-served_plainly w t (Walks (suc m) x end) r w' d = d
-served_plainly w t p r w' d = d
+-- at the points where a rule of releases says otherwise, the releases of the versions don't
+swapped_plainly : (version : ImageVersion) (w : World) (t : ℕ) (p : Point) (m r : ℕ) (w' : World)
+    → Serves w t p (given_up (release_of version) t m) r w'
+    → ServesUnder (version_rules version) w t p (given_up (release_of version) t m) r w'
+swapped_plainly One w t p m r w' d = d
+swapped_plainly Two w t p m r w' d = d
+swapped_plainly Linux w t p m r w' d = d
 
-moves_plainly : (w : World) (t : ℕ) (p : Point) (r : ℕ) (w' : World) → Serves w t p (request t p) r w'
-    → IsMoveUnder standard_rules w t p r w' → IsMove w t p r w'
-moves_plainly w t (LeaveLoads m k) r w' d h = absurd d
-moves_plainly w t (LeaveKeeps m v k) r w' d h = absurd d
-moves_plainly w t (LeaveClears m k) r w' d h = absurd d
-moves_plainly w t p r w' d h = record {
+woken_plainly : (version : ImageVersion) (w : World) (x : Spot) (r : ℕ) (w' : World) → WakesOne w x w'
+    → WakesUnder (release_of version) w x r w'
+woken_plainly One w x r w' d = d
+woken_plainly Two w x r w' d = d
+woken_plainly Linux w x r w' d = d
+
+released_plainly : (version : ImageVersion) (m : ℕ) (k : Release)
+    → released_at (release_of version) m k ≡ LeaveSwaps m k
+released_plainly One m k = refl
+released_plainly Two m k = refl
+released_plainly Linux m k = refl
+
+wakes_plainly : (version : ImageVersion) (m : ℕ) (k : Release) (r : ℕ)
+    → woken_at (release_of version) m k r ≡ HasLeft m k
+wakes_plainly One m k r = refl
+wakes_plainly Two m k r = refl
+wakes_plainly Linux m k r = refl
+
+to_next : (w : World) (t : ℕ) (p q : Point) (l : List ℕ) → p ≡ q → go_list w t p l ≡ go_list w t q l
+to_next w t p q l e = ap (λ (x : Point). go_list w t x l) e
+
+-- by the rules of a version the two say the same
+served_plainly : (version : ImageVersion) (w : World) (t : ℕ) (p : Point) (r : ℕ) (w' : World)
+    → w.rules ≡ version_rules version → Serves w t p (request (release_of version) t p) r w'
+    → ServesUnder (version_rules version) w t p (request_under (release_of version) t p) r w'
+served_plainly version w t (LeaveLoads m k) r w' same d = absurd d
+served_plainly version w t (LeaveKeeps m v k) r w' same d = absurd d
+served_plainly version w t (LeaveClears m k) r w' same d = absurd d
+served_plainly version w t (LeaveSwaps m k) r w' same d = swapped_plainly version w t (LeaveSwaps m k) m r w' d
+served_plainly version w t (LeaveWakes m k) r w' same d = woken_plainly version w (OnLock m) r w' d
+served_plainly version w t (NotifyWakes c) r w' same d = woken_plainly version w (OnSequence c) r w' d
+served_plainly version w t (HasLeft m ToExit) r w' same d = d
+served_plainly version w t (HasLeft m (ToWait c s)) r w' same d = d
+served_plainly version w t (Walks zero x end) r w' same d =
+    subst (λ (u : Rules). (r ≡ 0) × ExitDoesUnder u w t (Walks zero x end) w') same d
+served_plainly version w t (Walks (suc m) x end) r w' same d = d
+served_plainly version w t p r w' same d = d
+
+moves_plainly : (version : ImageVersion) (w : World) (t : ℕ) (p : Point) (r : ℕ) (w' : World)
+    → Serves w t p (request (release_of version) t p) r w' → IsMoveUnder (version_rules version) w t p r w'
+    → IsMove w t p r w'
+moves_plainly version w t (LeaveLoads m k) r w' d h = absurd d
+moves_plainly version w t (LeaveKeeps m v k) r w' d h = absurd d
+moves_plainly version w t (LeaveClears m k) r w' d h = absurd d
+moves_plainly version w t (LeaveHeads m e k) r w' d h = record {
+  end = h.end;
+  move = h.move;
+  can = h.can;
+  done = h.done ∙ to_next w' t _ _ (tail (w.at t).list) (released_plainly version m k);
+  possible = h.possible;
+  carries = h.carries;
+}
+moves_plainly version w t (LeaveWakes m k) r w' d h = record {
+  end = h.end;
+  move = h.move;
+  can = h.can;
+  done = h.done ∙ to_next w' t _ _ (w.at t).list (wakes_plainly version m k r);
+  possible = h.possible;
+  carries = h.carries;
+}
+moves_plainly version w t p r w' d h = record {
   end = h.end;
   move = h.move;
   can = h.can;
@@ -937,6 +989,7 @@ moves_plainly w t p r w' d h = record {
 pub every_step_is_a_move : (version : ImageVersion) (ss : List (ℕ × Move)) (w : World)
     → Leads (opening_world version) ss w
     → (t : ℕ) (p : Point) (r : ℕ) (w' : World) → 0 < t → t ≤ w.made → w.asleep t ≡ None → (w.at t).point ≡ p
-    → Serves w t p (request t p) r w' → IsMove w t p r w'
-every_step_is_a_move version ss w run t p r w' pos high a s d = moves_plainly w t p r w' d
-    (every_step_under version standard_rules (inl tt) ss w run t p r w' pos high a s (served_plainly w t p r w' d))
+    → Serves w t p (request (release_of version) t p) r w' → IsMove w t p r w'
+every_step_is_a_move version ss w run t p r w' pos high a s d = moves_plainly version w t p r w' d
+    (every_step_under version (version_rules version) (version_safe version) ss w run t p r w' pos high a s
+    (served_plainly version w t p r w' (rules_kept ss (opening_world version) w run) d))

@@ -3,6 +3,7 @@ use Rattle.std.proofs.Common.{◌≡◌, ℕ, suc, Bool, true, false, ◌==◌, 
 use Rattle.std.proofs.Common.{inr, refl, sym, ap, ◌∙◌, subst, arith, ◌≤◌, ◌+◌}
 use Rattle.std.proofs.lemmas.Bool.{false≢true, eq-eqb, eqb-true, or_left, or_right, cases_Bool}
 use Rattle.words.specs.declared.version.ImageVersion.{ImageVersion}
+use Rattle.words.specs.declared.version.ImageVersion.TheVariants.{One, Two, Linux}
 use Rattle.words.specs.Versions.{most_of}
 use Rattle.meaning.specs.Labels.{End, Label, Joins, Enters, Resumes}
 use Rattle.meaning.specs.Table.{Hold, Free, Abandoned, HeldBy, Table, first_table, Allows}
@@ -13,7 +14,7 @@ use Rattle.protocol.specs.Points.{JoinReads, JoinSleeps, LeaveWakes, Dies, Walks
 use Rattle.protocol.specs.Points.{taking_entry, entry_word}
 use Rattle.protocol.specs.World.{World, mem, opening_world, opening_under}
 use Rattle.protocol.specs.Rules.{ReleaseRule, ClearsWord, KeepsWaiters, TidiesWaiters, Rules, AreSafe, Clears}
-use Rattle.protocol.specs.Rules.{standard_rules}
+use Rattle.protocol.specs.Rules.{version_rules}
 use Rattle.protocol.specs.Moves.{Move}
 use Rattle.protocol.specs.Finds.{CarriesFinding}
 use Rattle.protocol.specs.Steps.{after}
@@ -233,9 +234,14 @@ pub good_under : (version : ImageVersion) (rules : Rules) → AreSafe rules → 
 good_under version rules safe ss w run = (run_kept ss (opening_under version rules) w (first_table (most_of version))
     (good_start version rules safe) run).1
 
+pub version_safe : (version : ImageVersion) → AreSafe (version_rules version)
+version_safe One = inl tt
+version_safe Two = inl tt
+version_safe Linux = inr tt
+
 pub good_run : (version : ImageVersion) (ss : List (ℕ × Move)) (w : World) → Leads (opening_world version) ss w
     → Good w (last_table (opening_world version) (first_table (most_of version)) ss)
-good_run version ss w run = good_under version standard_rules (inl tt) ss w run
+good_run version ss w run = good_under version (version_rules version) (version_safe version) ss w run
 
 -- moves don't change the rules
 pub rules_kept : (ss : List (ℕ × Move)) (w w' : World) → Leads w ss w' → w'.rules ≡ w.rules
@@ -283,4 +289,4 @@ safe_no_wake_lost version rules safe ss w run =
 
 pub no_wake_lost : (version : ImageVersion) (ss : List (ℕ × Move)) (w : World) → Leads (opening_world version) ss w
     → IsExplainedByMoves version ss w
-no_wake_lost version ss w run = safe_no_wake_lost version standard_rules (inl tt) ss w run
+no_wake_lost version ss w run = safe_no_wake_lost version (version_rules version) (version_safe version) ss w run

@@ -4,6 +4,7 @@ use Rattle.words.specs.Outcomes.{cause_number}
 use Rattle.words.specs.Updates.{put}
 use Rattle.meaning.specs.Labels.{End, Aborted}
 use Rattle.protocol.specs.Word.{owner, waiters, with_waiters, died_word}
+use Rattle.protocol.specs.Rules.{ExitRule, WakesAlways, WakesUnowned, WakesUncovered}
 use Rattle.protocol.specs.Points.{ToEnter, ToReenter, ToResume, ToExit, ToWait, Spot, OnLock, OnId, Point, Runs}
 use Rattle.protocol.specs.Points.{EnterPends, EnterTries, ReenterPends, ReenterTries, TakeReads, TakeMarks}
 use Rattle.protocol.specs.Points.{TakeSleeps, TakeTries, GotReads, GotLinks, GotHeads, GotUnpends, WaitReads}
@@ -22,6 +23,15 @@ pub record WakesOne (w : World) (s : Spot) (w' : World) : Type 0 where
   pub wake : IsWake w.asleep s 1 woken
   pub awake : w' ≡ record w { asleep = awake_after w.asleep woken }
 
+-- at a pending entry that the thread doesn't own one sleeper is woken, where the rule of exits says so
+abbrev pub Foreign : ExitRule → World → ℕ → World → Type 0
+Foreign WakesAlways w m w' = WakesOne w (OnLock m) w'
+Foreign WakesUnowned w m w' =
+    ((owner (w.lock m) ≡ 0) × WakesOne w (OnLock m) w') ⊎ ((owner (w.lock m) ≢ 0) × (w' ≡ w))
+Foreign WakesUncovered w m w' =
+    (((owner (w.lock m) ≡ 0) ⊎ (waiters (w.lock m) ≡ 0)) × WakesOne w (OnLock m) w')
+    ⊎ (((owner (w.lock m) ≢ 0) × (waiters (w.lock m) ≢ 0)) × (w' ≡ w))
+
 -- at its owner's exit a lock is marked as abandoned, and one sleeper is woken where it had waiters
 abbrev pub Abandon : World → ℕ → ℕ → World → Type 0
 Abandon w t m w' = (owner (w.lock m) ≡ t)
@@ -31,7 +41,8 @@ Abandon w t m w' = (owner (w.lock m) ≡ t)
 -- a step of an exit over the robust list (robust-futex ABI), by the phase that the point names
 abbrev pub ExitDoes : World → ℕ → Point → World → Type 0
 ExitDoes w t (Walks zero x end) w' = ((w.pending t ≡ 0) × (w' ≡ w))
-    ⊎ ((m : ℕ) × (w.pending t ≡ suc m) × (((owner (w.lock m) ≢ t) × WakesOne w (OnLock m) w') ⊎ Abandon w t m w'))
+    ⊎ ((m : ℕ) × (w.pending t ≡ suc m)
+    × (((owner (w.lock m) ≢ t) × Foreign w.rules.exit w m w') ⊎ Abandon w t m w'))
 ExitDoes w t (Walks (suc m) x end) w' = ((w.pending t ≡ suc m) × (w' ≡ w))
     ⊎ (((owner (w.lock m) ≢ t) × (w' ≡ w)) ⊎ ((w.pending t ≢ suc m) × Abandon w t m w'))
 ExitDoes w t (ClearsId end) w' = w' ≡ write w (IdOf t) 0

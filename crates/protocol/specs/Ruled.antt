@@ -1,46 +1,28 @@
--- What the shared words answer, and where a thread goes on, under any rules of exits and releases. At the points of this
--- machine's and its templates' rules all is as in Requests, Answers and Served, but for what a rule changes.
-use Rattle.std.specs.Prelude.{◌≡◌, ◌≢◌, ℕ, zero, suc, ◌-◌, ◌==◌, if◌then◌else◌, Option, Some, None, ◌⊎◌, length}
+-- What the shared words answer, and where a thread goes on, under any rules of exits and releases. At the points of the
+-- templates all is as in Requests, Answers and Served, but for what a rule changes.
+use Rattle.std.specs.Prelude.{◌≡◌, ◌≢◌, ℕ, zero, suc, ◌==◌, if◌then◌else◌, Option, Some, None, ◌⊎◌, length}
 use Rattle.meaning.specs.Labels.{End}
 use Rattle.meaning.specs.Table.{Table}
 use Rattle.protocol.specs.Word.{owner, waiters}
-use Rattle.protocol.specs.Rules.{Rules, ExitRule, WakesAlways, WakesUnowned, WakesUncovered}
+use Rattle.protocol.specs.Rules.{Rules}
 use Rattle.protocol.specs.Rules.{ReleaseRule, ClearsWord, KeepsWaiters, TidiesWaiters, DropsOwner}
-use Rattle.protocol.specs.Points.{Release, Spot, OnLock, Point, LeaveHeads, LeaveSwaps, LeaveLoads, LeaveKeeps}
+use Rattle.protocol.specs.Points.{Release, Spot, Point, LeaveHeads, LeaveSwaps, LeaveLoads, LeaveKeeps}
 use Rattle.protocol.specs.Points.{LeaveWakes, LeaveClears, HasLeft, Walks}
 use Rattle.protocol.specs.World.{World}
 use Rattle.protocol.specs.Moves.{Move}
 use Rattle.protocol.specs.Cells.{LockOf}
-use Rattle.protocol.specs.Requests.{Request, AskNothing, AskLoad, AskSwap, AskCompareSwap, AskAdd, AskWakeOne, AskExitStep}
-use Rattle.protocol.specs.Requests.{request}
+use Rattle.protocol.specs.Requests.{Request, AskLoad, AskCompareSwap, AskWakeOne, AskExitStep, request}
 use Rattle.protocol.specs.Steps.{Can, after, go_list}
 use Rattle.protocol.specs.Carries.{Event, Acts, event_of, release_label}
-use Rattle.protocol.specs.Answers.{WakesOne, Abandon, ExitDoes, Serves, next, next_list}
+use Rattle.protocol.specs.Answers.{WakesOne, Foreign, Abandon, ExitDoes, Serves, next, next_list}
 use Rattle.protocol.specs.Served.{MayAnswer, source_event}
-
--- how a release of this rule gives a lock up where it does so in one step
-abbrev pub given_up : ReleaseRule → ℕ → ℕ → Request
-given_up ClearsWord t m = AskSwap (LockOf m) 0
-given_up KeepsWaiters t m = AskNothing
-given_up TidiesWaiters t m = AskNothing
-given_up DropsOwner t m = AskAdd (LockOf m) (4294967296 - t)
 
 -- what thread t asks for at this point
 abbrev pub request_under : ReleaseRule → ℕ → Point → Request
-request_under u t (LeaveSwaps m k) = given_up u t m
 request_under u t (LeaveLoads m k) = AskLoad (LockOf m)
 request_under u t (LeaveKeeps m v k) = AskCompareSwap (LockOf m) v (waiters v)
 request_under u t (LeaveClears m k) = AskCompareSwap (LockOf m) 2147483648 0
-request_under u t p = request t p
-
--- at a pending entry that the thread doesn't own one sleeper is woken, where the rule of exits says so
-abbrev pub Foreign : ExitRule → World → ℕ → World → Type 0
-Foreign WakesAlways w m w' = WakesOne w (OnLock m) w'
-Foreign WakesUnowned w m w' =
-    ((owner (w.lock m) ≡ 0) × WakesOne w (OnLock m) w') ⊎ ((owner (w.lock m) ≢ 0) × (w' ≡ w))
-Foreign WakesUncovered w m w' =
-    (((owner (w.lock m) ≡ 0) ⊎ (waiters (w.lock m) ≡ 0)) × WakesOne w (OnLock m) w')
-    ⊎ (((owner (w.lock m) ≢ 0) × (waiters (w.lock m) ≢ 0)) × (w' ≡ w))
+request_under u t p = request u t p
 
 -- a step of an exit
 abbrev pub ExitDoesUnder : Rules → World → ℕ → Point → World → Type 0

@@ -1,14 +1,11 @@
 -- The rules of a machine and of its locks: whom an exit wakes at a pending entry, and how a lock is given up.
 use Rattle.std.specs.Prelude.{◌≡◌, ◌≢◌, ℕ, ◌⊎◌}
+use Rattle.words.specs.declared.version.ImageVersion.{ImageVersion}
+use Rattle.words.specs.declared.version.ImageVersion.TheVariants.{One, Two, Linux}
+use Rattle.robustexit.specs.ExitRules.{exit_of}
+pub use Rattle.robustexit.specs.declared.rule.ExitRule.{ExitRule}
+pub use Rattle.robustexit.specs.declared.rule.ExitRule.TheVariants.{WakesAlways, WakesUnowned, WakesUncovered}
 use Rattle.protocol.specs.Word.{owner, waiters}
-
--- whom an exit wakes at a pending entry that the dying thread doesn't own: one sleeper whatever the word holds; or only
--- where the word names no owner (Linux from 6.2 on); or where no owner is going to wake one, since the word names none
--- or has no waiters bit (Linux of 2026)
-pub data ExitRule : Type 0 where
-  WakesAlways : ExitRule
-  WakesUnowned : ExitRule
-  WakesUncovered : ExitRule
 
 -- how a lock is given up: its word is swapped for 0; or changed to what is left of the waiters bit by a compare-and-swap;
 -- or that, and the bit is cleared once a wake has found nobody; or its owner's number is taken off it by a
@@ -27,9 +24,15 @@ pub record Rules : Type 0 where
 abbrev pub rules_of : ExitRule → ReleaseRule → Rules
 rules_of x r = record { exit = x; release = r }
 
--- this machine's exit, and the templates' release
-abbrev pub standard_rules : Rules
-standard_rules = rules_of WakesAlways ClearsWord
+-- how the templates of an image of this version give a lock up
+abbrev pub release_of : ImageVersion → ReleaseRule
+release_of One = ClearsWord
+release_of Two = ClearsWord
+release_of Linux = DropsOwner
+
+-- the machine's exit and the templates' release, by the version of an image
+abbrev pub version_rules : ImageVersion → Rules
+version_rules version = rules_of (exit_of version) (release_of version)
 
 -- an exit wakes one sleeper of a pending word that the thread doesn't own
 abbrev pub Wakes : ExitRule → (word : ℕ) → Type 0

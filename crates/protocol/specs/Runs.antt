@@ -9,7 +9,7 @@ use Rattle.protocol.specs.Word.{owner, owner_died_bit}
 use Rattle.protocol.specs.Points.{ToEnter, ToReenter, ToResume, Owned, Spot, OnSequence, Point, Unmade, TakeReads}
 use Rattle.protocol.specs.Points.{JoinReads, JoinSleeps, JoinLearns, JoinTakes, Walks, ClearsId, LastWakes, HasEnded}
 use Rattle.protocol.specs.Points.{entry_at}
-use Rattle.protocol.specs.Rules.{ReleaseRule, ClearsWord, Rules, standard_rules}
+use Rattle.protocol.specs.Rules.{ReleaseRule, ClearsWord, Rules, version_rules}
 use Rattle.protocol.specs.World.{World, opening_under, mem}
 use Rattle.protocol.specs.Moves.{Move}
 use Rattle.protocol.specs.Steps.{Can, after}
@@ -136,6 +136,6 @@ pub record IsExplainedUnder (version : ImageVersion) (rules : Rules) (ss : List 
   -- a sequence number counts no more steps than were taken
   pub numbers : (c : Member) → w.sequence c ≤ length ss
 
--- the same on this machine, with the templates' release
+-- the same by the rules of the version
 abbrev pub IsExplainedByMoves : ImageVersion → List (ℕ × Move) → World → Type 0
-IsExplainedByMoves version ss w = IsExplainedUnder version standard_rules ss w
+IsExplainedByMoves version ss w = IsExplainedUnder version (version_rules version) ss w

@@ -6,7 +6,8 @@ ghost use Rattle.std.specs.Prelude.{◌≡◌, ℕ, ◌<◌, ◌≤◌, Bool, Li
 ghost use Rattle.words.specs.declared.version.ImageVersion.{ImageVersion};
 ghost use Rattle.protocol.specs.Points.{Point};
 ghost use Rattle.protocol.specs.World.{World, opening_world, opening_under};
-ghost use Rattle.protocol.specs.Rules.{Rules, AreSafe, rules_of, WakesUnowned, ClearsWord, TidiesWaiters};
+ghost use Rattle.protocol.specs.Rules.{Rules, AreSafe, rules_of, release_of};
+ghost use Rattle.protocol.specs.Rules.{WakesUnowned, ClearsWord, TidiesWaiters};
 ghost use Rattle.protocol.specs.Losses.{LosesWake, cleared_run, tidied_run};
 ghost use Rattle.protocol.specs.Moves.{Move};
 ghost use Rattle.protocol.specs.Runs.{Leads, IsExplainedByMoves, IsExplainedUnder};
@@ -22,8 +23,9 @@ ghost use Rattle.protocol.specs.Cells.{Cell};
 ghost use Rattle.protocol.specs.Memory.{IsApart};
 ghost use Rattle.protocol.specs.Calls.{CallsFollow};
 
-/// For each version of an image: each run of moves is explained by the source: the labels that it carries, in order,
-/// are allowed one after another, to a table that is that of the last world, in which no wake was lost.
+/// For each version of an image, by the exit of its machine and the release of its templates: each run of moves is
+/// explained by the source: the labels that it carries, in order, are allowed one after another, to a table that is
+/// that of the last world, in which no wake was lost.
 pub fn no_wake_lost()
     ensures { (version : ImageVersion) (ss : List (ℕ × Move)) (w : World)
         → Leads (opening_world version) ss w
@@ -37,7 +39,7 @@ pub fn every_step_is_a_move()
         → Leads (opening_world version) ss w
         → (t : ℕ) (p : Point) (r : ℕ) (w' : World) →
         0 < t → t ≤ w.made → w.asleep t ≡ None → (w.at t).point ≡ p
-        → Serves w t p (request t p) r w'
+        → Serves w t p (request (release_of version) t p) r w'
         → IsMove w t p r w' }
 {}
 
@@ -57,8 +59,8 @@ pub fn lock_words()
     ensures { (v : ℕ) → AreLockWords v }
 {}
 
-/// Over a flat memory that shares words and sleepers with a world, each step of robust exit is a step of the
-/// protocol's.
+/// Over a flat memory that shares words and sleepers with a world, each step of robust exit by the world's rule is a
+/// step of the protocol's.
 pub fn exits_follow()
     ensures { ExitsFollow }
 {}
@@ -75,9 +77,9 @@ pub fn phases_follow()
     ensures { PhasesFollow }
 {}
 
-/// Under other rules of exits and releases than this machine's and its templates' the first law holds too, where they
-/// are safe: any release where an exit always wakes, and, where it wakes at unowned words alone (Linux), the release
-/// that keeps the waiters bit for good.
+/// Under other rules of exits and releases than those of a version the first law holds too, where they are safe: any
+/// release where an exit always wakes, or passes only words whose waiters bit is set; and, where it wakes at unowned
+/// words alone (Linux from 6.2 on), the releases that keep the waiters bit for good.
 pub fn no_wake_lost_under()
     ensures { (version : ImageVersion) (rules : Rules) → AreSafe rules
         → (ss : List (ℕ × Move)) (w : World)

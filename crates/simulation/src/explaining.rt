@@ -24,11 +24,14 @@ fn are_same_bytes(a: &[u8], b: &[u8]) -> bool
     a == b
 }
 
-// Whether two images are the same: they are where their bytes are.
+// Whether two images are the same: they are where their versions and their bytes are.
 fn are_equal(alloc: Global, image: &Image, other: &Image) -> Result<bool, AllocError>
     ensures { IfOk result (λ b. MatchBool b (image.now ≡ other.now) (image.now ≢ other.now)) }
 {
     one_spelling();
+    if image.version() != other.version() {
+        return Ok(false);
+    }
     let bytes = encode(alloc, image)?;
     let others = encode(alloc, other)?;
     Ok(are_same_bytes(bytes.as_slice(), others.as_slice()))
