@@ -1,15 +1,12 @@
 -- Flagged states that are closed.
-use Rattle.std.proofs.Common.{◌≡◌, ◌∙◌, ◌<◌, ◌≤◌, ℕ, zero, suc, Bool, Contains, List, [], ◌∷◌, Option, Some, None, ap, arith}
-use Rattle.std.proofs.Common.{false, inl, inr, length, refl, slice_get, subst, sym, true}
+use Rattle.std.proofs.Common.{◌≡◌, ◌∙◌, ◌<◌, ℕ, zero, suc, Bool, Contains, List, [], ◌∷◌, Some, None, ap, arith}
+use Rattle.std.proofs.Common.{false, inl, inr, length, refl, slice_get, sym, true}
 use Rattle.std.proofs.lemmas.Bool.{cases_lt}
-use Rattle.std.specs.Prelude.{◌⊎◌}
+use Rattle.std.proofs.lemmas.Option.{slice_get_past}
 use Rattle.isa.specs.Programs.{Program}
-use Rattle.locals.specs.Threads.{Thread}
-use Rattle.machine.specs.States.{State}
-use Rattle.proof_pieces.specs.WholeCalls.{IsWholeStep}
-use Rattle.proof_image_search.specs.Searching.{IsCovered, Kept}
+use Rattle.proof_image_search.specs.Searching.{Kept}
 use Rattle.proof_image_liveness.specs.Sleeping.{AreAsleep}
-use Rattle.image_states.specs.Packed.{asleep_at, kept_of, place_of, thread_at}
+use Rattle.image_states.specs.Packed.{kept_of, thread_at, local_in}
 use Rattle.image_states.specs.declared.packed.Packed.{Packed as PackedOf}
 use Rattle.image_search.specs.declared.kept.KeptStates.{KeptStates as KeptOf}
 use Rattle.image_search.specs.Kept.{IsSound, states_of}
@@ -53,12 +50,6 @@ are_asleep p t kept flags closed = record {
       step;
 }
 
-unmade_in : (locals : List Thread) (ns : List ℕ) (k : ℕ) → length ns ≤ k
-    → thread_at locals ns (suc k) ≡ None
-unmade_in locals [] k most = refl
-unmade_in locals (n ∷ ns) zero most = absurd (omega (arith, most))
-unmade_in locals (n ∷ ns) (suc k) most = unmade_in locals ns k (omega (arith, most))
-
 -- a thread past those that were made takes no step
 pub closed_of : (p : Program) (t : ℕ) (a kept : KeptOf) (flags : List Bool) (place count : ℕ) → IsSound a → IsStill a kept
     → HoldsAt p a place (λ (r : Kept). r.state.made ≡ count)
@@ -87,5 +78,6 @@ closed_of p t a kept flags place count sound still made leads sleeps r at = reco
     by_thread zero = never zero refl
     by_thread (suc u) = elim (cases_lt u count) [
       | inl less ↦ leads u less r at
-      | inr most ↦ never (suc u) (unmade_in kept.parts.locals.items x.0.parts.items u (omega (arith, most, size)))
+      | inr most ↦ never (suc u)
+          (ap (local_in kept.parts.locals.items) (slice_get_past x.0.parts.items u (omega (arith, most, size))))
     ]

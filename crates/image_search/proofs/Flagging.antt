@@ -1,21 +1,18 @@
 -- What flags of kept states say.
-use Rattle.std.proofs.Common.{◌≡◌, ◌≢◌, ◌∙◌, ◌<◌, ◌≤◌, ◌+◌, ℕ, zero, suc, All, Bool, Contains, List, [], ◌∷◌, Option, Some, None, ap, arith}
+use Rattle.std.proofs.Common.{◌≡◌, ◌∙◌, ◌<◌, ◌≤◌, ◌+◌, ℕ, zero, suc, All, Bool, Contains, List, [], ◌∷◌, Option, Some, None, ap, arith}
 use Rattle.std.proofs.Common.{◌==◌, false, not, inl, inr, length, map, refl, slice_get, subst, sym, take, true}
 use Rattle.std.proofs.lemmas.Bool.{cases_lt}
 use Rattle.std.proofs.lemmas.List.{get_or_past, length-map}
 use Rattle.std.proofs.lemmas.List.Elements.{All-contains, All-more}
-use Rattle.std.proofs.lemmas.Option.{get_or_from_slice_get, slice_get_within, slice_get-map}
+use Rattle.std.proofs.lemmas.Option.{get_or_from_slice_get, slice_get_within, same_Some}
 use Rattle.std.specs.Prelude.{slice_index_or, slice_set, ◌⊎◌, Vec}
 use Rattle.std.specs.Global.{Global}
 use Rattle.isa.specs.Programs.{Program}
-use Rattle.words.specs.Versions.{most_of}
-use Rattle.locals.specs.Threads.{Thread}
 use Rattle.machine.specs.States.{State}
-use Rattle.proof_pieces.specs.WholeCalls.{IsWholeStep}
 use Rattle.proof_image_search.specs.Searching.{IsCovered, Kept}
-use Rattle.proof_image_liveness.specs.Sleeping.{AreAsleep, AreLive, AreWakened, IsFew, IsLive, IsWakened, LeadsOn}
+use Rattle.proof_image_liveness.specs.Sleeping.{AreLive, AreWakened, IsFew, IsWakened}
 use Rattle.image_states.specs.Nexts.{OwnDone, Reaches}
-use Rattle.image_states.specs.Packed.{asleep_at, kept_of, place_of, thread_at, unpacked, IsGrown, IsSameKey, IsWithin}
+use Rattle.image_states.specs.Packed.{asleep_at, kept_of, place_of, IsGrown}
 use Rattle.image_states.specs.declared.next.Next.{Next as NextOf}
 use Rattle.image_states.specs.declared.packed.Packed.{Packed as PackedOf}
 use Rattle.image_states.specs.declared.parts.Parts.{Parts as PartsOf}
@@ -23,11 +20,8 @@ use Rattle.image_states.proofs.Growing.{grown_none, grown_twice, same_key}
 use Rattle.image_search.specs.declared.kept.KeptStates.{KeptStates as KeptOf}
 use Rattle.image_search.specs.Kept.{IsSound, states_in, states_of}
 use Rattle.image_search.specs.Living.{AllWakened, AreFlagged, AreKnown, CanGo, HoldsAt, IsClosed, IsFlagged, IsMade, IsStill}
-use Rattle.image_search.specs.Living.{LeadsAt, LivesAt, OwnLeads, flagged}
+use Rattle.image_search.specs.Living.{LeadsAt, LivesAt, OwnLeads}
 use Rattle.image_search.proofs.Keeping.{contains_at, sound_still, state_at, states_still}
-
-some_same : {A : Type 0} {x y : A} → Some x ≡ Some y → x ≡ y
-some_same e = cc
 
 pub still_none : (kept : KeptOf) → IsStill kept kept
 still_none kept = record { parts = grown_none kept.parts; states = refl; most = refl }
@@ -48,7 +42,7 @@ states_same p a b sound still =
 -- one state is kept at a place
 pub one_at : (p : Program) (kept : KeptOf) (place : ℕ) (x : PackedOf) → slice_get kept.states.items place ≡ Some x
     → (r : Kept) → slice_get (states_of p kept) place ≡ Some r → kept_of p kept.parts x ≡ r
-one_at p kept place x here r at = some_same (sym (state_at p kept place x here) ∙ at)
+one_at p kept place x here r at = same_Some _ _ (sym (state_at p kept place x here) ∙ at)
 
 pub holds_at : (p : Program) (kept : KeptOf) (place : ℕ) (x : PackedOf) (Holds : Kept → Type 0)
     → slice_get kept.states.items place ≡ Some x → Holds (kept_of p kept.parts x) → HoldsAt p kept place Holds
@@ -137,7 +131,7 @@ known_more p t kept flags place known lives = by_state (slice_get (states_of p k
       lives = x ∷ known.lives;
       live = (lives x here known.lives known.flagged, known.live);
       flagged = λ i r is at. elim (get_set flags place i true true is) [
-        | inl e ↦ (0, omega arith, some_same (sym here ∙ ap (slice_get (states_of p kept)) e ∙ at))
+        | inl e ↦ (0, omega arith, same_Some _ _ (sym here ∙ ap (slice_get (states_of p kept)) e ∙ at))
         | inr was ↦ contains_more x r known.lives (known.flagged i r was at)
       ];
     }

@@ -1,5 +1,5 @@
 -- What is kept stays so while more is.
-use Rattle.std.proofs.Common.{◌≡◌, ◌∙◌, ◌++◌, ◌∷◌, ◌⊎◌, ◌<◌, [], ℕ, zero, suc, All, Contains, List, Some, ap, arith, inl, inr, length, map, refl}
+use Rattle.std.proofs.Common.{◌≡◌, ◌∙◌, ◌++◌, ◌∷◌, ◌⊎◌, [], ℕ, suc, All, Contains, List, Some, ap, arith, inl, inr, length, refl}
 use Rattle.std.proofs.Common.{slice_get, subst, sym}
 use Rattle.std.proofs.lemmas.List.Elements.{All-push, All-weaker, Contains-get_or, Contains-push}
 use Rattle.std.proofs.lemmas.List.Elements.{Contains-push_cases}
@@ -7,8 +7,8 @@ use Rattle.std.proofs.lemmas.List.{map-append}
 use Rattle.std.proofs.lemmas.Option.{get_or_from_slice_get, slice_get_within, slice_get-map}
 use Rattle.std.specs.Prelude.{option_map}
 use Rattle.isa.specs.Programs.{Program}
-use Rattle.proof_image_search.specs.Searching.{Kept}
 use Rattle.image_states.proofs.Growing.{kept_still, same_key, grown_none, prefix_contains, prefix_none, prefix_twice, within_still}
+use Rattle.image_states.proofs.Subsets.{contains_map}
 use Rattle.image_states.specs.Packed.{IsGrown, IsPrefix, IsSameKey, IsWithin, kept_of}
 use Rattle.image_states.specs.declared.next.Next.{Next as NextOf}
 use Rattle.image_states.specs.declared.packed.Packed.{Packed as PackedOf}
@@ -88,14 +88,6 @@ pub kept_all : (left : List NextOf) (n : ℕ) (kept : KeptOf) → n ≡ length l
     → Contains left y ⊎ HasKey kept.states.items y.state → HasKey kept.states.items y.state
 kept_all left n kept long none y (inl is) = absurd (let less = is.1 in omega (arith, less, long, none))
 kept_all left n kept long none y (inr has) = has
-
-pub contains_map : {X Y : Type 0} (f : X → Y) (xs : List X) (x : X) → Contains xs x → Contains (map f xs) (f x)
-contains_map f [] x (k, l, e) = absurd (omega (arith, l))
-contains_map f (y ∷ ys) x (zero, l, e) = (zero, omega arith, ap f e)
-contains_map f (y ∷ ys) x (suc k, l, e) =
-    let rest : Contains (map f ys) (f x) = contains_map f ys x (k, omega (arith, l), e) in
-    let less : rest.0 < length (map f ys) = rest.1 in
-    (suc rest.0, omega (arith, less), rest.2)
 
 pub contains_at : {X : Type 0} (xs : List X) (i : ℕ) (x : X) → slice_get xs i ≡ Some x → Contains xs x
 contains_at xs i x is =

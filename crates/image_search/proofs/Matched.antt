@@ -1,33 +1,28 @@
 -- A machine that stands as a kept state, but for local steps by which threads are further on.
-use Rattle.std.proofs.Common.{◌≡◌, ◌∙◌, ◌<◌, ◌≤◌, ◌⊎◌, ◌++◌, ℕ, zero, suc, Bool, Contains, List, [], ◌∷◌, Option, Some, None, ap, arith}
-use Rattle.std.proofs.Common.{false, inl, inr, length, refl, slice_get, subst, sym, true}
+use Rattle.std.proofs.Common.{◌≡◌, ◌∙◌, ◌≤◌, ◌⊎◌, ℕ, zero, suc, Contains, List, [], Option, Some, None, ap, arith}
+use Rattle.std.proofs.Common.{false, inl, inr, length, refl, subst, sym}
 use Rattle.std.proofs.lemmas.Bool.{cases_lt}
 use Rattle.std.proofs.lemmas.List.{get_or_past}
-use Rattle.std.specs.Prelude.{slice_index, ℤ}
+use Rattle.std.specs.Prelude.{slice_index}
+use Rattle.std.proofs.lemmas.Option.{same_Some, slice_get_past}
 use Rattle.words.specs.Versions.{most_of}
 use Rattle.isa.specs.Programs.{Program}
-use Rattle.locals.specs.Steps.{and_step, local_after, local_step}
+use Rattle.locals.specs.Steps.{local_after}
 use Rattle.locals.specs.Threads.{Thread, is_dying}
-use Rattle.machine.specs.States.{ConcreteState, State, state_of, thread_of}
-use Rattle.machine.specs.States.{thread_at as machine_thread}
+use Rattle.machine.specs.States.{State, state_of, thread_of}
 use Rattle.machine.specs.Views.{IsWellFormed, View, concrete}
 use Rattle.proof_image_search.specs.Searching.{Kept}
 use Rattle.proof_image_search.proofs.Ahead.{Ahead, AheadAt, AllAhead, ahead, one_more}
 use Rattle.proof_image_search.proofs.Closing.{Reached}
-use Rattle.image_states.specs.Nexts.{RunsOn}
-use Rattle.image_states.specs.Packed.{asleep_at, kept_of, place_of, thread_at, unpacked, words_in}
-use Rattle.image_states.specs.declared.packed.Packed.{Packed as PackedOf}
+use Rattle.image_states.specs.Packed.{asleep_at, kept_of, place_of, thread_at, unpacked, local_in}
 use Rattle.image_states.proofs.Covering.{last_step, runs_code}
 use Rattle.image_search.specs.declared.kept.KeptStates.{KeptStates as KeptOf}
 use Rattle.image_search.specs.Living.{IsThere, StandsOn}
 
-some_same : {A : Type 0} {x y : A} → Some x ≡ Some y → x ≡ y
-some_same e = cc
-
 -- local steps by none of which a thread begins to die
 ahead_by : (p : Program) (t n : ℕ) (x y : Thread) → local_after p t n x ≡ Some y → (n ≡ 0) ⊎ (is_dying y ≡ false)
     → Ahead p t n x y
-ahead_by p t zero x y goes lives = some_same goes
+ahead_by p t zero x y goes lives = same_Some _ _ goes
 ahead_by p t (suc n) x y goes lives =
     let before = last_step p t (local_after p t n x) y goes in
     one_more p t n x before.0 y (ahead_by p t n x before.0 before.1 (inr (runs_code p t before.0 y before.2))) before.2
@@ -37,16 +32,6 @@ ahead_by p t (suc n) x y goes lives =
     alive (inl never) = absurd (omega (arith, never))
     alive (inr is) = is
 
-unmade_in : (locals : List Thread) (ns : List ℕ) (k : ℕ) → length ns ≤ k → thread_at locals ns (suc k) ≡ None
-unmade_in locals [] k most = refl
-unmade_in locals (n ∷ ns) zero most = absurd (omega (arith, most))
-unmade_in locals (n ∷ ns) (suc k) most = unmade_in locals ns k (omega (arith, most))
-
-unmade_there : (threads : List Thread) (k : ℕ) → length threads ≤ k → slice_get threads k ≡ None
-unmade_there [] k most = refl
-unmade_there (x ∷ xs) zero most = absurd (omega (arith, most))
-unmade_there (x ∷ xs) (suc k) most = unmade_there xs k (omega (arith, most))
-
 module _ (p : Program) (kept : KeptOf) (place : ℕ) (v : View) (well : IsWellFormed p (concrete v))
     (there : IsThere p kept place v) where
   all : AllAhead p (thread_of (concrete v)) (thread_at kept.parts.locals.items there.packed.parts.items)
@@ -54,9 +39,10 @@ module _ (p : Program) (kept : KeptOf) (place : ℕ) (v : View) (well : IsWellFo
   all (suc k) = elim (cases_lt k (length v.threads)) [
     | inl less ↦ by_stands (there.stands k less)
     | inr most ↦ subst (λ o. AheadAt p (suc k) o (thread_at kept.parts.locals.items there.packed.parts.items (suc k)))
-        (sym (unmade_there v.threads k most))
+        (sym (slice_get_past v.threads k most))
         (subst (λ o. AheadAt p (suc k) None o)
-        (sym (unmade_in kept.parts.locals.items there.packed.parts.items k (omega (arith, most, there.made)))) tt)
+        (sym (ap (local_in kept.parts.locals.items)
+        (slice_get_past there.packed.parts.items k (omega (arith, most, there.made))))) tt)
   ]
     where
       by_stands : StandsOn p kept.parts v there.packed (suc k) → AheadAt p (suc k) (thread_of (concrete v) (suc k))

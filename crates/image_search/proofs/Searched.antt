@@ -1,18 +1,17 @@
 -- How far a search has come, and what it knows at its end.
-use Rattle.std.proofs.Common.{◌≡◌, ◌<◌, ◌≤◌, ◌∙◌, ◌+◌, ◌++◌, ◌⊎◌, ℕ, zero, suc, All, Contains, List, [], ◌∷◌, ap, arith, get_or, inl, inr}
-use Rattle.std.proofs.Common.{length, map, refl, slice_get, subst, sym, take, Some, None, Option}
+use Rattle.std.proofs.Common.{◌≡◌, ◌<◌, ◌≤◌, ◌∙◌, ◌+◌, ◌⊎◌, ℕ, All, Contains, List, ap, arith, get_or, inl, inr}
+use Rattle.std.proofs.Common.{length, refl, slice_get, subst, sym, take, Some, None, Option}
 use Rattle.std.proofs.lemmas.List.{get_or_append_left, length-append, length-map, length-take, take-append-le, take_all}
-use Rattle.std.proofs.lemmas.List.Elements.{All-contains, All-more, All-weaker, Contains-get_or}
-use Rattle.std.proofs.lemmas.Option.{get_or_from_slice_get, slice_get_within, slice_get-map}
+use Rattle.std.proofs.lemmas.List.Elements.{All-contains, All-more, All-weaker}
+use Rattle.std.proofs.lemmas.Option.{get_or_from_slice_get, slice_get_within, slice_get-map, same_Some}
 use Rattle.std.specs.Prelude.{MatchBool, MatchOption, option_map, false, true}
 use Rattle.isa.specs.Programs.{Program}
 use Rattle.machine.specs.States.{opening_state}
-use Rattle.machine.specs.Runs.{NextIsBroken}
 use Rattle.proof_image_search.specs.Searching.{HasFailed, IsCovered, IsExpanded, IsStuck, Kept, May, kills_by}
 use Rattle.proof_image_search.proofs.Closing.{grown, never_broken, never_failed, never_stuck}
 use Rattle.image_states.specs.Nexts.{AreNexts, Covers, Reaches}
 use Rattle.image_states.specs.Packed.{IsGrown, IsPrefix, IsWithin, kept_of}
-use Rattle.image_states.proofs.Growing.{kept_still, prefix_contains, same_key}
+use Rattle.image_states.proofs.Growing.{kept_still, prefix_contains}
 use Rattle.image_states.specs.declared.next.Next.{Next as NextOf}
 use Rattle.image_states.specs.declared.packed.Packed.{Packed as PackedOf}
 use Rattle.image_states.specs.declared.parts.Parts.{Parts as PartsOf}
@@ -23,10 +22,10 @@ use Rattle.image_search.specs.declared.ending.Ending.{Ending}
 use Rattle.image_search.specs.declared.ending.Ending.TheVariants.{Complete, Stuck, Failed, Broken, Bounded}
 use Rattle.image_search.specs.declared.ends.Ends.{Ends as EndsOf}
 use Rattle.image_search.specs.Ends.{AreAll, EndsSo, HasEnded, IsMet}
-use Rattle.image_search.specs.Kept.{AreEnds, HasKey, IsEnd, IsExpandedAt, IsLookedAt, IsMetBy, IsMore, IsPlain, IsSound}
-use Rattle.image_search.specs.Kept.{IsTold, IsToldAt, states_in, states_of}
+use Rattle.image_search.specs.Kept.{AreEnds, HasKey, IsEnd, IsExpandedAt, IsLookedAt, IsMetBy, IsPlain, IsSound}
+use Rattle.image_search.specs.Kept.{IsTold, IsToldAt, states_of}
 use Rattle.image_search.specs.Never.{NeverBreaks, NeverFails, NeverStuck}
-use Rattle.image_search.proofs.Keeping.{contains_at, key_in, key_kept, state_at}
+use Rattle.image_search.proofs.Keeping.{contains_at, key_in, key_kept}
 
 -- where all that may come next of the state at a place is kept, it is expanded
 module _ (p : Program) (may : May) (kept kept' : KeptOf) (place : ℕ) (x : PackedOf) (mid : PartsOf) (found : List NextOf)
@@ -180,11 +179,8 @@ looked_so p may kept kept' place passed passed' told is = record {
   state = is.0;
   here = is.1;
   expanded = is.2;
-  told = subst (IsTold p passed passed') (some_same told.0 is.0 (sym told.1 ∙ is.1)) told.2;
+  told = subst (IsTold p passed passed') (same_Some told.0 is.0 (sym told.1 ∙ is.1)) told.2;
 }
-  where
-    some_same : (r s : Kept) → Some r ≡ Some s → r ≡ s
-    some_same r s e = cc
 
 -- a bound that is met as states are kept
 pub met_so : (p : Program) (kept : KeptOf) (bound : Bound) → IsMetBy kept bound

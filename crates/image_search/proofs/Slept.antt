@@ -1,15 +1,13 @@
 -- What is told of threads that sleep for good.
-use Rattle.std.proofs.Common.{◌≡◌, ◌∙◌, ◌<◌, ◌⊎◌, ℕ, Bool, Contains, List, [], ◌∷◌, ◌++◌, None, Some, ap, arith, inl, inr, refl, slice_get, subst, sym}
+use Rattle.std.proofs.Common.{◌≡◌, ℕ, Bool, Contains, List, [], ◌∷◌, ◌++◌, None, Some, ap, arith, inl, inr, slice_get, subst, sym}
 use Rattle.std.proofs.Common.{length, true}
 use Rattle.std.proofs.lemmas.List.Elements.{Contains-push_cases}
 use Rattle.isa.specs.Programs.{Program}
 use Rattle.machine.specs.PieceStates.{PieceState, IsHeldRight}
-use Rattle.machine.specs.States.{State, state_of}
+use Rattle.machine.specs.States.{State}
 use Rattle.machine.specs.Views.{IsWellFormed, concrete}
-use Rattle.piece_machine.specs.PieceConcrete.{pieces_at}
 use Rattle.piece_machine.specs.PieceDetermined.{IsFit}
 use Rattle.piece_machine.specs.PieceViews.{PieceView, parts, pieces}
-use Rattle.proof_pieces.specs.Whole.{whole}
 use Rattle.proof_image_search.specs.Searching.{IsComplete, Kept, May}
 use Rattle.proof_image_search.proofs.Closing.{Reached}
 use Rattle.proof_image_liveness.specs.Sleeping.{AreAsleep, AreWakened, SleepsForGood}

@@ -15,7 +15,7 @@ use std::alloc::{AllocError, Global};
 fn is_asleep(kept: &KeptStates, place: u32, k: usize) -> bool
     ensures { result ≡ true → (p : Program) → HoldsAt p kept.now place (SleepsAt (suc k)) }
 {
-    match kept.states.get(place as usize) {
+    match kept.state(place) {
         None => false,
         Some(packed) => packed.place(k) != 0,
     }
@@ -25,7 +25,7 @@ fn is_asleep(kept: &KeptStates, place: u32, k: usize) -> bool
 fn threads_at(kept: &KeptStates, place: u32) -> usize
     ensures { (p : Program) → HoldsAt p kept.now place (λ r. r.state.made ≡ result) }
 {
-    match kept.states.get(place as usize) {
+    match kept.state(place) {
         None => 0,
         Some(packed) => packed.parts.len(),
     }

@@ -29,7 +29,8 @@ pub(crate) struct Ends {
 impl Ends {
     /// Whether it is any.
     pub fn is_any(self) -> bool
-        ensures { MatchBool result ((self.stuck ≡ true) ⊎ (self.failed ≡ true) ⊎ (self.broken ≡ true))
+        ensures { MatchBool result ((self.stuck ≡ true) ⊎ (self.failed ≡ true)
+            ⊎ (self.broken ≡ true))
             ((self.stuck ≡ false) × (self.failed ≡ false) × (self.broken ≡ false)) }
     {
         self.stuck || self.failed || self.broken
@@ -56,7 +57,8 @@ fn stuck_at(
     place: u32,
     outside: Outside,
 ) -> Result<Option<Vec<Turn>>, AllocError>
-    ensures { IfOk result (λ o. IfSome o (λ v. LeadsTo image.now (may_of outside) EndsStuck v.items)) }
+    ensures { IfOk result
+        (λ o. IfSome o (λ v. LeadsTo image.now (may_of outside) EndsStuck v.items)) }
 {
     let turns = schedule_to(alloc, image, kept.ways.as_slice(), place, false)?;
     let listed = turns.as_slice();
@@ -74,7 +76,8 @@ fn failed_at(
     place: u32,
     outside: Outside,
 ) -> Result<Option<Vec<Turn>>, AllocError>
-    ensures { IfOk result (λ o. IfSome o (λ v. LeadsTo image.now (may_of outside) EndsFailed v.items)) }
+    ensures { IfOk result
+        (λ o. IfSome o (λ v. LeadsTo image.now (may_of outside) EndsFailed v.items)) }
 {
     let turns = schedule_to(alloc, image, kept.ways.as_slice(), place, false)?;
     let listed = turns.as_slice();

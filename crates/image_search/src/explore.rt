@@ -62,7 +62,8 @@ fn sleeping_behind(
     scratch: &mut Scratch,
 ) -> Result<Sleeping, AllocError>
     requires sound { IsSound kept.old }
-    requires complete { ending.now ≡ Complete → IsComplete image.now (may_of outside) (states_of image.now kept.old) }
+    requires complete { ending.now ≡ Complete
+        → IsComplete image.now (may_of outside) (states_of image.now kept.old) }
     ensures { IfOk result (HasSlept image.now (may_of outside) ending.now) }
 {
     if !is_complete(ending) {
@@ -117,19 +118,23 @@ fn explore_with<P: Progress>(
     explore_from(alloc, image, kept, outside, &mut scratch, progress)
 }
 
-/// Searches all schedules of an image, breadth first, keeping at most so many states: for one by which no thread can move
-/// and not all have ended, for one by which a thread dies of a fault, and for a step that may not be. Any thread may come
-/// next, and any sleepers may be woken or moved, with strays also though nobody called for it, and with kills so many
-/// threads may be killed in a run, wherever they stand. A futex call is one step, and local steps are taken at once; what is
-/// answered holds of runs in pieces, over any number of buckets.
+/// Searches all schedules of an image, breadth first, keeping at most so many states: for one by
+/// which no thread can move and not all have ended, for one by which a thread dies of a fault, and
+/// for a step that may not be. Any thread may come next, and any sleepers may be woken or moved, with
+/// strays also though nobody called for it, and with kills so many threads may be killed in a run,
+/// wherever they stand. Threads exit by the rule of the image's version. A futex call is one step, and
+/// local steps are taken at once; what is answered holds of runs in pieces, over any number of
+/// buckets.
 ///
-/// The first end that is found, to which a schedule leads that `runner::follow` follows, ends the search, and the schedule is
-/// answered. Where all states were kept and none is such an end, there is no run to one. Else the bound that was met is
-/// named. How far the search has come is told as it goes.
+/// The first end that is found, to which a schedule leads that `runner::follow` follows, ends the
+/// search, and the schedule is answered. Where all states were kept and none is such an end, there is
+/// no run to one. Else the bound that was met is named. How far the search has come is told as it
+/// goes.
 ///
-/// Where all states were kept and none is an end, and strays aren't searched, it looks for a thread that sleeps for good: a
-/// state that a schedule leads to, in which the thread sleeps, and from which no run of the threads' own steps wakes it. Where
-/// there is none, some run wakes each thread that sleeps, wherever a run has come to.
+/// Where all states were kept and none is an end, and strays aren't searched, it looks for a thread
+/// that sleeps for good: a state that a schedule leads to, in which the thread sleeps, and from which
+/// no run of the threads' own steps wakes it. Where there is none, some run wakes each thread that
+/// sleeps, wherever a run has come to.
 pub fn explore_image<P: Progress>(
     alloc: Global,
     image: &Image,
@@ -138,9 +143,12 @@ pub fn explore_image<P: Progress>(
     progress: &mut P,
 ) -> Result<ImageExploration, AllocError>
     ensures searched { IfOk result (HasSearched image.now (may_of outside) most_states) }
-    ensures never_stuck { IfOk result (λ e. e.ending ≡ Complete → NeverStuck image.now (may_of outside)) }
-    ensures never_fails { IfOk result (λ e. e.ending ≡ Complete → NeverFails image.now (may_of outside)) }
-    ensures never_breaks { IfOk result (λ e. e.ending ≡ Complete → NeverBreaks image.now (may_of outside)) }
+    ensures never_stuck { IfOk result (λ e. e.ending ≡ Complete
+        → NeverStuck image.now (may_of outside)) }
+    ensures never_fails { IfOk result (λ e. e.ending ≡ Complete
+        → NeverFails image.now (may_of outside)) }
+    ensures never_breaks { IfOk result (λ e. e.ending ≡ Complete
+        → NeverBreaks image.now (may_of outside)) }
     ensures sleeping { IfOk result (λ e. HasSlept image.now (may_of outside) e.ending e.sleeping) }
 {
     let mut kept = KeptStates::new(alloc, most_states);

@@ -1,11 +1,11 @@
-ghost use Rattle.std.specs.Prelude.{◌≡◌, All, IfOk, IfSome, OnOk, Some, false, suc, true};
+ghost use Rattle.std.specs.Prelude.{◌≡◌, All, IfOk, OnOk, Some, false, suc, true};
 ghost use Rattle.std.specs.List.{slice_get};
 ghost use Rattle.image_search.specs.Kept.{IsSound};
 ghost use Rattle.image_search.specs.Living.{HoldsAt, IsFlagged, IsStill, OwnLeads};
 
 use crate::kept::KeptStates;
 use crate::nexts::own_nexts_at;
-use image_states::{Next, Packed, Scratch};
+use image_states::{Next, Packed, Scratch, thread_number};
 use isa::Image;
 use std::alloc::{AllocError, Global};
 
@@ -18,16 +18,6 @@ pub(crate) fn is_flagged(flags: &[bool], place: u32) -> bool
         None => false,
         Some(flag) => *flag,
     }
-}
-
-/// The number of the thread behind so many others.
-pub(crate) fn number_of(k: usize) -> Option<u32>
-    ensures { IfSome result (λ t. t ≡ suc k) }
-{
-    let Ok(before) = u32::try_from(k) else {
-        return None;
-    };
-    before.checked_add(1)
 }
 
 impl KeptStates {
@@ -71,7 +61,7 @@ pub(crate) fn own_flagged(
     ensures leads { IfOk result (λ all. all ≡ true
         → HoldsAt image.now kept.new place (OwnLeads image.now kept.new flags.now (suc k))) }
 {
-    let Some(t) = number_of(k) else {
+    let Some(t) = thread_number(k) else {
         return Ok(false);
     };
     let mut found = Vec::new(alloc);

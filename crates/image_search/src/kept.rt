@@ -1,4 +1,5 @@
-ghost use Rattle.std.specs.Prelude.{◌≡◌, Contains, IfOk, IfSome, MatchBool, MatchOption, OnOk, true};
+ghost use Rattle.std.specs.Prelude.{◌≡◌, Contains, IfOk, IfSome, MatchBool, MatchOption, None, OnOk, Some, true};
+ghost use Rattle.std.specs.List.{slice_get};
 ghost use Rattle.image_states.specs.Packed.{IsWithin};
 ghost use Rattle.image_states.specs.declared.next.Next.{Next as NextOf};
 ghost use Rattle.image_search.specs.Kept.{HasKey, HasKeyAt};
@@ -96,7 +97,8 @@ impl KeptStates {
         requires within { IsWithin self.old.parts packed }
         ensures sound { OnOk result (IsSound self.new) }
         ensures more { OnOk result (IsMoreOf self.old self.new) }
-        ensures kept { IfOk result (λ kept. MatchBool kept (HasKey self.new.states.items packed) (IsFull self.new)) }
+        ensures kept { IfOk result
+            (λ kept. MatchBool kept (HasKey self.new.states.items packed) (IsFull self.new)) }
     {
         let place = self.states.len();
         if place >= self.most as usize {
@@ -114,7 +116,8 @@ impl KeptStates {
         requires within { IsWithin self.old.parts packed }
         ensures sound { OnOk result (IsSound self.new) }
         ensures more { OnOk result (IsMoreOf self.old self.new) }
-        ensures kept { IfOk result (λ kept. MatchBool kept (HasKey self.new.states.items packed) (IsFull self.new)) }
+        ensures kept { IfOk result
+            (λ kept. MatchBool kept (HasKey self.new.states.items packed) (IsFull self.new)) }
     {
         let digest = packed.digest();
         if is_kept(self.states.as_slice(), &self.places, digest, &packed) {
@@ -133,7 +136,8 @@ impl KeptStates {
         requires sound { IsSound self.old }
         ensures sound { OnOk result (IsSound self.new) }
         ensures more { OnOk result (IsMoreOf self.old self.new) }
-        ensures kept { IfOk result (λ o. MatchOption o (HasKey self.new.states.items packed) (IsMetBy self.new)) }
+        ensures kept { IfOk result
+            (λ o. MatchOption o (HasKey self.new.states.items packed) (IsMetBy self.new)) }
     {
         if !self.parts.is_within(&packed) {
             return Ok(Some(Bound::Nexts(image_states::Bound::Foreign)));
@@ -154,7 +158,8 @@ impl KeptStates {
         requires sound { IsSound self.old }
         ensures sound { OnOk result (IsSound self.new) }
         ensures more { OnOk result (IsMoreOf self.old self.new) }
-        ensures kept { IfOk result (λ o. MatchOption o ((next : NextOf) → Contains nexts.old.items next
+        ensures kept { IfOk result
+            (λ o. MatchOption o ((next : NextOf) → Contains nexts.old.items next
             → HasKey self.new.states.items next.state) (IsMetBy self.new)) }
     {
         while let Some(next) = nexts.pop() {
@@ -173,6 +178,14 @@ impl KeptStates {
             }
         }
         Ok(None)
+    }
+
+    /// The state that is kept at a place.
+    pub fn state(&self, place: u32) -> Option<&Packed>
+        ensures { MatchOption result (slice_get self.now.states.items place ≡ None)
+            (λ x. slice_get self.now.states.items place ≡ Some x.now) }
+    {
+        self.states.get(place as usize)
     }
 
     /// The place of a state, where it is kept.

@@ -1,23 +1,24 @@
-ghost use Rattle.std.specs.Prelude.{◌≡◌, ◌≤◌, ◌<◌, All, Bool, Contains, IfOk, List, None, OnOk, Some, false, length, suc, true, ℕ};
+ghost use Rattle.std.specs.Prelude.{◌≡◌, ◌≤◌, ◌<◌, All, Contains, IfOk, None, OnOk, Some, false, length, suc, true, ℕ};
 ghost use Rattle.isa.specs.Programs.{Program};
 ghost use Rattle.proof_image_search.specs.Searching.{Kept as KeptOf};
 ghost use Rattle.proof_image_liveness.specs.Sleeping.{AreWakened};
 ghost use Rattle.image_search.specs.Kept.{IsSound, states_of};
 ghost use Rattle.image_search.specs.Living.{AllWakened, AreKnown, CanGo, HoldsAt, IsMade, IsStill, LeadsAt, LivesAt};
 
-use crate::flagged::{is_flagged, number_of, own_flagged};
+use crate::flagged::{is_flagged, own_flagged};
 use crate::graph::Graph;
 use crate::kept::KeptStates;
 use crate::reaching::{most_threads, reach_of};
-use image_states::{Packed, Scratch};
+use image_states::{Packed, Scratch, thread_number};
 use isa::Image;
 use std::alloc::{AllocError, Global};
 
 // Whether the thread behind so many others is awake in the state at a place.
 fn is_awake(kept: &KeptStates, place: u32, k: usize) -> bool
-    ensures { result ≡ true → (p : Program) → HoldsAt p kept.now place (λ r. r.state.asleep (suc k) ≡ None) }
+    ensures { result ≡ true → (p : Program)
+        → HoldsAt p kept.now place (λ r. r.state.asleep (suc k) ≡ None) }
 {
-    match kept.states.get(place as usize) {
+    match kept.state(place) {
         None => false,
         Some(packed) => packed.place(k) == 0,
     }
@@ -27,10 +28,10 @@ fn is_awake(kept: &KeptStates, place: u32, k: usize) -> bool
 fn can_go(image: &Image, kept: &KeptStates, place: u32, k: usize) -> bool
     ensures { result ≡ true → HoldsAt image.now kept.now place (CanGo image.now (suc k)) }
 {
-    let Some(t) = number_of(k) else {
+    let Some(t) = thread_number(k) else {
         return false;
     };
-    let Some(packed) = kept.states.get(place as usize) else {
+    let Some(packed) = kept.state(place) else {
         return false;
     };
     kept.parts.can_step(packed, k) && !kept.parts.is_broken_at(image, packed, k, t)
@@ -329,7 +330,8 @@ fn all_live_for(
     requires made { All (IsMade image.now) kept.old.states.items }
     ensures sound { OnOk result (IsSound kept.new) }
     ensures still { OnOk result (IsStill kept.old kept.new) }
-    ensures wakened { IfOk result (λ all. all ≡ true → (k : ℕ) → k < count → AllWakened image.now (suc k) kept.new) }
+    ensures wakened { IfOk result (λ all. all ≡ true → (k : ℕ) → k < count
+        → AllWakened image.now (suc k) kept.new) }
 {
     for k in 0..count {
         if !all_live(alloc, image, kept, graph, k, scratch)? {

@@ -4,9 +4,8 @@ ghost use Rattle.machine.specs.Views.{concrete};
 ghost use Rattle.image_states.specs.Packed.{place_of, words_in};
 ghost use Rattle.image_search.specs.Living.{IsThere, SameAsleep, StandsOn};
 
-use crate::flagged::number_of;
 use crate::kept::KeptStates;
-use image_states::{Packed, Parts, Scratch};
+use image_states::{Packed, Parts, Scratch, thread_number};
 use isa::Image;
 use machine::Machine;
 use words::{Addr, Mem};
@@ -55,7 +54,7 @@ fn place_in(machine: &Machine, t: u32) -> Option<u32>
 fn sleeps_so(machine: &Machine, packed: &Packed, k: usize) -> bool
     ensures { result ≡ true → SameAsleep machine.now packed.now (suc k) }
 {
-    let Some(t) = number_of(k) else {
+    let Some(t) = thread_number(k) else {
         return false;
     };
     let Some(place) = place_in(machine, t) else {
@@ -76,7 +75,7 @@ fn stands_so(
     requires { k < length machine.now.threads }
     ensures { result ≡ true → StandsOn image.now parts.now machine.now packed.now (suc k) }
 {
-    let Some(t) = number_of(k) else {
+    let Some(t) = thread_number(k) else {
         return false;
     };
     let Some(local) = parts.thread(packed, k) else {
@@ -126,7 +125,7 @@ pub(crate) fn is_there(
 ) -> bool
     ensures { result ≡ true → IsThere image.now kept.now place machine.now }
 {
-    let Some(packed) = kept.states.get(place as usize) else {
+    let Some(packed) = kept.state(place) else {
         return false;
     };
     has_memory(&kept.parts, machine, packed.memory)

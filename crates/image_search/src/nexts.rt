@@ -21,7 +21,8 @@ pub(crate) fn nexts_at(
 ) -> Result<Option<image_states::Bound>, AllocError>
     requires { All (IsWithin parts.old) states.now }
     ensures grown { OnOk result (IsGrown parts.old parts.new) }
-    ensures nexts { IfOk result (λ o. o ≡ None → (x : PackedOf) × (slice_get states.now place ≡ Some x)
+    ensures nexts { IfOk result (λ o. o ≡ None → (x : PackedOf)
+        × (slice_get states.now place ≡ Some x)
         × AreNexts image.now (may_of outside) parts.new x found.new.items) }
 {
     let Some(packed) = states.get(place as usize) else {
@@ -45,7 +46,8 @@ pub(crate) fn own_nexts_at(
     requires within { All (IsWithin parts.old) states.now }
     requires number { t ≡ suc k }
     ensures grown { OnOk result (IsGrown parts.old parts.new) }
-    ensures done { IfOk result (λ o. o ≡ None → (x : PackedOf) × (slice_get states.now place ≡ Some x)
+    ensures done { IfOk result (λ o. o ≡ None → (x : PackedOf)
+        × (slice_get states.now place ≡ Some x)
         × OwnDone image.now parts.new x found.new.items t) }
 {
     let Some(packed) = states.get(place as usize) else {

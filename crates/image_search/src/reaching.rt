@@ -1,3 +1,4 @@
+use crate::flagged::is_flagged;
 use crate::graph::{Edge, Graph};
 use crate::kept::KeptStates;
 use std::alloc::{AllocError, Global};
@@ -28,21 +29,13 @@ fn awake(alloc: Global, kept: &KeptStates, k: usize) -> Result<Reach, AllocError
     Ok(Reach { reached, order })
 }
 
-// Whether a place is reached.
-fn is_reached(reached: &[bool], place: u32) -> bool {
-    match reached.get(place as usize) {
-        None => false,
-        Some(is) => *is,
-    }
-}
-
 impl Reach {
     // Goes back over one step; whether a place more is reached.
     fn go_back(&mut self, edge: Edge) -> Result<bool, AllocError> {
-        if is_reached(self.reached.as_slice(), edge.from) {
+        if is_flagged(self.reached.as_slice(), edge.from) {
             return Ok(false);
         }
-        if !is_reached(self.reached.as_slice(), edge.to) {
+        if !is_flagged(self.reached.as_slice(), edge.to) {
             return Ok(false);
         }
         self.order.push(edge.from)?;

@@ -39,7 +39,7 @@ fn look_at_ends(
     ensures told { IfOk result (λ o. o ≡ None
         → IsToldAt image.now (states_of image.now kept.now) place passed.old passed.new) }
 {
-    let Some(packed) = kept.states.get(place as usize) else {
+    let Some(packed) = kept.state(place) else {
         return Ok(Some(Ending::Bounded(Bound::Nexts(image_states::Bound::Foreign))));
     };
     let ends = ends_of(image, &kept.parts, packed);
@@ -68,7 +68,8 @@ fn expand(
     ensures sound { OnOk result (IsSound kept.new) }
     ensures more { OnOk result (IsMore kept.old kept.new) }
     ensures expanded { IfOk result (λ o. MatchOption o
-        (IsExpandedAt image.now (may_of outside) (states_of image.now kept.old) (states_of image.now kept.new) place)
+        (IsExpandedAt image.now (may_of outside) (states_of image.now kept.old)
+        (states_of image.now kept.new) place)
         (IsMetBy kept.new)) }
 {
     let mut found = Vec::new(alloc);
@@ -103,7 +104,8 @@ fn look_at(
     ensures sound { OnOk result (IsSound kept.new) }
     ensures more { OnOk result (IsMore kept.old kept.new) }
     ensures looked { IfOk result (λ o. MatchOption o
-        (IsLookedAt image.now (may_of outside) (states_of image.now kept.old) (states_of image.now kept.new) place
+        (IsLookedAt image.now (may_of outside) (states_of image.now kept.old)
+        (states_of image.now kept.new) place
         passed.old passed.new)
         (HasEnded image.now (may_of outside) kept.new.most (states_of image.now kept.new))) }
 {
@@ -137,10 +139,12 @@ pub(crate) fn search<P: Progress>(
     progress: &mut P,
 ) -> Result<Ending, AllocError>
     requires sound { IsSound kept.old }
-    requires opens { (m : ℕ) × IsCovered image.now (states_of image.now kept.old) m (opening_state image.now) 0 }
+    requires opens { (m : ℕ)
+        × IsCovered image.now (states_of image.now kept.old) m (opening_state image.now) 0 }
     ensures sound { OnOk result (IsSound kept.new) }
     ensures most { OnOk result (kept.new.most ≡ kept.old.most) }
-    ensures ended { IfOk result (HasEnded image.now (may_of outside) kept.old.most (states_of image.now kept.new)) }
+    ensures ended { IfOk result
+        (HasEnded image.now (may_of outside) kept.old.most (states_of image.now kept.new)) }
 {
     let mut passed = 0;
     for place in 0..kept.most {

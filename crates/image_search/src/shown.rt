@@ -83,7 +83,8 @@ pub(crate) fn is_stuck_run(
     turns: &[Turn],
     outside: Outside,
 ) -> Result<bool, AllocError>
-    ensures { IfOk result (λ is. is ≡ true → LeadsTo image.now (may_of outside) EndsStuck turns.now) }
+    ensures { IfOk result (λ is. is ≡ true
+        → LeadsTo image.now (may_of outside) EndsStuck turns.now) }
 {
     if !are_from(turns, outside) {
         return Ok(false);
@@ -101,7 +102,8 @@ pub(crate) fn is_failed_run(
     turns: &[Turn],
     outside: Outside,
 ) -> Result<bool, AllocError>
-    ensures { IfOk result (λ is. is ≡ true → LeadsTo image.now (may_of outside) EndsFailed turns.now) }
+    ensures { IfOk result (λ is. is ≡ true
+        → LeadsTo image.now (may_of outside) EndsFailed turns.now) }
 {
     if !are_from(turns, outside) {
         return Ok(false);

@@ -10,7 +10,7 @@ ghost use Rattle.image_search.specs.Sleeping.{AllSleepForGood, TellsOfSleepers};
 
 use crate::closing::is_closed;
 use crate::ending::{Doubt, Sleeping};
-use crate::flagged::{is_flagged, number_of};
+use crate::flagged::is_flagged;
 use crate::graph::Graph;
 use crate::kept::KeptStates;
 use crate::lasting::lasting;
@@ -20,7 +20,7 @@ use crate::reaching::{reach_of, unreached};
 use crate::shown::no_run;
 use crate::spelling::schedule_to;
 use crate::turns::are_from;
-use image_states::{Outside, Scratch};
+use image_states::{Outside, Scratch, thread_number};
 use isa::Image;
 use piece_machine::PieceMachine;
 use runner::{Report, Turn, follow};
@@ -112,7 +112,7 @@ fn add_sleeper(
     ensures sleep { OnOk result (last.now.view.program ≡ image.now
         → (t : ℕ) → Contains threads.new.items t → SleepsForGood image.now (pieces last.now) t) }
 {
-    let Some(t) = number_of(k) else {
+    let Some(t) = thread_number(k) else {
         return Ok(());
     };
     if !is_sleeper(alloc, image, kept, graph, place, k, last, scratch)? {

@@ -9,7 +9,7 @@ use Rattle.words.specs.Updates.{put}
 use Rattle.words.proofs.Updates.{put_other}
 use Rattle.words.specs.Versions.{base_of}
 use Rattle.words.specs.declared.version.ImageVersion.{ImageVersion}
-use Rattle.words.specs.declared.version.ImageVersion.TheVariants.{One, Two}
+use Rattle.words.specs.declared.version.ImageVersion.TheVariants.{One, Two, Linux}
 use Rattle.isa.specs.Programs.{Program, memory_size}
 use Rattle.locals.specs.Threads.{opening_thread}
 use Rattle.machine.specs.States.{State, opening_state, with_thread}
@@ -29,6 +29,7 @@ zeros (suc n) (suc k) = zeros n k
 far : (v : ImageVersion) → 3 < base_of v
 far One = omega arith
 far Two = omega arith
+far Linux = omega arith
 
 three_within : (p : Program) → 3 < memory_size p
 three_within p = let l : 3 < base_of p.version = far p.version in omega (arith, l)

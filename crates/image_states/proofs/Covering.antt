@@ -5,7 +5,7 @@ use Rattle.std.proofs.lemmas.Bool.{eqb-true, eqb-false}
 use Rattle.std.specs.Prelude.{◌⊎◌, slice_index, slice_set, ℤ}
 use Rattle.std.proofs.lemmas.List.{length-set}
 use Rattle.std.proofs.lemmas.List.Elements.{All-set}
-use Rattle.std.proofs.lemmas.Option.{slice_get_within}
+use Rattle.std.proofs.lemmas.Option.{slice_get_within, same_Some}
 use Rattle.words.specs.Updates.{put}
 use Rattle.words.proofs.Updates.{at_put, put_again, put_same}
 use Rattle.isa.specs.Programs.{Program}
@@ -36,9 +36,6 @@ pub last_step : (p : Program) (t : ℕ) (o : Option Thread) (y : Thread) → and
 last_step p t None y e = absurd cc
 last_step p t (Some z) y e = (z, refl, e)
 
-some_one : (x y : Thread) → Some x ≡ Some y → x ≡ y
-some_one x y e = cc
-
 -- before more local steps a thread runs its code
 pub runs_before : (p : Program) (t n k : ℕ) (x y z : Thread) → local_after p t n x ≡ Some z → k < n
     → local_after p t k x ≡ Some y → is_dying y ≡ false
@@ -53,7 +50,7 @@ runs_before p t (suc n) k x y z goes less here =
     at true e rest =
         let same : k ≡ n = eqb-true k n e in
         let one : before.0 ≡ y =
-        some_one before.0 y (sym before.1 ∙ ap (λ m. local_after p t m x) (sym same) ∙ here) in
+        same_Some before.0 y (sym before.1 ∙ ap (λ m. local_after p t m x) (sym same) ∙ here) in
         subst (λ w. is_dying w ≡ false) one (runs_code p t before.0 z before.2)
     at false e rest = rest (let ne : k ≢ n = eqb-false k n e in omega (arith, less, ne))
 
@@ -62,7 +59,7 @@ pub run_covered : (p : Program) (kept : List Kept) (k : ℕ) (s : State) (t n : 
     → local_after p t n x ≡ Some y → (n ≡ 0) ⊎ (is_dying y ≡ false)
     → (m : ℕ) × IsCovered p kept m (with_thread s t y) k → (m : ℕ) × IsCovered p kept m (with_thread s t x) k
 run_covered p kept k s t zero x y e lives c =
-    subst (λ z. (m : ℕ) × IsCovered p kept m (with_thread s t z) k) (sym (some_one x y e)) c
+    subst (λ z. (m : ℕ) × IsCovered p kept m (with_thread s t z) k) (sym (same_Some x y e)) c
 run_covered p kept k s t (suc n) x y e lives c =
     run_covered p kept k s t n x before.0 before.1 (inr (runs_code p t before.0 y before.2)) (
       suc c.0,

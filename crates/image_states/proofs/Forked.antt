@@ -4,7 +4,7 @@ use Rattle.std.proofs.Common.{inl, inr, refl, sym, ap, subst, arith, length, All
 use Rattle.std.specs.Prelude.{◌⊎◌, slice_index, slice_set}
 use Rattle.std.proofs.lemmas.List.{length-append, length-set}
 use Rattle.std.proofs.lemmas.List.Elements.{All-push, All-set}
-use Rattle.std.proofs.lemmas.Option.{slice_get_within}
+use Rattle.std.proofs.lemmas.Option.{slice_get_within, same_Some}
 use Rattle.words.specs.Process.{process_word}
 use Rattle.words.specs.Updates.{put}
 use Rattle.words.specs.Versions.{most_of}
@@ -16,7 +16,6 @@ use Rattle.locals.specs.Requests.{after_answer, fork_child}
 use Rattle.machine.specs.AbstractServing.{with_child}
 use Rattle.machine.specs.RequestMeanings.{AsksFork}
 use Rattle.machine.specs.States.{State, with_thread}
-use Rattle.proof_pieces.specs.WholeCalls.{ServesWhole}
 use Rattle.proof_image_search.specs.Searching.{IsCovered}
 use Rattle.image_states.specs.declared.next.Next.{Next as NextOf}
 use Rattle.image_states.specs.declared.packed.Packed.{Packed as PackedOf}
@@ -26,8 +25,8 @@ use Rattle.image_states.specs.Nexts.{Covers, IsBase, MovesTo, Reaches, ReachesAt
 use Rattle.image_states.specs.Packed.{asleep_at, local_in, thread_at, unpacked, words_in, IsWithin}
 use Rattle.image_states.proofs.Covering.{leaf, put_thread, run_covered}
 use Rattle.image_states.proofs.Growing.{slice_get_last}
-use Rattle.image_states.proofs.Served.{moves_asked, set_put}
-use Rattle.image_states.proofs.Stepped.{answered_is, reached_so}
+use Rattle.image_states.proofs.Served.{moves_asked, set_put, AllServed}
+use Rattle.image_states.proofs.Stepped.{answered_so}
 
 -- a thread that asks for a fork
 pub record IsFork (l : Look) (room : Bool) : Type 0 where
@@ -189,11 +188,8 @@ fork_moves p parts x state k t memory here child nexts number asks child_is few 
     fork : IsFork (look p t here) true
     fork = is_fork (look p t here) true asks
 
-    some_thread : (a b : Thread) → Some a ≡ Some b → a ≡ b
-    some_thread a b e = cc
-
     child_opens : child ≡ opening_thread fork.entry fork.arguments
-    child_opens = some_thread child (opening_thread fork.entry fork.arguments) (sym child_is ∙ ap fork_child fork.asks)
+    child_opens = same_Some child (opening_thread fork.entry fork.arguments) (sym child_is ∙ ap fork_child fork.asks)
 
     runs : RunsOn p (suc (length x.parts.items)) has.count (opening_thread fork.entry fork.arguments) has.there
     runs = subst (λ z. RunsOn p (suc (length x.parts.items)) has.count z has.there) child_opens has.runs
@@ -215,16 +211,12 @@ fork_moves p parts x state k t memory here child nexts number asks child_is few 
           less);
     }
 
-    each : (woken : List ℕ) (answer : ℕ) (mid : State)
-        → ServesWhole t (AskFork fork.entry fork.arguments true) (unpacked p parts x) woken answer mid
-        → Reaches p parts nexts (with_thread mid t (fork.go answer)) x.killed
+    each : AllServed p parts x nexts t here (AskFork fork.entry fork.arguments true)
     each woken answer mid (nobody, inl (full, zero_is, leads)) =
         absurd (let e : length x.parts.items ≡ most_of p.version = full in omega (arith, e, few))
     each woken answer mid (nobody, inr (room, has_room, number_is, leads)) =
-        reached_so p parts x nexts t (after_answer (look p t here) (suc (length x.parts.items)) here) (fork.go answer)
-        (with_child (unpacked p parts x) fork.entry fork.arguments) mid (sym leads)
-        (answered_is (look p t here) (AskFork fork.entry fork.arguments true) fork.go (suc (length x.parts.items)) here
-        fork.asks ∙ ap fork.go (sym number_is))
+        answered_so p parts x nexts t here (suc (length x.parts.items)) answer
+        (with_child (unpacked p parts x) fork.entry fork.arguments) mid (sym leads) number_is
         (subst (λ j. Reaches p parts nexts
         (with_thread (with_child (unpacked p parts x) fork.entry fork.arguments) j
         (after_answer (look p t here) (suc (length x.parts.items)) here)) x.killed) (sym number) reached)
@@ -241,15 +233,9 @@ full_moves p parts x t here room nexts asks full reaches =
     fork : IsFork (look p t here) room
     fork = is_fork (look p t here) room asks
 
-    each : (woken : List ℕ) (answer : ℕ) (mid : State)
-        → ServesWhole t (AskFork fork.entry fork.arguments room) (unpacked p parts x) woken answer mid
-        → Reaches p parts nexts (with_thread mid t (fork.go answer)) x.killed
+    each : AllServed p parts x nexts t here (AskFork fork.entry fork.arguments room)
     each woken answer mid (nobody, inl (is, zero_is, leads)) =
-        reached_so p parts x nexts t (after_answer (look p t here) 0 here) (fork.go answer) (unpacked p parts x) mid
-        (sym leads)
-        (answered_is (look p t here) (AskFork fork.entry fork.arguments room) fork.go 0 here fork.asks
-        ∙ ap fork.go (sym zero_is))
-        (reaches [])
+        answered_so p parts x nexts t here 0 answer (unpacked p parts x) mid (sym leads) zero_is (reaches [])
     each woken answer mid (nobody, inr (few, has_room, number_is, leads)) =
         absurd (let l : length x.parts.items < most_of p.version = few in omega (arith, l, full))
 
@@ -264,9 +250,7 @@ no_fork_moves p parts x t here room nexts asks not why =
     fork : IsFork (look p t here) room
     fork = is_fork (look p t here) room asks
 
-    each : (woken : List ℕ) (answer : ℕ) (mid : State)
-        → ServesWhole t (AskFork fork.entry fork.arguments room) (unpacked p parts x) woken answer mid
-        → Reaches p parts nexts (with_thread mid t (fork.go answer)) x.killed
+    each : AllServed p parts x nexts t here (AskFork fork.entry fork.arguments room)
     each woken answer mid (nobody, inl (is, zero_is, leads)) = absurd (not is)
     each woken answer mid (nobody, inr (few, has_room, number_is, leads)) = absurd (by why)
       where

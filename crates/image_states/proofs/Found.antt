@@ -3,7 +3,7 @@ use Rattle.std.proofs.Common.{◌≡◌, ◌≢◌, ◌<◌, ◌≤◌, ◌∙�
 use Rattle.std.proofs.Common.{inl, inr, refl, sym, ap, subst, arith, length, ◌&&◌}
 use Rattle.std.specs.Prelude.{slice_index, MatchBool}
 use Rattle.std.proofs.lemmas.Bool.{cases_lt}
-use Rattle.std.proofs.lemmas.Option.{slice_get_past}
+use Rattle.std.proofs.lemmas.Option.{slice_get_past, same_Some}
 use Rattle.words.specs.declared.outcome.Cause.TheVariants.{Faulted}
 use Rattle.words.specs.declared.outcome.Fault.{Fault}
 use Rattle.isa.specs.Programs.{Program}
@@ -29,9 +29,6 @@ use Rattle.image_states.proofs.Forked.{is_fork, IsFork}
 use Rattle.image_states.proofs.Served.{asks}
 use Rattle.image_states.proofs.Turned.{broken_told, ended_told, exit_told}
 
-some_one : (a b : Thread) → Some a ≡ Some b → a ≡ b
-some_one a b e = cc
-
 -- a thread that was made and has not ended
 ended_is : (z : Thread) → z ≡ Exits Ended → has_ended (Some z) ≡ true
 ended_is z e = ap (λ y. has_ended (Some y)) e
@@ -52,7 +49,7 @@ pub live_so : (s : State) (t : ℕ) (z : Thread) (ended : Bool) → s.thread t �
     → MatchBool ended (z ≡ Exits Ended) (z ≢ Exits Ended)
     → MatchBool (not ended) (IsLive s t) (IsLive s t → ⊥)
 live_so s t z true stands is = λ live.
-    let differ : true ≡ false = sym (ended_is z is) ∙ ap (λ y. has_ended (Some y)) (some_one z live.thread
+    let differ : true ≡ false = sym (ended_is z is) ∙ ap (λ y. has_ended (Some y)) (same_Some z live.thread
     (sym stands ∙ live.stands)) ∙ live.goes_on in cc
 live_so s t z false stands is = record { thread = z; stands = stands; goes_on = goes_on z is }
 
@@ -116,7 +113,8 @@ failing_absent s t none (fault, stands) = let differ : None ≡ Some (Dies (Faul
 pub failing_so : (s : State) (t : ℕ) (z : Thread) (b : Bool) → s.thread t ≡ Some z
     → MatchBool b (IsFailing z) (IsFailing z → ⊥) → MatchBool b (IsFailingAt s t) (IsFailingAt s t → ⊥)
 failing_so s t z true stands (fault, is) = (fault, stands ∙ ap (λ y. Some y) is)
-failing_so s t z false stands not_so = λ (fault, is). not_so (fault, some_one z (Dies (Faulted fault)) (sym stands ∙ is))
+failing_so s t z false stands not_so =
+    λ (fault, is). not_so (fault, same_Some z (Dies (Faulted fault)) (sym stands ∙ is))
 
 -- what the code tells of a thread that is dying
 pub dying_told : (p : Program) (t : ℕ) (z : Thread) (fault : Fault) → is_dying z ≡ true
@@ -201,7 +199,7 @@ pub broken_at : (p : Program) (s : State) (t : ℕ) (z : Thread) (b : Bool) → 
     → MatchBool b (NextIsBroken p s t) (NextIsBroken p s t → ⊥)
 broken_at p s t z true stands awake is = record { thread = z; stands = stands; awake = awake; breaks = is }
 broken_at p s t z false stands awake is = λ next.
-    is (subst (λ y. IsBroken s (look p t y)) (some_one next.thread z (sym next.stands ∙ stands)) next.breaks)
+    is (subst (λ y. IsBroken s (look p t y)) (same_Some next.thread z (sym next.stands ∙ stands)) next.breaks)
 
 pub broken_absent : (p : Program) (s : State) (t : ℕ) → s.thread t ≡ None → NextIsBroken p s t → ⊥
 broken_absent p s t none next = let differ : None ≡ Some next.thread = sym none ∙ next.stands in cc

@@ -26,14 +26,20 @@ only : {X : Type 0} (x y : X) → Contains (x ∷ []) y → x ≡ y
 only x y (zero, l, e) = e
 only x y (suc k, l, e) = absurd (omega (arith, l))
 
+-- of each of these and of one behind them
+pub all_and_one : {X : Type 0} (P : X → Type 0) (xs ys : List X) (one : X) → ys ≡ xs ++ one ∷ []
+    → ((x : X) → Contains xs x → P x) → P one → (x : X) → Contains ys x → P x
+all_and_one P xs ys one last all this x has =
+    elim (Contains-append_cases xs (one ∷ []) x (subst (λ l. Contains l x) last has)) [
+      | inl c ↦ all x c
+      | inr c ↦ subst P (only one x c) this
+    ]
+
 pub one_more_list : (P : List ℕ → Type 0) (lists : List (Vec ℕ Global)) (i : ℕ) (list : Vec ℕ Global) → i < length lists
     → list ≡ get_or lists i list → ((x : List ℕ) → Contains (lists_in (take i lists)) x → P x) → P list.items
     → (x : List ℕ) → Contains (lists_in (take (i + 1) lists)) x → P x
-one_more_list P lists i list less is all one x has =
-    elim (Contains-append_cases (lists_in (take i lists)) (list.items ∷ []) x (subst (λ l. Contains l x) last has)) [
-      | inl c ↦ all x c
-      | inr c ↦ subst P (only list.items x c) one
-    ]
+one_more_list P lists i list less is =
+    all_and_one P (lists_in (take i lists)) (lists_in (take (i + 1) lists)) list.items last
   where
     last : lists_in (take (i + 1) lists) ≡ lists_in (take i lists) ++ list.items ∷ []
     last = map_more (λ (l : Vec ℕ Global). l.items) lists i list less

@@ -10,8 +10,10 @@ use Rattle.buckets.specs.Places.{with_place}
 use Rattle.futexcalls.specs.FutexCalls.{Wakes}
 use Rattle.robustexit.specs.declared.phase.ExitPhase.{ExitPhase}
 use Rattle.robustexit.specs.declared.phase.ExitPhase.TheVariants.{Entry, Pending, ClearId, LastWake, Ended}
+use Rattle.robustexit.specs.declared.rule.ExitRule.{ExitRule}
+use Rattle.robustexit.specs.ExitRules.{wakes}
 use Rattle.robustexit.specs.Phases.{next_entry}
-use Rattle.robustexit.specs.RobustExit.{Shared, Abandons, EntryStep, ExitStep, IsEntry, IsIdle, PendingStep, WakesOne}
+use Rattle.robustexit.specs.RobustExit.{Shared, Abandons, EntryStep, IsEntry, IsIdle, PendingStep}
 use Rattle.robustexit.specs.RobustExit as exit
 use Rattle.image_states.specs.declared.exits.ExitPlan.{ExitPlan}
 use Rattle.image_states.specs.Exits.{IsPlanned, IsPlanOf, WakesAt}
@@ -56,18 +58,19 @@ abandoned t before after lock word woken next reached at ab is = record {
 }
 
 -- no entry
-pub no_entry : (size t seen : ℕ) (e : Addr) (word : ℕ → ℕ) → (IsEntry size e.0 → ⊥)
-    → IsPlanOf size t (Entry e seen) word (idle_plan Pending)
-no_entry size t seen e word not asleep woken after next (inl (is, step, goes)) = absurd (not is)
-no_entry size t seen e word not asleep woken after next (inr (never, idle, goes)) =
+pub no_entry : (rule : ExitRule) (size t seen : ℕ) (e : Addr) (word : ℕ → ℕ) → (IsEntry size e.0 → ⊥)
+    → IsPlanOf rule size t (Entry e seen) word (idle_plan Pending)
+no_entry rule size t seen e word not asleep woken after next (inl (is, step, goes)) = absurd (not is)
+no_entry rule size t seen e word not asleep woken after next (inr (never, idle, goes)) =
     idles (record { word = word; asleep = asleep }) after woken Pending next idle goes
 
 -- an entry that is the pending one, or not the thread's
-pub idle_entry : (size t seen : ℕ) (e : Addr) (word : ℕ → ℕ) (next : ExitPhase) → IsEntry size e.0
+pub idle_entry : (rule : ExitRule) (size t seen : ℕ) (e : Addr) (word : ℕ → ℕ) (next : ExitPhase) → IsEntry size e.0
     → (word (process_word t 1) ≡ e.0) ⊎ (owner_of (word (e.0 + 1)) ≢ t) → next ≡ next_entry (word e.0) (seen + 1)
-    → IsPlanOf size t (Entry e seen) word (idle_plan next)
-idle_entry size t seen e word next is why goes asleep woken after reached (inr (never, idle, to)) = absurd (never is)
-idle_entry size t seen e word next is why goes asleep woken after reached (inl (it, step, to)) = by step why
+    → IsPlanOf rule size t (Entry e seen) word (idle_plan next)
+idle_entry rule size t seen e word next is why goes asleep woken after reached (inr (never, idle, to)) =
+    absurd (never is)
+idle_entry rule size t seen e word next is why goes asleep woken after reached (inl (it, step, to)) = by step why
   where
     before : Shared
     before = record { word = word; asleep = asleep }
@@ -80,12 +83,15 @@ idle_entry size t seen e word next is why goes asleep woken after reached (inl (
     by (exit.EntryStep.IsOwned ne ab) (inr h) = absurd (h ab.owned)
 
 -- an entry of the thread's
-pub owned_entry : (size t seen : ℕ) (e lock : Addr) (word : ℕ → ℕ) (w : ℕ) (next : ExitPhase) → IsEntry size e.0
-    → word (process_word t 1) ≢ e.0 → owner_of (word (e.0 + 1)) ≡ t → lock.0 ≡ e.0 + 1 → word (e.0 + 1) ≡ w
-    → next ≡ next_entry (word e.0) (seen + 1) → IsPlanOf size t (Entry e seen) word (abandon_plan lock w next)
-owned_entry size t seen e lock word w next is other owned at found goes asleep woken after reached (inr (never, idle, to)) =
+pub owned_entry : (rule : ExitRule) (size t seen : ℕ) (e lock : Addr) (word : ℕ → ℕ) (w : ℕ) (next : ExitPhase)
+    → IsEntry size e.0 → word (process_word t 1) ≢ e.0 → owner_of (word (e.0 + 1)) ≡ t → lock.0 ≡ e.0 + 1
+    → word (e.0 + 1) ≡ w
+    → next ≡ next_entry (word e.0) (seen + 1) → IsPlanOf rule size t (Entry e seen) word (abandon_plan lock w next)
+owned_entry rule size t seen e lock word w next is other owned at found goes asleep woken after reached
+    (inr (never, idle, to)) =
     absurd (never is)
-owned_entry size t seen e lock word w next is other owned at found goes asleep woken after reached (inl (it, step, to)) =
+owned_entry rule size t seen e lock word w next is other owned at found goes asleep woken after reached
+    (inl (it, step, to)) =
     by step
   where
     before : Shared
@@ -97,74 +103,100 @@ owned_entry size t seen e lock word w next is other owned at found goes asleep w
     by (exit.EntryStep.IsOwned ne ab) = abandoned t before after lock w woken next reached (ap word at ∙ found)
         (subst (λ l. Abandons t l before woken after) (sym at) ab) (to ∙ sym goes)
 
--- no pending entry
-pub no_pending : (size t e : ℕ) (word : ℕ → ℕ) → word (process_word t 1) ≡ e → (IsEntry size e → ⊥)
-    → IsPlanOf size t Pending word (idle_plan ClearId)
-no_pending size t e word is not asleep woken after reached (step, to) =
-    by (subst (λ f. PendingStep size t f before woken after) is step)
-  where
-    before : Shared
-    before = record { word = word; asleep = asleep }
+-- each step at this pending entry is so
+abbrev IsPendingPlan : ExitRule → (size t e : ℕ) → (ℕ → ℕ) → ExitPlan → Type 0
+IsPendingPlan rule size t e word plan = (asleep : ℕ → Option ℕ) (woken : List ℕ) (after : Shared) (reached : ExitPhase)
+    → reached ≡ ClearId → PendingStep rule size t e (record { word = word; asleep = asleep }) woken after
+    → IsPlanned plan (record { word = word; asleep = asleep }) woken after reached
 
-    by : PendingStep size t e before woken after → IsPlanned (idle_plan ClearId) before woken after reached
-    by (exit.PendingStep.NoEntry never idle) = idles before after woken ClearId reached idle to
-    by (exit.PendingStep.IsForeign it h w) = absurd (not it)
-    by (exit.PendingStep.IsOwned it ab) = absurd (not it)
+at_pending : {rule : ExitRule} (size t e : ℕ) (word : ℕ → ℕ) (plan : ExitPlan) → word (process_word t 1) ≡ e
+    → IsPendingPlan rule size t e word plan → IsPlanOf rule size t Pending word plan
+at_pending {rule} size t e word plan is each asleep woken after reached (step, to) =
+    each asleep woken after reached to
+    (subst (λ f. PendingStep rule size t f (record { word = word; asleep = asleep }) woken after) is step)
+
+-- no pending entry
+pub no_pending : {rule : ExitRule} (size t e : ℕ) (word : ℕ → ℕ) → word (process_word t 1) ≡ e → (IsEntry size e → ⊥)
+    → IsPlanOf rule size t Pending word (idle_plan ClearId)
+no_pending {rule} size t e word is not = at_pending size t e word (idle_plan ClearId) is each
+  where
+    each : IsPendingPlan rule size t e word (idle_plan ClearId)
+    each asleep woken after reached to (exit.PendingStep.NoEntry never idle) =
+        idles (record { word = word; asleep = asleep }) after woken ClearId reached idle to
+    each asleep woken after reached to (exit.PendingStep.IsForeign it h so w) = absurd (not it)
+    each asleep woken after reached to (exit.PendingStep.IsPassed it h so idle) = absurd (not it)
+    each asleep woken after reached to (exit.PendingStep.IsOwned it ab) = absurd (not it)
 
 -- one of the thread's
-pub owned_pending : (size t e : ℕ) (lock : Addr) (word : ℕ → ℕ) (w : ℕ) → word (process_word t 1) ≡ e → IsEntry size e
-    → lock.0 ≡ e + 1 → word (e + 1) ≡ w → owner_of w ≡ t
-    → IsPlanOf size t Pending word (abandon_plan lock w ClearId)
-owned_pending size t e lock word w is it at found owned asleep woken after reached (step, to) =
-    by (subst (λ f. PendingStep size t f before woken after) is step)
+pub owned_pending : {rule : ExitRule} (size t e : ℕ) (lock : Addr) (word : ℕ → ℕ) (w : ℕ) → word (process_word t 1) ≡ e
+    → IsEntry size e → lock.0 ≡ e + 1 → word (e + 1) ≡ w → owner_of w ≡ t
+    → IsPlanOf rule size t Pending word (abandon_plan lock w ClearId)
+owned_pending {rule} size t e lock word w is it at found owned =
+    at_pending size t e word (abandon_plan lock w ClearId) is each
   where
-    before : Shared
-    before = record { word = word; asleep = asleep }
+    owner : owner_of (word (e + 1)) ≡ owner_of w
+    owner = ap owner_of found
 
-    by : PendingStep size t e before woken after → IsPlanned (abandon_plan lock w ClearId) before woken after reached
-    by (exit.PendingStep.NoEntry never idle) = absurd (never it)
-    by (exit.PendingStep.IsForeign so h wakes) = absurd (h (ap owner_of found ∙ owned))
-    by (exit.PendingStep.IsOwned so ab) = abandoned t before after lock w woken ClearId reached (ap word at ∙ found)
+    each : IsPendingPlan rule size t e word (abandon_plan lock w ClearId)
+    each asleep woken after reached to (exit.PendingStep.NoEntry never idle) = absurd (never it)
+    each asleep woken after reached to (exit.PendingStep.IsForeign so h rouses w') = absurd (h (owner ∙ owned))
+    each asleep woken after reached to (exit.PendingStep.IsPassed so h passes idle) = absurd (h (owner ∙ owned))
+    each asleep woken after reached to (exit.PendingStep.IsOwned so ab) =
+        let before : Shared = record { word = word; asleep = asleep } in
+        abandoned t before after lock w woken ClearId reached (ap word at ∙ found)
         (subst (λ l. Abandons t l before woken after) (sym at) ab) to
 
--- one of another's, or of nobody's
-pub foreign_pending : (size t e : ℕ) (lock : Addr) (word : ℕ → ℕ) (w : ℕ) → word (process_word t 1) ≡ e → IsEntry size e
-    → lock.0 ≡ e + 1 → word (e + 1) ≡ w → owner_of w ≢ t
-    → IsPlanOf size t Pending word (record { marks = None; wakes = Some lock; next = ClearId })
-foreign_pending size t e lock word w is it at found other asleep woken after reached (step, to) =
-    by (subst (λ f. PendingStep size t f before woken after) is step)
+-- one of another's, or of nobody's, at which the rule wakes
+pub foreign_pending : {rule : ExitRule} (size t e : ℕ) (lock : Addr) (word : ℕ → ℕ) (w : ℕ)
+    → word (process_word t 1) ≡ e → IsEntry size e → lock.0 ≡ e + 1 → word (e + 1) ≡ w → owner_of w ≢ t
+    → wakes rule w ≡ true
+    → IsPlanOf rule size t Pending word (record { marks = None; wakes = Some lock; next = ClearId })
+foreign_pending {rule} size t e lock word w is it at found other rouses =
+    at_pending size t e word (record { marks = None; wakes = Some lock; next = ClearId }) is each
   where
-    before : Shared
-    before = record { word = word; asleep = asleep }
-
-    plan : ExitPlan
-    plan = record { marks = None; wakes = Some lock; next = ClearId }
-
-    by : PendingStep size t e before woken after → IsPlanned plan before woken after reached
-    by (exit.PendingStep.NoEntry never idle) = absurd (never it)
-    by (exit.PendingStep.IsForeign so h wakes) = record {
+    each : IsPendingPlan rule size t e word (record { marks = None; wakes = Some lock; next = ClearId })
+    each asleep woken after reached to (exit.PendingStep.NoEntry never idle) = absurd (never it)
+    each asleep woken after reached to (exit.PendingStep.IsForeign so h rouses' w') = record {
       next = to;
-      words = wakes.same;
-      wakes = subst (λ l. Wakes asleep l 1 woken after.asleep) (sym at) wakes.wakes;
+      words = w'.same;
+      wakes = subst (λ l. Wakes asleep l 1 woken after.asleep) (sym at) w'.wakes;
     }
-    by (exit.PendingStep.IsOwned so ab) = absurd (other (sym (ap owner_of found) ∙ ab.owned))
+    each asleep woken after reached to (exit.PendingStep.IsPassed so h passes idle) =
+        absurd (let differ : false ≡ true = sym passes ∙ ap (wakes rule) found ∙ rouses in cc)
+    each asleep woken after reached to (exit.PendingStep.IsOwned so ab) =
+        absurd (other (sym (ap owner_of found) ∙ ab.owned))
+
+-- and at which it wakes nobody
+pub passed_pending : {rule : ExitRule} (size t e : ℕ) (word : ℕ → ℕ) (w : ℕ) → word (process_word t 1) ≡ e
+    → IsEntry size e → word (e + 1) ≡ w → owner_of w ≢ t → wakes rule w ≡ false
+    → IsPlanOf rule size t Pending word (idle_plan ClearId)
+passed_pending {rule} size t e word w is it found other passes = at_pending size t e word (idle_plan ClearId) is each
+  where
+    each : IsPendingPlan rule size t e word (idle_plan ClearId)
+    each asleep woken after reached to (exit.PendingStep.NoEntry never idle) = absurd (never it)
+    each asleep woken after reached to (exit.PendingStep.IsForeign so h rouses w') =
+        absurd (let differ : true ≡ false = sym rouses ∙ ap (wakes rule) found ∙ passes in cc)
+    each asleep woken after reached to (exit.PendingStep.IsPassed so h passes' idle) =
+        idles (record { word = word; asleep = asleep }) after woken ClearId reached idle to
+    each asleep woken after reached to (exit.PendingStep.IsOwned so ab) =
+        absurd (other (sym (ap owner_of found) ∙ ab.owned))
 
 -- the id word
-pub id_cleared : (size t : ℕ) (a : Addr) (word : ℕ → ℕ) → a.0 ≡ process_word t 2
-    → IsPlanOf size t ClearId word (record { marks = Some (a, 0); wakes = None; next = LastWake })
-id_cleared size t a word at asleep woken after reached (nobody, is, to) = record {
+pub id_cleared : (rule : ExitRule) (size t : ℕ) (a : Addr) (word : ℕ → ℕ) → a.0 ≡ process_word t 2
+    → IsPlanOf rule size t ClearId word (record { marks = Some (a, 0); wakes = None; next = LastWake })
+id_cleared rule size t a word at asleep woken after reached (nobody, is, to) = record {
   next = to;
   words = ap (λ (s : Shared). s.word) is ∙ ap (λ k. put word k 0) (sym at);
   wakes = (nobody, ap (λ (s : Shared). s.asleep) is);
 }
 
-pub last_woken : (size t : ℕ) (a : Addr) (word : ℕ → ℕ) → a.0 ≡ process_word t 2
-    → IsPlanOf size t LastWake word (record { marks = None; wakes = Some a; next = Ended })
-last_woken size t a word at asleep woken after reached (wakes, to) = record {
+pub last_woken : (rule : ExitRule) (size t : ℕ) (a : Addr) (word : ℕ → ℕ) → a.0 ≡ process_word t 2
+    → IsPlanOf rule size t LastWake word (record { marks = None; wakes = Some a; next = Ended })
+last_woken rule size t a word at asleep woken after reached (w, to) = record {
   next = to;
-  words = wakes.same;
-  wakes = subst (λ l. Wakes asleep l 1 woken after.asleep) (sym at) wakes.wakes;
+  words = w.same;
+  wakes = subst (λ l. Wakes asleep l 1 woken after.asleep) (sym at) w.wakes;
 }
 
-pub none_left : (size t : ℕ) (word : ℕ → ℕ) → IsPlanOf size t Ended word (idle_plan Ended)
-none_left size t word asleep woken after reached step = absurd step
+pub none_left : (rule : ExitRule) (size t : ℕ) (word : ℕ → ℕ) → IsPlanOf rule size t Ended word (idle_plan Ended)
+none_left rule size t word asleep woken after reached step = absurd step

@@ -1,12 +1,11 @@
 -- A requeue, by the sets of sleepers that it wakes and moves.
-use Rattle.std.proofs.Common.{◌≡◌, ◌≢◌, ◌<◌, ◌+◌, ◌∙◌, ℕ, zero, suc, true, false, List, [], ◌∷◌, Option, Some, None}
+use Rattle.std.proofs.Common.{◌≡◌, ◌≢◌, ◌<◌, ◌+◌, ◌∙◌, ℕ, suc, true, false, List, [], ◌∷◌, Option, Some, None}
 use Rattle.std.proofs.Common.{inl, inr, refl, sym, ap, subst, arith, length, Contains, take, get_or, ◌++◌}
 use Rattle.std.specs.Prelude.{◌⊎◌, slice_index}
 use Rattle.std.specs.List.{IsDistinct}
 use Rattle.std.proofs.lemmas.Bool.{cases_eq}
 use Rattle.std.proofs.lemmas.List.{take_more}
-use Rattle.std.proofs.lemmas.List.Elements.{Contains-append_cases}
-use Rattle.image_states.proofs.Listing.{none_in}
+use Rattle.image_states.proofs.Listing.{all_and_one, none_in}
 use Rattle.buckets.specs.Places.{with_place}
 use Rattle.futexcalls.specs.FutexCalls.{IsChoice, Moves}
 use Rattle.isa.specs.Programs.{Program}
@@ -15,12 +14,11 @@ use Rattle.locals.specs.declared.request.Request.{Request as Told}
 use Rattle.locals.specs.declared.request.Request.TheVariants as told
 use Rattle.locals.specs.declared.request.NextStep.TheVariants as next
 use Rattle.locals.specs.Threads.{Thread}
-use Rattle.locals.specs.Looks.{Asks, look}
+use Rattle.locals.specs.Looks.{look}
 use Rattle.locals.specs.Requests.{after_answer, next_step_of}
 use Rattle.machine.specs.AbstractServing.{IsUnserved}
 use Rattle.machine.specs.RequestMeanings.{asked_of}
-use Rattle.machine.specs.States.{State, with_sleepers, with_thread}
-use Rattle.proof_pieces.specs.WholeCalls.{ServesWhole}
+use Rattle.machine.specs.States.{with_sleepers, with_thread}
 use Rattle.image_states.specs.declared.next.Next.{Next as NextOf}
 use Rattle.image_states.specs.declared.packed.Packed.{Packed as PackedOf}
 use Rattle.image_states.specs.declared.parts.Parts.{Parts as PartsOf}
@@ -30,8 +28,8 @@ use Rattle.image_states.specs.Packed.{asleep_at, thread_at, unpacked, words_in, 
 use Rattle.image_states.specs.Requeues.{AsksThere, MidDone, RequeuesDone}
 use Rattle.image_states.proofs.Choosing.{are_chosen}
 use Rattle.image_states.proofs.Growing.{reaches_still, stands_still, unpacked_still, words_still}
-use Rattle.image_states.proofs.Served.{asks, moves_asked}
-use Rattle.image_states.proofs.Stepped.{answered_is, reached_so}
+use Rattle.image_states.proofs.Served.{moves_told, AllServed}
+use Rattle.image_states.proofs.Stepped.{answered_so}
 
 -- nobody is a choice of none
 pub none_chosen : (asleep : ℕ → Option ℕ) (a : ℕ) → IsChoice asleep a 0 []
@@ -133,11 +131,8 @@ pub requeue_moves : (p : Program) (parts : PartsOf) (x : PackedOf) (nexts : List
     (after_answer (look p t here) 4294967295 here))
     → MovesTo p parts x nexts t here
 requeue_moves p parts x nexts t here ad to n m most expected is stands one other done again =
-    moves_asked p parts x nexts t here (asked_of (told.Requeue ad to n m expected)) go.0 go.1 each
+    moves_told p parts x nexts t here (told.Requeue ad to n m expected) is each
   where
-    go : (go : ℕ → Thread) × (look p t here ≡ Asks (asked_of (told.Requeue ad to n m expected)) go)
-    go = asks (look p t here) (told.Requeue ad to n m expected) is
-
     chosen : (asleep after : ℕ → Option ℕ) (moved : List ℕ) → Moves asleep ad.0 to.0 m moved after
         → (ad.0 ≡ to.0) ⊎ (ad.0 ≢ to.0) → IsChoice asleep ad.0 most moved
     chosen asleep after moved moves (inl e) =
@@ -145,57 +140,34 @@ requeue_moves p parts x nexts t here ad to n m most expected is stands one other
         (subst (IsChoice asleep ad.0 0) (sym (moves.none e)) (none_chosen asleep ad.0))
     chosen asleep after moved moves (inr ne) = subst (λ k. IsChoice asleep ad.0 k moved) (sym (other ne)) (moves.choice ne)
 
-    each : (woken : List ℕ) (answer : ℕ) (mid : State)
-        → ServesWhole t (asked_of (told.Requeue ad to n m expected)) (unpacked p parts x) woken answer mid
-        → Reaches p parts nexts (with_thread mid t (go.0 answer)) x.killed
+    each : AllServed p parts x nexts t here (asked_of (told.Requeue ad to n m expected))
     each woken answer mid (lies, lies', inl (moved, after, requeues, count_is, leads)) =
-        reached_so p parts x nexts t (after_answer (look p t here) (length woken + length moved) here) (go.0 answer)
+        answered_so p parts x nexts t here (length woken + length moved) answer
         (shaped (unpacked p parts x) (words_in parts.memories.items x.memory)
         (with_place (with_place (asleep_at x.places.items) woken None) moved (Some to.0)) []) mid
-        (ap (with_sleepers (unpacked p parts x)) (sym (requeues.moves).goes) ∙ sym leads)
-        (answered_is (look p t here) (asked_of (told.Requeue ad to n m expected)) go.0 (length woken + length moved) here go.1
-        ∙ ap go.0 (sym count_is))
+        (ap (with_sleepers (unpacked p parts x)) (sym (requeues.moves).goes) ∙ sym leads) count_is
         (done here stands woken moved (requeues.wakes).choice
         (chosen (with_place (asleep_at x.places.items) woken None) after moved requeues.moves (cases_eq ad.0 to.0)) [])
     each woken answer mid (lies, lies', inr (differs, nobody, again_is, leads)) =
-        reached_so p parts x nexts t (after_answer (look p t here) 4294967295 here) (go.0 answer)
+        answered_so p parts x nexts t here 4294967295 answer
         (shaped (unpacked p parts x) (words_in parts.memories.items x.memory) (asleep_at x.places.items) []) mid
-        (sym leads)
-        (answered_is (look p t here) (asked_of (told.Requeue ad to n m expected)) go.0 4294967295 here go.1
-        ∙ ap go.0 (sym again_is))
-        (again differs [])
+        (sym leads) again_is (again differs [])
 
 -- one on words outside the memory
 pub requeue_none : (p : Program) (parts : PartsOf) (x : PackedOf) (nexts : List NextOf) (t : ℕ) (here : Thread) (ad to : Addr)
     (n m expected : ℕ) → next_step_of (look p t here) ≡ next.Shared (told.Requeue ad to n m expected)
     → IsUnserved (asked_of (told.Requeue ad to n m expected)) (unpacked p parts x) → MovesTo p parts x nexts t here
 requeue_none p parts x nexts t here ad to n m expected is unserved =
-    moves_asked p parts x nexts t here (asked_of (told.Requeue ad to n m expected)) go.0 go.1
+    moves_told p parts x nexts t here (told.Requeue ad to n m expected) is
     (λ woken answer mid (lies, lies', served). absurd (unserved (lies, lies')))
-  where
-    go : (go : ℕ → Thread) × (look p t here ≡ Asks (asked_of (told.Requeue ad to n m expected)) go)
-    go = asks (look p t here) (told.Requeue ad to n m expected) is
-
-pub one_thread : (a b : Thread) → Some a ≡ Some b → a ≡ b
-one_thread a b e = cc
 
 -- one of a list, as a loop over it goes on
 pub none_of : (mids : List NextOf) (mid : NextOf) → Contains (take 0 mids) mid → ⊥
 none_of [] mid has = none_in mid has
 none_of (m ∷ ms) mid has = none_in mid has
 
-only : {X : Type 0} (x y : X) → Contains (x ∷ []) y → x ≡ y
-only x y (zero, l, e) = e
-only x y (suc k, l, e) = absurd (omega (arith, l))
-
 pub one_more_of : (P : NextOf → Type 0) (mids : List NextOf) (i : ℕ) (one : NextOf) → i < length mids
     → one ≡ get_or mids i one → ((mid : NextOf) → Contains (take i mids) mid → P mid) → P one
     → (mid : NextOf) → Contains (take (i + 1) mids) mid → P mid
-one_more_of P mids i one less is all this mid has =
-    elim (Contains-append_cases (take i mids) (one ∷ []) mid (subst (λ l. Contains l mid) last has)) [
-      | inl c ↦ all mid c
-      | inr c ↦ subst P (only one mid c) this
-    ]
-  where
-    last : take (i + 1) mids ≡ take i mids ++ one ∷ []
-    last = take_more mids i one less ∙ ap (λ n. take i mids ++ n ∷ []) (sym is)
+one_more_of P mids i one less is = all_and_one P (take i mids) (take (i + 1) mids) one
+    (take_more mids i one less ∙ ap (λ n. take i mids ++ n ∷ []) (sym is))

@@ -3,9 +3,11 @@ use Rattle.std.proofs.Common.{◌≡◌, ◌<◌, ◌==◌, ◌∙◌, ℕ, Bool
 use Rattle.std.proofs.Common.{refl, sym, ap, subst, arith, length}
 use Rattle.std.specs.Prelude.{if◌then◌else◌, slice_index, slice_set}
 use Rattle.std.proofs.lemmas.List.{length-set, get_or-set_same, get_or-set_other}
+use Rattle.std.proofs.lemmas.Option.{same_Some}
 use Rattle.words.specs.Updates.{put}
 use Rattle.words.proofs.Updates.{at_put, put_itself}
 use Rattle.isa.specs.Programs.{Program}
+use Rattle.robustexit.specs.ExitRules.{exit_of}
 use Rattle.locals.specs.declared.request.Request.{Request as Told}
 use Rattle.locals.specs.declared.request.Request.TheVariants as told
 use Rattle.locals.specs.declared.request.NextStep.TheVariants as next
@@ -13,7 +15,7 @@ use Rattle.locals.specs.Threads.{Thread}
 use Rattle.locals.specs.Looks.{Request, AskLoad, AskStore, AskSwap, AskCompareSwap, AskOr, AskAdd, AskFork, AskPrint}
 use Rattle.locals.specs.Looks.{AskWait, AskWake, AskRequeue, AskReturn, AskReturnValue, AskFault, Look, Goes}
 use Rattle.locals.specs.Looks.{Asks, Leaves, Breaks, Rests, look}
-use Rattle.locals.specs.Requests.{next_step_of}
+use Rattle.locals.specs.Requests.{after_answer, next_step_of}
 use Rattle.machine.specs.RequestMeanings.{asked_of}
 use Rattle.machine.specs.States.{State, with_thread, with_word}
 use Rattle.proof_pieces.specs.WholeCalls.{MovesWhole, ServesWhole}
@@ -23,9 +25,6 @@ use Rattle.image_states.specs.declared.parts.Parts.{Parts as PartsOf}
 use Rattle.image_states.specs.Accesses.{access_of, access_answer, word_after}
 use Rattle.image_states.specs.Nexts.{shaped, MovesTo, Reaches}
 use Rattle.image_states.specs.Packed.{asleep_at, unpacked, words_in}
-
-some_number : (x y : ℕ) → Some x ≡ Some y → x ≡ y
-some_number x y e = cc
 
 shared_one : (x y : Told) → next.Shared x ≡ next.Shared y → x ≡ y
 shared_one x y e = cc
@@ -63,18 +62,30 @@ asks (Asks (AskReturnValue v) go) q e =
     (go, ap (λ r. Asks (asked_of r) go) (shared_one (told.ReturnValue v) q e))
 asks (Asks (AskFault cause) go) q e = (go, ap (λ r. Asks (asked_of r) go) (shared_one (told.Fault cause) q e))
 
--- it is enough to look at how the request is served
+-- however a request is served, what comes of it with the thread behind its answer is reached
+abbrev pub AllServed : Program → PartsOf → PackedOf → List NextOf → ℕ → Thread → Request → Type 0
+AllServed p parts x nexts t here r = (woken : List ℕ) (answer : ℕ) (mid : State)
+    → ServesWhole t r (unpacked p parts x) woken answer mid
+    → Reaches p parts nexts (with_thread mid t (after_answer (look p t here) answer here)) x.killed
+
+-- it is enough to look at that
 pub moves_asked : (p : Program) (parts : PartsOf) (x : PackedOf) (nexts : List NextOf) (t : ℕ) (here : Thread) (r : Request)
-    (go : ℕ → Thread) → look p t here ≡ Asks r go
-    → ((woken : List ℕ) (answer : ℕ) (mid : State) → ServesWhole t r (unpacked p parts x) woken answer mid
-    → Reaches p parts nexts (with_thread mid t (go answer)) x.killed)
-    → MovesTo p parts x nexts t here
+    (go : ℕ → Thread) → look p t here ≡ Asks r go → AllServed p parts x nexts t here r → MovesTo p parts x nexts t here
 moves_asked p parts x nexts t here r go is each woken s' moves =
-    subst (λ s. Reaches p parts nexts s x.killed) (sym at.3) (each woken at.0 at.1 at.2)
+    subst (λ s. Reaches p parts nexts s x.killed) (sym at.3)
+    (subst (λ z. Reaches p parts nexts (with_thread at.1 t z) x.killed) (ap (λ l. after_answer l at.0 here) is)
+    (each woken at.0 at.1 at.2))
   where
     at : (answer : ℕ) × (mid : State) × ServesWhole t r (unpacked p parts x) woken answer mid
         × (s' ≡ with_thread mid t (go answer))
-    at = subst (λ l. MovesWhole (unpacked p parts x) t woken l s') is moves
+    at = subst (λ l. MovesWhole (exit_of p.version) (unpacked p parts x) t woken l s') is moves
+
+-- the same by what the code tells that it asks for
+pub moves_told : (p : Program) (parts : PartsOf) (x : PackedOf) (nexts : List NextOf) (t : ℕ) (here : Thread) (q : Told)
+    → next_step_of (look p t here) ≡ next.Shared q → AllServed p parts x nexts t here (asked_of q)
+    → MovesTo p parts x nexts t here
+moves_told p parts x nexts t here q is each =
+    let go = asks (look p t here) q is in moves_asked p parts x nexts t here (asked_of q) go.0 go.1 each
 
 -- a word that is changed in a list, and in a function
 pub set_put : (w : List ℕ) (a v k : ℕ) → a < length w → slice_index (slice_set w a v) k ≡ put (λ j. slice_index w j) a v k
@@ -121,16 +132,16 @@ same_word s a = λ i. record s { word = λ k. sym (put_itself s.word a (s.word a
 pub access_served : (t : ℕ) (s : State) (woken : List ℕ) (answer : ℕ) (mid : State) (q : Told) (a : ℕ)
     → access_of q ≡ Some a → ServesWhole t (asked_of q) s woken answer mid → IsAccess s q a answer mid
 access_served t s woken answer mid (told.Load b) a e (lies, (quiet, (is, leads))) =
-    subst (λ c. IsAccess s (told.Load b) c answer mid) (some_number b.0 a e)
+    subst (λ c. IsAccess s (told.Load b) c answer mid) (same_Some b.0 a e)
     (record { lies = lies; answered = is; leads = leads ∙ same_word s b.0 })
 access_served t s woken answer mid (told.Store b v) a e (lies, (quiet, (is, leads))) =
-    subst (λ c. IsAccess s (told.Store b v) c answer mid) (some_number b.0 a e)
+    subst (λ c. IsAccess s (told.Store b v) c answer mid) (same_Some b.0 a e)
     (record { lies = lies; answered = is; leads = leads })
 access_served t s woken answer mid (told.Swap b v) a e (lies, (quiet, (is, leads))) =
-    subst (λ c. IsAccess s (told.Swap b v) c answer mid) (some_number b.0 a e)
+    subst (λ c. IsAccess s (told.Swap b v) c answer mid) (same_Some b.0 a e)
     (record { lies = lies; answered = is; leads = leads })
 access_served t s woken answer mid (told.CompareSwap b expected new) a e (lies, (quiet, (is, leads))) =
-    subst (λ c. IsAccess s (told.CompareSwap b expected new) c answer mid) (some_number b.0 a e)
+    subst (λ c. IsAccess s (told.CompareSwap b expected new) c answer mid) (same_Some b.0 a e)
     (record { lies = lies; answered = is; leads = leads ∙ by_test (s.word b.0 == expected) })
   where
     by_test : (test : Bool) → (if test then with_word s b.0 new else s)
@@ -138,10 +149,10 @@ access_served t s woken answer mid (told.CompareSwap b expected new) a e (lies, 
     by_test true = refl
     by_test false = same_word s b.0
 access_served t s woken answer mid (told.FetchOr b v) a e (lies, (quiet, (is, leads))) =
-    subst (λ c. IsAccess s (told.FetchOr b v) c answer mid) (some_number b.0 a e)
+    subst (λ c. IsAccess s (told.FetchOr b v) c answer mid) (same_Some b.0 a e)
     (record { lies = lies; answered = is; leads = leads })
 access_served t s woken answer mid (told.FetchAdd b v) a e (lies, (quiet, (is, leads))) =
-    subst (λ c. IsAccess s (told.FetchAdd b v) c answer mid) (some_number b.0 a e)
+    subst (λ c. IsAccess s (told.FetchAdd b v) c answer mid) (same_Some b.0 a e)
     (record { lies = lies; answered = is; leads = leads })
 access_served t s woken answer mid (told.Print n) a e serves = absurd cc
 access_served t s woken answer mid (told.Wait b expected) a e serves = absurd cc

@@ -5,11 +5,12 @@ use Rattle.std.specs.Prelude.{◌⊎◌, slice_index, MatchBool}
 use Rattle.std.proofs.Math.Path.{fun_ext}
 use Rattle.std.proofs.lemmas.Bool.{cases_lt}
 use Rattle.std.proofs.lemmas.List.{get_or_past}
-use Rattle.std.proofs.lemmas.Option.{slice_get_past}
+use Rattle.std.proofs.lemmas.Option.{slice_get_past, same_Some}
 use Rattle.words.specs.Updates.{put}
 use Rattle.words.specs.declared.outcome.Cause.TheVariants.{Killed as Killed'}
 use Rattle.buckets.specs.Places.{with_place}
 use Rattle.isa.specs.Programs.{Program}
+use Rattle.robustexit.specs.ExitRules.{exit_of}
 use Rattle.robustexit.specs.declared.phase.ExitPhase.{ExitPhase}
 use Rattle.locals.specs.declared.request.NextStep.{NextStep}
 use Rattle.locals.specs.declared.request.NextStep.TheVariants as next
@@ -100,31 +101,32 @@ module _ (p : Program) (parts : PartsOf) (x : PackedOf) (nexts : List NextOf) (t
       subst (λ s. Reaches p parts nexts s x.killed) (sym at.1) (reaches [])
     where
       at : (woken ≡ []) × (s' ≡ with_thread (unpacked p parts x) t there)
-      at = subst (λ l. MovesWhole (unpacked p parts x) t woken l s') (local_so (look p t here) there took) moves
+      at = subst (λ l. MovesWhole (exit_of p.version) (unpacked p parts x) t woken l s')
+          (local_so (look p t here) there took) moves
   local_moves there false told took reaches woken s' moves = absurd (local_goes (look p t here) told took.0)
 
   pub exit_moves : (phase : ExitPhase) → next_step_of (look p t here) ≡ next.Exit phase → LeavesTo p parts x nexts t phase
       → MovesTo p parts x nexts t here
   exit_moves phase told leaves woken s' moves =
-      leaves woken s' (subst (λ l. MovesWhole (unpacked p parts x) t woken l s') (exit_told (look p t here) phase told) moves)
+      leaves woken s' (subst (λ l. MovesWhole (exit_of p.version) (unpacked p parts x) t woken l s')
+      (exit_told (look p t here) phase told) moves)
 
   pub broken_moves : next_step_of (look p t here) ≡ next.Broken → MovesTo p parts x nexts t here
   broken_moves told woken s' moves =
-      absurd (subst (λ l. MovesWhole (unpacked p parts x) t woken l s') (broken_told (look p t here) told) moves)
+      absurd (subst (λ l. MovesWhole (exit_of p.version) (unpacked p parts x) t woken l s')
+      (broken_told (look p t here) told) moves)
 
   pub ended_moves : next_step_of (look p t here) ≡ next.Ended → MovesTo p parts x nexts t here
   ended_moves told woken s' moves =
-      absurd (subst (λ l. MovesWhole (unpacked p parts x) t woken l s') (ended_told (look p t here) told) moves)
+      absurd (subst (λ l. MovesWhole (exit_of p.version) (unpacked p parts x) t woken l s')
+      (ended_told (look p t here) told) moves)
 
   -- the steps of its own of a thread that stands here
   pub own_done : thread_at parts.locals.items x.parts.items t ≡ Some here → MovesTo p parts x nexts t here
       → OwnDone p parts x nexts t
   own_done stands moves woken s' step =
-      moves woken s' (subst (λ z. MovesWhole (unpacked p parts x) t woken (look p t z) s')
-      (some_one step.thread here (sym step.stands ∙ stands)) step.moves)
-    where
-      some_one : (a b : Thread) → Some a ≡ Some b → a ≡ b
-      some_one a b e = cc
+      moves woken s' (subst (λ z. MovesWhole (exit_of p.version) (unpacked p parts x) t woken (look p t z) s')
+      (same_Some step.thread here (sym step.stands ∙ stands)) step.moves)
 
   -- of one that wasn't made, or sleeps
   pub own_absent : thread_at parts.locals.items x.parts.items t ≡ None → OwnDone p parts x nexts t
@@ -229,11 +231,8 @@ pub kill_dying : (p : Program) (parts : PartsOf) (x : PackedOf) (nexts : List Ne
     → thread_at parts.locals.items x.parts.items t ≡ Some here → is_dying here ≡ true → KillDone p parts x nexts t
 kill_dying p parts x nexts t here stands dying step s' thread kill =
     absurd (let differ : true ≡ not true =
-    kill.begins_so ∙ ap (λ z. not (is_dying z)) (some_one kill.thread here
+    kill.begins_so ∙ ap (λ z. not (is_dying z)) (same_Some kill.thread here
     (sym kill.stands ∙ ap (thread_at parts.locals.items x.parts.items) thread ∙ stands)) ∙ ap not dying in cc)
-  where
-    some_one : (a b : Thread) → Some a ≡ Some b → a ≡ b
-    some_one a b e = cc
 
 -- all that a thread's steps lead to
 pub all_done : (p : Program) (may : May) (parts : PartsOf) (x : PackedOf) (nexts : List NextOf) (t : ℕ)

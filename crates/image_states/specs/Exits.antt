@@ -3,6 +3,7 @@ use Rattle.std.specs.Prelude.{ℕ, ◌≡◌, Option, Some, None, List, []}
 use Rattle.words.specs.declared.mem.Addr.{Addr}
 use Rattle.futexcalls.specs.FutexCalls.{Wakes}
 use Rattle.robustexit.specs.declared.phase.ExitPhase.{ExitPhase}
+use Rattle.robustexit.specs.declared.rule.ExitRule.{ExitRule}
 use Rattle.robustexit.specs.RobustExit.{Shared, ExitStep}
 use Rattle.image_states.specs.Marks.{marked}
 use Rattle.image_states.specs.declared.exits.ExitPlan.{ExitPlan}
@@ -18,8 +19,8 @@ pub record IsPlanned (plan : ExitPlan) (before : Shared) (woken : List ℕ) (aft
   pub words : after.word ≡ marked plan.marks before.word
   pub wakes : WakesAt plan.wakes before.asleep woken after.asleep
 
--- each step of thread t's exit in this phase is so, where these are the words
-abbrev pub IsPlanOf : (size t : ℕ) → ExitPhase → (ℕ → ℕ) → ExitPlan → Type 0
-IsPlanOf size t phase word plan = (asleep : ℕ → Option ℕ) (woken : List ℕ) (after : Shared) (next : ExitPhase)
-    → ExitStep size t phase (record { word = word; asleep = asleep }) woken after next
+-- each step of thread t's exit by this rule in this phase is so, where these are the words
+abbrev pub IsPlanOf : ExitRule → (size t : ℕ) → ExitPhase → (ℕ → ℕ) → ExitPlan → Type 0
+IsPlanOf rule size t phase word plan = (asleep : ℕ → Option ℕ) (woken : List ℕ) (after : Shared) (next : ExitPhase)
+    → ExitStep rule size t phase (record { word = word; asleep = asleep }) woken after next
     → IsPlanned plan (record { word = word; asleep = asleep }) woken after next

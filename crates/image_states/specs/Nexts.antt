@@ -2,6 +2,7 @@
 use Rattle.std.specs.Prelude.{ℕ, suc, ◌≡◌, ◌≤◌, ◌+◌, ◌⊎◌, List, Option, Some, Contains, length, false, true, slice_index, slice_get, ℤ}
 use Rattle.isa.specs.Programs.{Program}
 use Rattle.locals.specs.Threads.{Thread, is_dying}
+use Rattle.robustexit.specs.ExitRules.{exit_of}
 use Rattle.robustexit.specs.declared.phase.ExitPhase.{ExitPhase}
 use Rattle.locals.specs.Looks.{look, Leaves}
 use Rattle.locals.specs.Steps.{local_after}
@@ -54,7 +55,7 @@ AreNexts p may parts x nexts = (t : ℕ) → IsDone p may parts x nexts t
 -- whatever thread t's own step leads to that looks so, one of the next states covers
 abbrev pub MovesTo : Program → PartsOf → PackedOf → List NextOf → ℕ → Thread → Type 0
 MovesTo p parts x nexts t here = (woken : List ℕ) (s' : State)
-    → MovesWhole (unpacked p parts x) t woken (look p t here) s' → Reaches p parts nexts s' x.killed
+    → MovesWhole (exit_of p.version) (unpacked p parts x) t woken (look p t here) s' → Reaches p parts nexts s' x.killed
 
 -- the state with these words, these sleepers and this output
 abbrev pub shaped : State → List ℕ → (ℕ → Option ℕ) → List ℤ → State
@@ -84,7 +85,7 @@ ReachesAt p parts x nexts t words asleep here = (output : List ℤ)
 -- whatever a step of thread t's exit in this phase leads to, one of the next states covers
 abbrev pub LeavesTo : Program → PartsOf → PackedOf → List NextOf → ℕ → ExitPhase → Type 0
 LeavesTo p parts x nexts t phase = (woken : List ℕ) (s' : State)
-    → MovesWhole (unpacked p parts x) t woken (Leaves phase) s' → Reaches p parts nexts s' x.killed
+    → MovesWhole (exit_of p.version) (unpacked p parts x) t woken (Leaves phase) s' → Reaches p parts nexts s' x.killed
 
 -- whatever a step of thread t's own leads to, one of the next states covers
 abbrev pub OwnDone : Program → PartsOf → PackedOf → List NextOf → ℕ → Type 0

@@ -1,16 +1,15 @@
-ghost use Rattle.std.specs.Prelude.{◌≡◌, ◌≤◌, ◌<◌, ◌+◌, ◌∷◌, [], ℕ, List, suc, None, Some, IfOk, IfSome, OnOk, length, slice_index, slice_set};
-ghost use Rattle.std.specs.List.{slice_get};
+ghost use Rattle.std.specs.Prelude.{◌≡◌, ◌<◌, ◌∷◌, [], ℕ, List, suc, None, Some, IfOk, OnOk, length};
 ghost use Rattle.locals.specs.Looks.{look};
 ghost use Rattle.locals.specs.Requests.{after_answer, next_step_of, CanBeAnswered};
 ghost use Rattle.locals.specs.declared.request.NextStep.TheVariants as step;
-ghost use Rattle.image_states.specs.Packed.{asleep_at, unpacked, words_in, IsGrown, IsPrefix, IsWithin};
-ghost use Rattle.image_states.specs.Nexts.{IsBase, IsMore, MovesTo, Reaches, ReachesAt};
+ghost use Rattle.image_states.specs.Packed.{asleep_at, words_in, IsWithin};
+ghost use Rattle.image_states.specs.Nexts.{IsMore, MovesTo, ReachesAt};
 ghost use Rattle.buckets.specs.Places.{with_place};
 ghost use Rattle.image_states.specs.Packed.{place_of};
 ghost use Rattle.image_states.specs.Choosing.{AreChosen, AreSleepers};
 
 use crate::bound::Bound;
-use crate::next::Next;
+use crate::next::{Doing, Next};
 use crate::packed::Packed;
 use crate::parts::Parts;
 use crate::running::Scratch;
@@ -36,7 +35,8 @@ impl Parts {
     ) -> Result<Option<Bound>, AllocError>
         requires number { t ≡ suc k }
         requires within { IsWithin self.old packed.now }
-        requires asks { next_step_of (look image.now t scratch.old.here) ≡ step.Shared (Request.Wait address expected) }
+        requires asks { next_step_of (look image.now t scratch.old.here)
+            ≡ step.Shared (Request.Wait address expected) }
         ensures more { OnOk result (IsMore self.old found.old.items self.new found.new.items) }
         ensures moves { IfOk result (λ o. o ≡ None
             → MovesTo image.now self.new packed.now found.new.items t scratch.old.here) }
@@ -69,7 +69,8 @@ impl Parts {
         requires within { IsWithin self.old packed.now }
         requires answers { CanBeAnswered (look image.now t scratch.old.here) 0 }
         ensures more { OnOk result (IsMore self.old found.old.items self.new found.new.items) }
-        ensures reaches { IfOk result (λ o. o ≡ None → ReachesAt image.now self.new packed.now found.new.items t
+        ensures reaches { IfOk result (λ o. o ≡ None
+            → ReachesAt image.now self.new packed.now found.new.items t
             (words_in self.new.memories.items packed.now.memory)
             (with_place (asleep_at packed.now.places.items) (t ∷ []) (Some address.0))
             (after_answer (look image.now t scratch.old.here) 0 scratch.old.here)) }
@@ -80,7 +81,7 @@ impl Parts {
         scratch.here.go_on(image, t, 0);
         match self.stand(alloc, image, packed, k, t, packed.memory, scratch)? {
             None => Ok(Some(Bound::Parts)),
-            Some(state) => push_placed(alloc, &state, &[t], place, t, found),
+            Some(state) => push_placed(alloc, &state, &[t], place, t, Doing::Own, found),
         }
     }
 
@@ -104,9 +105,11 @@ impl Parts {
         requires within { IsWithin self.old packed.now }
         requires memory { memory < length self.old.memories.items }
         ensures more { OnOk result (IsMore self.old found.old.items self.new found.new.items) }
-        ensures reaches { IfOk result (λ o. o ≡ None → (place : ℕ) → AreSleepers packed.now.places.items place sleepers.now
+        ensures reaches { IfOk result (λ o. o ≡ None → (place : ℕ)
+            → AreSleepers packed.now.places.items place sleepers.now
             → (woken : List ℕ) → AreChosen packed.now.places.items place size woken
-            → ReachesAt image.now self.new packed.now found.new.items t (words_in self.new.memories.items memory)
+            → ReachesAt image.now self.new packed.now found.new.items t
+            (words_in self.new.memories.items memory)
             (with_place (asleep_at packed.now.places.items) woken (place_of to)) scratch.old.here) }
     {
         match self.stand(alloc, image, packed, k, t, memory, scratch)? {
@@ -130,7 +133,8 @@ impl Parts {
     ) -> Result<Option<Bound>, AllocError>
         requires number { t ≡ suc k }
         requires within { IsWithin self.old packed.now }
-        requires asks { next_step_of (look image.now t scratch.old.here) ≡ step.Shared (Request.Wake address count) }
+        requires asks { next_step_of (look image.now t scratch.old.here)
+            ≡ step.Shared (Request.Wake address count) }
         ensures more { OnOk result (IsMore self.old found.old.items self.new found.new.items) }
         ensures moves { IfOk result (λ o. o ≡ None
             → MovesTo image.now self.new packed.now found.new.items t scratch.old.here) }
@@ -156,15 +160,13 @@ impl Parts {
     ) -> Result<Option<Bound>, AllocError>
         requires number { t ≡ suc k }
         requires within { IsWithin self.old packed.now }
-        requires asks { next_step_of (look image.now t scratch.old.here) ≡ step.Shared (Request.Wake address count) }
+        requires asks { next_step_of (look image.now t scratch.old.here)
+            ≡ step.Shared (Request.Wake address count) }
         ensures more { OnOk result (IsMore self.old found.old.items self.new found.new.items) }
         ensures moves { IfOk result (λ o. o ≡ None
             → MovesTo image.now self.new packed.now found.new.items t scratch.old.here) }
     {
-        let Some(place) = address.0.checked_add(1) else {
-            return Ok(Some(Bound::Foreign));
-        };
-        match packed.sleepers(alloc, place)? {
+        match packed.sleepers_on(alloc, address)? {
             None => Ok(Some(Bound::Foreign)),
             Some(sleepers) => self.wake_of(
                 alloc,
@@ -198,7 +200,8 @@ impl Parts {
         requires number { t ≡ suc k }
         requires within { IsWithin self.old packed.now }
         requires sleepers { AreSleepers packed.now.places.items (suc address.0) sleepers.now }
-        requires asks { next_step_of (look image.now t scratch.old.here) ≡ step.Shared (Request.Wake address count) }
+        requires asks { next_step_of (look image.now t scratch.old.here)
+            ≡ step.Shared (Request.Wake address count) }
         ensures more { OnOk result (IsMore self.old found.old.items self.new found.new.items) }
         ensures moves { IfOk result (λ o. o ≡ None
             → MovesTo image.now self.new packed.now found.new.items t scratch.old.here) }

@@ -1,13 +1,13 @@
-ghost use Rattle.std.specs.Prelude.{◌≡◌, ◌≤◌, ◌<◌, ◌+◌, ◌∷◌, [], ℕ, List, suc, None, Some, IfOk, IfSome, OnOk, length, slice_index, slice_set};
-ghost use Rattle.std.specs.List.{slice_get};
+ghost use Rattle.std.specs.Prelude.{◌≡◌, ◌≤◌, ◌<◌, ℕ, List, suc, None, Some, IfOk, IfSome, OnOk, length, slice_index, slice_set};
 ghost use Rattle.locals.specs.Looks.{look};
 ghost use Rattle.locals.specs.Requests.{after_answer, next_step_of, CanBeAnswered};
 ghost use Rattle.locals.specs.declared.request.NextStep.TheVariants as step;
-ghost use Rattle.image_states.specs.Packed.{asleep_at, unpacked, words_in, IsGrown, IsPrefix, IsWithin};
-ghost use Rattle.image_states.specs.Nexts.{IsBase, IsMore, MovesTo, Reaches, ReachesAt};
+ghost use Rattle.image_states.specs.Packed.{asleep_at, words_in, IsGrown, IsWithin};
+ghost use Rattle.image_states.specs.Nexts.{IsMore, MovesTo, ReachesAt};
 ghost use Rattle.words.specs.Process.{process_word};
 ghost use Rattle.futexcalls.specs.Answers.{word_of};
 ghost use Rattle.futexcalls.specs.FutexCalls.{Wakes};
+ghost use Rattle.robustexit.specs.ExitRules.{exit_of};
 ghost use Rattle.robustexit.specs.declared.phase.ExitPhase.{ExitPhase as ExitPhaseOf};
 ghost use Rattle.std.specs.Prelude.{Option as OptionOf};
 ghost use Rattle.image_states.specs.Exits.{IsPlanOf, WakesAt};
@@ -24,7 +24,7 @@ use crate::running::Scratch;
 use crate::waking::chosen_of;
 use isa::Image;
 use locals::Request;
-use robustexit::ExitPhase;
+use robustexit::{ExitPhase, ExitRule};
 use std::alloc::{AllocError, Global};
 use words::{Addr, Cause, ENDED, MOST_BLOCKS, ProcessWord, block};
 
@@ -53,7 +53,8 @@ impl Parts {
             (slice_set (words_in self.new.memories.items memory) (process_word t 5) outcome)
             (asleep_at packed.now.places.items)
             (after_answer (look image.now t scratch.old.here)
-            (slice_index (words_in self.new.memories.items packed.now.memory) (process_word t 0)) scratch.old.here)) }
+            (slice_index (words_in self.new.memories.items packed.now.memory)
+            (process_word t 0)) scratch.old.here)) }
     {
         if t > MOST_BLOCKS {
             return Ok(Some(Bound::Foreign));
@@ -82,7 +83,8 @@ impl Parts {
     ) -> Result<Option<Bound>, AllocError>
         requires number { t ≡ suc k }
         requires within { IsWithin self.old packed.now }
-        requires asks { next_step_of (look image.now t scratch.old.here) ≡ step.Shared Request.Return }
+        requires asks { next_step_of (look image.now t scratch.old.here)
+            ≡ step.Shared Request.Return }
         ensures more { OnOk result (IsMore self.old found.old.items self.new found.new.items) }
         ensures moves { IfOk result (λ o. o ≡ None
             → MovesTo image.now self.new packed.now found.new.items t scratch.old.here) }
@@ -114,7 +116,8 @@ impl Parts {
     ) -> Result<Option<Bound>, AllocError>
         requires number { t ≡ suc k }
         requires within { IsWithin self.old packed.now }
-        requires asks { next_step_of (look image.now t scratch.old.here) ≡ step.Shared (Request.ReturnValue value) }
+        requires asks { next_step_of (look image.now t scratch.old.here)
+            ≡ step.Shared (Request.ReturnValue value) }
         ensures more { OnOk result (IsMore self.old found.old.items self.new found.new.items) }
         ensures moves { IfOk result (λ o. o ≡ None
             → MovesTo image.now self.new packed.now found.new.items t scratch.old.here) }
@@ -142,7 +145,8 @@ impl Parts {
     ) -> Result<Option<Bound>, AllocError>
         requires number { t ≡ suc k }
         requires within { IsWithin self.old packed.now }
-        requires asks { next_step_of (look image.now t scratch.old.here) ≡ step.Shared (Request.Fault cause) }
+        requires asks { next_step_of (look image.now t scratch.old.here)
+            ≡ step.Shared (Request.Fault cause) }
         ensures more { OnOk result (IsMore self.old found.old.items self.new found.new.items) }
         ensures moves { IfOk result (λ o. o ≡ None
             → MovesTo image.now self.new packed.now found.new.items t scratch.old.here) }
@@ -160,7 +164,7 @@ impl Parts {
         )
     }
 
-    // The step of a thread's exit in this phase.
+    // The step of a thread's exit in this phase, by the rule of the image's version.
     pub(crate) fn leave(
         &mut self,
         alloc: Global,
@@ -182,17 +186,19 @@ impl Parts {
         if t > MOST_BLOCKS {
             return Ok(Some(Bound::Foreign));
         }
-        match self.plan(packed.memory, t, phase) {
+        let rule = ExitRule::of(image.version());
+        match self.plan(rule, packed.memory, t, phase) {
             None => Ok(Some(Bound::Foreign)),
             Some(plan) => self.leave_by(alloc, image, packed, k, t, plan, scratch, found),
         }
     }
 
-    // What the step of thread `t`'s exit does in the memory of this number; None where that is too small.
-    fn plan(&self, memory: u32, t: u32, phase: ExitPhase) -> Option<ExitPlan>
+    // What the step of thread `t`'s exit by this rule does in the memory of this number; None where
+    // that is too small.
+    fn plan(&self, rule: ExitRule, memory: u32, t: u32, phase: ExitPhase) -> Option<ExitPlan>
         requires { (0 < t) × (t ≤ MOST_BLOCKS) }
-        ensures { IfSome result (IsPlanOf (length (words_in self.now.memories.items memory)) t phase
-            (word_of (words_in self.now.memories.items memory))) }
+        ensures { IfSome result (IsPlanOf rule (length (words_in self.now.memories.items memory)) t
+            phase (word_of (words_in self.now.memories.items memory))) }
     {
         match self.memory(memory) {
             None => None,
@@ -200,7 +206,7 @@ impl Parts {
                 if block(t, ProcessWord::Outcome).0 as usize >= words.len() {
                     return None;
                 }
-                Some(exit_plan(words, t, phase))
+                Some(exit_plan(rule, words, t, phase))
             }
         }
     }
@@ -242,7 +248,8 @@ impl Parts {
         ensures more { OnOk result (IsMore self.old found.old.items self.new found.new.items) }
         ensures reaches { IfOk result (λ o. o ≡ None → (woken : List ℕ) (after : ℕ → OptionOf ℕ)
             → WakesAt wakes (asleep_at packed.now.places.items) woken after
-            → ReachesAt image.now self.new packed.now found.new.items t (words_in self.new.memories.items memory) after
+            → ReachesAt image.now self.new packed.now found.new.items t
+            (words_in self.new.memories.items memory) after
             scratch.old.here) }
     {
         match wakes {
@@ -270,13 +277,11 @@ impl Parts {
         ensures more { OnOk result (IsMore self.old found.old.items self.new found.new.items) }
         ensures reaches { IfOk result (λ o. o ≡ None → (woken : List ℕ) (after : ℕ → OptionOf ℕ)
             → Wakes (asleep_at packed.now.places.items) a.0 1 woken after
-            → ReachesAt image.now self.new packed.now found.new.items t (words_in self.new.memories.items memory) after
+            → ReachesAt image.now self.new packed.now found.new.items t
+            (words_in self.new.memories.items memory) after
             scratch.old.here) }
     {
-        let Some(place) = a.0.checked_add(1) else {
-            return Ok(Some(Bound::Foreign));
-        };
-        match packed.sleepers(alloc, place)? {
+        match packed.sleepers_on(alloc, a)? {
             None => Ok(Some(Bound::Foreign)),
             Some(sleepers) => {
                 self.stand_among(
@@ -316,7 +321,8 @@ impl Parts {
         ensures more { OnOk result (IsMore self.old found.old.items self.new found.new.items) }
         ensures reaches { IfOk result (λ o. o ≡ None → (woken : List ℕ) (after : ℕ → OptionOf ℕ)
             → Wakes (asleep_at packed.now.places.items) a.0 1 woken after
-            → ReachesAt image.now self.new packed.now found.new.items t (words_in self.new.memories.items memory) after
+            → ReachesAt image.now self.new packed.now found.new.items t
+            (words_in self.new.memories.items memory) after
             scratch.old.here) }
     {
         let size = chosen_of(1, sleepers.len());
@@ -341,7 +347,8 @@ impl Parts {
         requires within { IsWithin self.old packed.now }
         ensures more { OnOk result (IsMore self.old found.old.items self.new found.new.items) }
         ensures leaves { IfOk result (λ o. o ≡ None → (phase : ExitPhaseOf)
-            → IsPlanOf (length (words_in self.new.memories.items packed.now.memory)) t phase
+            → IsPlanOf (exit_of image.now.version)
+            (length (words_in self.new.memories.items packed.now.memory)) t phase
             (word_of (words_in self.new.memories.items packed.now.memory)) plan
             → LeavesTo image.now self.new packed.now found.new.items t phase) }
     {

@@ -1,13 +1,12 @@
-ghost use Rattle.std.specs.Prelude.{◌≡◌, ◌≤◌, ◌<◌, ◌+◌, ℕ, suc, MatchBool, IfNone, IfSome, Some, None, false, true, List, length, ◌⊎◌, ◌^◌};
+ghost use Rattle.std.specs.Prelude.{◌≡◌, ◌≤◌, ◌<◌, ◌+◌, ℕ, suc, MatchBool, IfNone, IfSome, Some, None, false, true, length, ◌⊎◌, ◌^◌};
 ghost use Rattle.machine.specs.AbstractServing.{IsUnserved};
 ghost use Rattle.machine.specs.RequestMeanings.{asked_of};
 ghost use Rattle.locals.specs.Looks.{look};
-ghost use Rattle.locals.specs.Threads.{Thread};
 ghost use Rattle.machine.specs.Runs.{CanStep, IsBroken, NextIsBroken};
 ghost use Rattle.machine.specs.States.{State};
 ghost use Rattle.proof_image_search.specs.Searching.{HasFailed, IsStuck};
 ghost use Rattle.isa.specs.Programs.{Program};
-ghost use Rattle.image_states.specs.Packed.{asleep_at, thread_at, unpacked, words_in};
+ghost use Rattle.image_states.specs.Packed.{thread_at, unpacked, words_in};
 ghost use Rattle.image_states.specs.Ends.{IsFailing, IsFailingAt, IsLive};
 
 use crate::packed::Packed;
@@ -33,8 +32,10 @@ fn is_failing(image: &Image, local: &Local) -> bool
 impl Parts {
     /// The local state of the thread behind so many others.
     pub fn thread(&self, packed: &Packed, k: usize) -> Option<&Local>
-        ensures some { IfSome result (λ l. thread_at self.now.locals.items packed.now.parts.items (suc k) ≡ Some l.now) }
-        ensures none { IfNone result (thread_at self.now.locals.items packed.now.parts.items (suc k) ≡ None) }
+        ensures some { IfSome result
+            (λ l. thread_at self.now.locals.items packed.now.parts.items (suc k) ≡ Some l.now) }
+        ensures none { IfNone result
+            (thread_at self.now.locals.items packed.now.parts.items (suc k) ≡ None) }
     {
         match packed.parts.get(k) {
             None => None,
@@ -55,7 +56,8 @@ impl Parts {
 
     /// Whether the thread behind so many others was made, is awake and has not ended.
     pub fn can_step(&self, packed: &Packed, k: usize) -> bool
-        ensures { (p : Program) → MatchBool result (CanStep (unpacked p self.now packed.now) (suc k))
+        ensures { (p : Program)
+            → MatchBool result (CanStep (unpacked p self.now packed.now) (suc k))
             (CanStep (unpacked p self.now packed.now) (suc k) → ⊥) }
     {
         if packed.place(k) != 0 {
@@ -130,7 +132,8 @@ impl Parts {
     // Whether the words of a request lie in the memory of this number.
     pub(crate) fn lies(&self, memory: u32, request: Request) -> bool
         ensures { (s : State) → s.size ≡ length (words_in self.now.memories.items memory)
-            → MatchBool result (IsUnserved (asked_of request) s → ⊥) (IsUnserved (asked_of request) s) }
+            → MatchBool result (IsUnserved (asked_of request) s → ⊥)
+            (IsUnserved (asked_of request) s) }
     {
         match request {
             Request::Load(a) | Request::Store(a, _) | Request::Swap(a, _) => self
@@ -197,7 +200,8 @@ impl Parts {
 
     /// Whether a thread's next step may not be. Of a state with more threads than numbers that is answered too.
     pub fn is_broken(&self, image: &Image, packed: &Packed) -> bool
-        ensures broken { result ≡ true → ((t : ℕ) × NextIsBroken image.now (unpacked image.now self.now packed.now) t)
+        ensures broken { result ≡ true
+            → ((t : ℕ) × NextIsBroken image.now (unpacked image.now self.now packed.now) t)
             ⊎ (2 ^ 32 ≤ length packed.now.parts.items + 1) }
         ensures whole { result ≡ false
             → (t : ℕ) → NextIsBroken image.now (unpacked image.now self.now packed.now) t → ⊥ }

@@ -1,11 +1,12 @@
-ghost use Rattle.std.specs.Prelude.{◌≡◌, ◌<◌, ◌≤◌, ◌+◌, ℕ, IfSome, IfNone, length, true, Some, None, if◌then◌else◌};
+ghost use Rattle.std.specs.Prelude.{◌≡◌, ◌<◌, ◌≤◌, ◌+◌, IfSome, IfNone, length, true, Some, None, if◌then◌else◌};
 ghost use Rattle.words.specs.LockWord.{lock_word, waiters_of};
 ghost use Rattle.words.specs.Process.{process_word};
 ghost use Rattle.futexcalls.specs.Answers.{word_of};
 ghost use Rattle.robustexit.specs.RobustExit.{IsEntry};
+ghost use Rattle.robustexit.specs.declared.rule.ExitRule.{ExitRule as ExitRuleOf};
 ghost use Rattle.image_states.specs.Exits.{IsPlanOf};
 
-use robustexit::{ExitPhase, phase_at};
+use robustexit::{ExitPhase, ExitRule, phase_at};
 use words::{Addr, MOST_BLOCKS, Mem, OWNER_DIED, ProcessWord, WAITERS, block, has_waiters, tid};
 
 // The word of a lock whose owner died, and for which threads may wait.
@@ -77,7 +78,8 @@ fn abandon(lock: Addr, word: u32, next: ExitPhase) -> ExitPlan
 fn entry_plan(mem: &Mem, t: u32, entry: Addr, seen: u32) -> ExitPlan
     requires thread { (0 < t) × (t ≤ MOST_BLOCKS) }
     requires block { process_word t 5 < length mem.now }
-    ensures { IsPlanOf (length mem.now) t (ExitPhase.Entry entry seen) (word_of mem.now) result }
+    ensures { (rule : ExitRuleOf)
+        → IsPlanOf rule (length mem.now) t (ExitPhase.Entry entry seen) (word_of mem.now) result }
 {
     let Some(lock) = lock_of(mem, entry.0) else {
         return idle(ExitPhase::Pending);
@@ -91,10 +93,10 @@ fn entry_plan(mem: &Mem, t: u32, entry: Addr, seen: u32) -> ExitPlan
     abandon(lock, word, next)
 }
 
-fn pending_plan(mem: &Mem, t: u32) -> ExitPlan
+fn pending_plan(rule: ExitRule, mem: &Mem, t: u32) -> ExitPlan
     requires thread { (0 < t) × (t ≤ MOST_BLOCKS) }
     requires block { process_word t 5 < length mem.now }
-    ensures { IsPlanOf (length mem.now) t ExitPhase.Pending (word_of mem.now) result }
+    ensures { IsPlanOf rule (length mem.now) t ExitPhase.Pending (word_of mem.now) result }
 {
     let Some(lock) = lock_of(mem, mem.load(block(t, ProcessWord::Pending))) else {
         return idle(ExitPhase::ClearId);
@@ -103,6 +105,9 @@ fn pending_plan(mem: &Mem, t: u32) -> ExitPlan
     if tid(word) == t {
         return abandon(lock, word, ExitPhase::ClearId);
     }
+    if !rule.wakes(word) {
+        return idle(ExitPhase::ClearId);
+    }
     ExitPlan {
         marks: None,
         wakes: Some(lock),
@@ -110,15 +115,15 @@ fn pending_plan(mem: &Mem, t: u32) -> ExitPlan
     }
 }
 
-/// What the step of thread `t`'s exit in this phase does.
-pub(crate) fn exit_plan(mem: &Mem, t: u32, phase: ExitPhase) -> ExitPlan
+/// What the step of thread `t`'s exit by this rule in this phase does.
+pub(crate) fn exit_plan(rule: ExitRule, mem: &Mem, t: u32, phase: ExitPhase) -> ExitPlan
     requires thread { (0 < t) × (t ≤ MOST_BLOCKS) }
     requires block { process_word t 5 < length mem.now }
-    ensures { IsPlanOf (length mem.now) t phase (word_of mem.now) result }
+    ensures { IsPlanOf rule (length mem.now) t phase (word_of mem.now) result }
 {
     match phase {
         ExitPhase::Entry { entry, seen } => entry_plan(mem, t, entry, seen),
-        ExitPhase::Pending => pending_plan(mem, t),
+        ExitPhase::Pending => pending_plan(rule, mem, t),
         ExitPhase::ClearId => ExitPlan {
             marks: Some((block(t, ProcessWord::Id), 0)),
             wakes: None,

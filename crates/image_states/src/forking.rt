@@ -1,10 +1,7 @@
-ghost use Rattle.std.specs.Prelude.{◌≡◌, ◌≤◌, ◌<◌, ◌+◌, ◌∷◌, [], ℕ, List, suc, None, Some, IfOk, IfSome, OnOk, length, slice_index, slice_set};
-ghost use Rattle.std.specs.List.{slice_get};
+ghost use Rattle.std.specs.Prelude.{◌≡◌, ◌<◌, ◌+◌, suc, None, Some, IfOk, OnOk, length};
 ghost use Rattle.locals.specs.Looks.{look};
-ghost use Rattle.locals.specs.Requests.{after_answer, next_step_of, CanBeAnswered};
-ghost use Rattle.locals.specs.declared.request.NextStep.TheVariants as step;
-ghost use Rattle.image_states.specs.Packed.{asleep_at, unpacked, words_in, IsGrown, IsPrefix, IsWithin};
-ghost use Rattle.image_states.specs.Nexts.{IsBase, IsMore, MovesTo, Reaches, ReachesAt};
+ghost use Rattle.image_states.specs.Packed.{IsGrown, IsPrefix, IsWithin};
+ghost use Rattle.image_states.specs.Nexts.{IsMore, MovesTo};
 ghost use Rattle.std.specs.Prelude.{true};
 ghost use Rattle.words.specs.Versions.{most_of};
 ghost use Rattle.locals.specs.Requests.{fork_child};
@@ -12,7 +9,7 @@ ghost use Rattle.machine.specs.RequestMeanings.{AsksFork};
 ghost use Rattle.image_states.specs.Forking.{HasChild, HasMore, IsThreadMore};
 
 use crate::bound::Bound;
-use crate::next::{Doing, Next};
+use crate::next::{Doing, Next, push_next};
 use crate::packed::Packed;
 use crate::parts::Parts;
 use crate::running::Scratch;
@@ -42,11 +39,7 @@ fn push_more(
 {
     let mut state = state;
     add_thread(&mut state, part)?;
-    found.push(Next {
-        state,
-        thread,
-        doing: Doing::Own,
-    })?;
+    push_next(found, state, thread, Doing::Own)?;
     Ok(None)
 }
 

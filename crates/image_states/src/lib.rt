@@ -27,3 +27,4 @@ pub use outside::Outside;
 pub use packed::Packed;
 pub use parts::Parts;
 pub use running::{MOST_AT_ONCE, Scratch};
+pub use turns::thread_number;

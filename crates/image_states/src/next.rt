@@ -1,4 +1,8 @@
+ghost use Rattle.std.specs.Prelude.{Contains, OnOk};
+ghost use Rattle.image_states.specs.Packed.{IsPrefix};
+
 use crate::packed::Packed;
+use std::alloc::AllocError;
 
 /// By which kind of step a state comes.
 #[derive(Clone, Copy)]
@@ -21,4 +25,23 @@ pub struct Next {
     pub thread: u32,
     /// What step it was.
     pub doing: Doing,
+}
+
+// The state comes next by a step of this kind, of this thread.
+pub(crate) fn push_next(
+    found: &mut Vec<Next>,
+    state: Packed,
+    thread: u32,
+    doing: Doing,
+) -> Result<(), AllocError>
+    ensures longer { OnOk result (IsPrefix found.old.items found.new.items) }
+    ensures there { OnOk result (Contains found.new.items
+        (record { state = state; thread = thread; doing = doing })) }
+{
+    found.push(Next {
+        state,
+        thread,
+        doing,
+    })?;
+    Ok(())
 }

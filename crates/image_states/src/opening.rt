@@ -1,6 +1,5 @@
-ghost use Rattle.std.specs.Prelude.{◌≡◌, ◌<◌, ◌^◌, ◌∷◌, [], Some, None, IfOk, IfSome, OnOk, length, replicate, slice_set, sum};
+ghost use Rattle.std.specs.Prelude.{◌≡◌, ◌<◌, ◌^◌, [], Some, None, IfOk, IfSome, OnOk, replicate, slice_set, sum};
 ghost use Rattle.std.specs.List.{slice_get};
-ghost use Rattle.words.specs.Process.{process_word};
 ghost use Rattle.isa.specs.Programs.{memory_size};
 ghost use Rattle.machine.specs.States.{opening_state};
 ghost use Rattle.image_states.specs.Packed.{IsGrown, IsWithin};

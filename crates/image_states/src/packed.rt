@@ -1,9 +1,10 @@
-ghost use Rattle.std.specs.Prelude.{◌≡◌, ◌<◌, ℕ, IfOk, IfSome, length, slice_index, slice_set, true, Some, None, Contains};
-ghost use Rattle.buckets.specs.Places.{names, with_place};
+ghost use Rattle.std.specs.Prelude.{◌≡◌, ◌<◌, IfOk, IfSome, slice_index, suc, true};
+ghost use Rattle.buckets.specs.Places.{with_place};
 ghost use Rattle.image_states.specs.Packed.{IsSameKey, IsPlaced, asleep_at, place_of};
 
 use crate::digest::{fed, mixed};
 use std::alloc::{AllocError, Global};
+use words::Addr;
 
 /// A state, packed: the numbers of its parts. `unpacked` is the state of the definitions for which it stands.
 #[derive(Drop)]
@@ -99,10 +100,23 @@ impl Packed {
         }))
     }
 
+    // The threads that sleep on an address; None where there are too many threads, or where the
+    // address is the last of all.
+    pub(crate) fn sleepers_on(&self, alloc: Global, a: Addr) -> Result<Option<Vec<u32>>, AllocError>
+        ensures { IfOk result
+            (λ o. IfSome o (λ v. AreSleepers self.now.places.items (suc a.0) v.items)) }
+    {
+        match a.0.checked_add(1) {
+            None => Ok(None),
+            Some(place) => self.sleepers(alloc, place),
+        }
+    }
+
     // The threads that sleep at a place; None where there are too many threads.
-    pub(crate) fn sleepers(&self, alloc: Global, place: u32) -> Result<Option<Vec<u32>>, AllocError>
+    fn sleepers(&self, alloc: Global, place: u32) -> Result<Option<Vec<u32>>, AllocError>
         requires { 0 < place }
-        ensures { IfOk result (λ o. IfSome o (λ v. AreSleepers self.now.places.items place v.items)) }
+        ensures { IfOk result
+            (λ o. IfSome o (λ v. AreSleepers self.now.places.items place v.items)) }
     {
         let Ok(count) = u32::try_from(self.places.len()) else {
             return Ok(None);
@@ -122,7 +136,8 @@ impl Packed {
 
 // These threads are at this place from now on; false where one wasn't made.
 fn place_all(places: &mut [u32], chosen: &[u32], place: u32) -> bool
-    ensures { result ≡ true → asleep_at places.new ≡ with_place (asleep_at places.old) chosen.now (place_of place) }
+    ensures { result ≡ true
+        → asleep_at places.new ≡ with_place (asleep_at places.old) chosen.now (place_of place) }
 {
     for t in chosen {
         let t = *t as usize;

@@ -1,4 +1,4 @@
-ghost use Rattle.std.specs.Prelude.{◌≡◌, ◌<◌, ℕ, MatchOption, None, Some, true, IfOk, IfSome, OnOk, length, slice_index, slice_set};
+ghost use Rattle.std.specs.Prelude.{◌≡◌, ◌<◌, MatchOption, None, Some, true, IfOk, IfSome, OnOk, length, slice_index, slice_set};
 ghost use Rattle.std.specs.List.{slice_get};
 ghost use Rattle.image_states.specs.Packed.{IsGrown, words_in};
 
@@ -151,7 +151,8 @@ impl Parts {
         local: &Local,
     ) -> Result<Option<u32>, AllocError>
         ensures grown { OnOk result (IsGrown self.old self.new) }
-        ensures there { IfOk result (λ o. IfSome o (λ n. slice_get self.new.locals.items n ≡ Some local.now)) }
+        ensures there { IfOk result
+            (λ o. IfSome o (λ n. slice_get self.new.locals.items n ≡ Some local.now)) }
     {
         let digest = local_digest(local.place(), local.next_step(image, t));
         if let Some(number) = self.find_local(local, digest) {
@@ -167,7 +168,8 @@ impl Parts {
 
     // Whether the memory of this number is another with this word at an address.
     fn has_memory(&self, number: u32, old: &Mem, a: Addr, v: u32) -> bool
-        ensures { result ≡ true → slice_get self.now.memories.items number ≡ Some (slice_set old.now a.0 v) }
+        ensures { result ≡ true
+            → slice_get self.now.memories.items number ≡ Some (slice_set old.now a.0 v) }
     {
         match self.memories.get(number as usize) {
             None => false,
@@ -177,7 +179,8 @@ impl Parts {
 
     // The number of a memory with this word at an address, where it is noted.
     fn find_memory(&self, old: &Mem, a: Addr, v: u32, digest: u64) -> Option<u32>
-        ensures { IfSome result (λ n. slice_get self.now.memories.items n ≡ Some (slice_set old.now a.0 v)) }
+        ensures { IfSome result
+            (λ n. slice_get self.now.memories.items n ≡ Some (slice_set old.now a.0 v)) }
     {
         let mut tried = 0;
         for _ in 0..TRIES {
@@ -200,7 +203,8 @@ impl Parts {
         digest: u64,
     ) -> Result<Option<u32>, AllocError>
         ensures grown { OnOk result (IsGrown self.old self.new) }
-        ensures there { IfOk result (λ o. IfSome o (λ n. slice_get self.new.memories.items n ≡ Some memory)) }
+        ensures there { IfOk result
+            (λ o. IfSome o (λ n. slice_get self.new.memories.items n ≡ Some memory)) }
     {
         let Ok(number) = u32::try_from(self.memories.len()) else {
             return Ok(None);
@@ -219,7 +223,8 @@ impl Parts {
         a: Addr,
         v: u32,
     ) -> Result<Option<Mem>, AllocError>
-        ensures { IfOk result (λ o. IfSome o (λ m. m ≡ slice_set (words_in self.now.memories.items number) a.0 v)) }
+        ensures { IfOk result
+            (λ o. IfSome o (λ m. m ≡ slice_set (words_in self.now.memories.items number) a.0 v)) }
     {
         let Some(old) = self.memories.get(number as usize) else {
             return Ok(None);
@@ -296,7 +301,8 @@ impl Parts {
         ensures grown { OnOk result (IsGrown self.old self.new) }
         ensures there { IfOk result (λ o. IfSome o (λ n. slice_get self.new.memories.items n
             ≡ Some (slice_set (words_in self.old.memories.items number) a.0 v))) }
-        ensures lies { IfOk result (λ o. IfSome o (λ n. a.0 < length (words_in self.old.memories.items number))) }
+        ensures lies { IfOk result
+            (λ o. IfSome o (λ n. a.0 < length (words_in self.old.memories.items number))) }
     {
         match self.word(number, a) {
             None => Ok(None),

@@ -1,17 +1,11 @@
-ghost use Rattle.std.specs.Prelude.{◌≡◌, ◌≤◌, ◌<◌, ◌+◌, ◌∷◌, [], ℕ, List, suc, None, Some, IfOk, IfSome, OnOk, length, Contains};
-ghost use Rattle.futexcalls.specs.FutexCalls.{IsChoice};
-ghost use Rattle.futexcalls.specs.Pieces.{RequeuesCompared};
-ghost use Rattle.buckets.specs.Places.{with_place};
+ghost use Rattle.std.specs.Prelude.{◌≡◌, ◌<◌, ◌+◌, suc, None, Some, IfOk, IfSome, OnOk, Contains};
 ghost use Rattle.locals.specs.Looks.{look};
-ghost use Rattle.locals.specs.Requests.{after_answer, next_step_of, CanBeAnswered};
+ghost use Rattle.locals.specs.Requests.{after_answer, next_step_of};
 ghost use Rattle.locals.specs.Threads.{Thread};
 ghost use Rattle.locals.specs.declared.request.NextStep.TheVariants as step;
-ghost use Rattle.machine.specs.States.{State};
-ghost use Rattle.machine.specs.AbstractServing.{IsUnserved};
-ghost use Rattle.machine.specs.RequestMeanings.{asked_of};
-ghost use Rattle.image_states.specs.Packed.{asleep_at, place_of, thread_at, unpacked, words_in, IsGrown, IsPrefix, IsWithin};
-ghost use Rattle.image_states.specs.Nexts.{IsBase, IsMore, MovesTo, Reaches, ReachesAt};
-ghost use Rattle.image_states.specs.Choosing.{chosen_of, AreChosen, AreSleepers, HasPlaced};
+ghost use Rattle.image_states.specs.Packed.{asleep_at, thread_at, words_in, IsWithin};
+ghost use Rattle.image_states.specs.Nexts.{IsMore, MovesTo, ReachesAt};
+ghost use Rattle.image_states.specs.Choosing.{chosen_of, AreSleepers};
 ghost use Rattle.image_states.specs.declared.next.Next.{Next as NextOf};
 ghost use Rattle.std.specs.Prelude.{◌≢◌, slice_index};
 ghost use Rattle.image_states.specs.Requeues.{AsksThere, MidDone, RequeuesDone};
@@ -65,8 +59,10 @@ impl Parts {
     ) -> Result<Option<Bound>, AllocError>
         requires number { t ≡ suc k }
         requires within { IsWithin self.old packed.now }
-        requires stands { thread_at self.old.locals.items packed.now.parts.items t ≡ Some scratch.old.here }
-        requires asks { next_step_of (look image.now t scratch.old.here) ≡ step.Shared (Request.Requeue from to wake moves expected) }
+        requires stands { thread_at self.old.locals.items packed.now.parts.items t
+            ≡ Some scratch.old.here }
+        requires asks { next_step_of (look image.now t scratch.old.here)
+            ≡ step.Shared (Request.Requeue from to wake moves expected) }
         ensures more { OnOk result (IsMore self.old found.old.items self.new found.new.items) }
         ensures moves { IfOk result (λ o. o ≡ None
             → MovesTo image.now self.new packed.now found.new.items t scratch.old.here) }
@@ -194,10 +190,7 @@ impl Parts {
         ensures done { IfOk result (λ o. o ≡ None
             → RequeuesDone image.now self.new packed.now found.new.items t from.0 to.0 wake most) }
     {
-        let Some(place) = from.0.checked_add(1) else {
-            return Ok(Some(Bound::Foreign));
-        };
-        match packed.sleepers(alloc, place)? {
+        match packed.sleepers_on(alloc, from)? {
             None => Ok(Some(Bound::Foreign)),
             Some(sleepers) => {
                 self.requeue_of(
@@ -246,41 +239,7 @@ impl Parts {
     {
         let size = chosen_of(wake, sleepers.len());
         let mut mids = Vec::new(alloc);
-        self.requeue_sets(
-            alloc, image, packed, k, t, request, from, to, wake, most, sleepers, size, &mut mids,
-            scratch, found,
-        )
-    }
-
-    // The same where so many are woken.
-    fn requeue_sets(
-        &mut self,
-        alloc: Global,
-        image: &Image,
-        packed: &Packed,
-        k: usize,
-        t: u32,
-        request: Request,
-        from: Addr,
-        to: Addr,
-        wake: u32,
-        most: u32,
-        sleepers: &[u32],
-        size: usize,
-        mids: &mut Vec<Next>,
-        scratch: &mut Scratch,
-        found: &mut Vec<Next>,
-    ) -> Result<Option<Bound>, AllocError>
-        requires number { t ≡ suc k }
-        requires within { IsWithin self.old packed.now }
-        requires asks { AsksThere image.now self.old packed.now t request }
-        requires sleepers { AreSleepers packed.now.places.items (suc from.0) sleepers.now }
-        requires size { size ≡ chosen_of wake (length sleepers.now) }
-        ensures more { OnOk result (IsMore self.old found.old.items self.new found.new.items) }
-        ensures done { IfOk result (λ o. o ≡ None
-            → RequeuesDone image.now self.new packed.now found.new.items t from.0 to.0 wake most) }
-    {
-        let woken = push_choices(alloc, packed, sleepers, size, 0, t, mids)?;
+        let woken = push_choices(alloc, packed, sleepers, size, 0, t, &mut mids)?;
         if woken.is_some() {
             return Ok(woken);
         }
@@ -323,7 +282,8 @@ impl Parts {
         requires asks { AsksThere image.now self.old packed.now t request }
         ensures more { OnOk result (IsMore self.old found.old.items self.new found.new.items) }
         ensures done { IfOk result (λ o. o ≡ None → (mid : NextOf) → Contains mids.now mid
-            → MidDone image.now self.new packed.now mid.state found.new.items t from.0 to.0 most size) }
+            → MidDone image.now self.new packed.now mid.state found.new.items t
+            from.0 to.0 most size) }
     {
         for mid in mids {
             let bound = self.requeue_mid(
@@ -360,15 +320,13 @@ impl Parts {
         ensures more { OnOk result (IsMore self.old found.old.items self.new found.new.items) }
         ensures within { IfOk result (λ o. o ≡ None → IsWithin self.old mid.now) }
         ensures done { IfOk result (λ o. o ≡ None
-            → MidDone image.now self.new packed.now mid.now found.new.items t from.0 to.0 most size) }
+            → MidDone image.now self.new packed.now mid.now found.new.items t
+            from.0 to.0 most size) }
     {
         if !self.is_within(mid) {
             return Ok(Some(Bound::Foreign));
         }
-        let Some(place) = from.0.checked_add(1) else {
-            return Ok(Some(Bound::Foreign));
-        };
-        match mid.sleepers(alloc, place)? {
+        match mid.sleepers_on(alloc, from)? {
             None => Ok(Some(Bound::Foreign)),
             Some(sleepers) => {
                 self.requeue_to(
@@ -416,7 +374,8 @@ impl Parts {
         requires sleepers { AreSleepers mid.now.places.items (suc from.0) sleepers.now }
         ensures more { OnOk result (IsMore self.old found.old.items self.new found.new.items) }
         ensures done { IfOk result (λ o. o ≡ None
-            → MidDone image.now self.new packed.now mid.now found.new.items t from.0 to.0 most size) }
+            → MidDone image.now self.new packed.now mid.now found.new.items t
+            from.0 to.0 most size) }
     {
         let moved = chosen_of(most, sleepers.len());
         let Some(answer) = number_of(size, moved) else {

@@ -1,16 +1,15 @@
-ghost use Rattle.std.specs.Prelude.{◌≡◌, ◌≤◌, ◌<◌, ◌+◌, ℕ, suc, None, Some, IfOk, IfSome, OnOk, MatchOption, length, slice_index, slice_set, true, Ok, ◌++◌, ◌∷◌, []};
+ghost use Rattle.std.specs.Prelude.{◌≡◌, ◌≤◌, ◌<◌, suc, None, Some, IfOk, IfSome, OnOk, MatchOption, length, slice_index, slice_set, Ok};
 ghost use Rattle.std.specs.List.{slice_get};
 ghost use Rattle.locals.specs.Looks.{look};
 ghost use Rattle.locals.specs.Requests.{after_answer, next_step_of, CanBeAnswered};
 ghost use Rattle.locals.specs.declared.request.NextStep.TheVariants as step;
-ghost use Rattle.machine.specs.States.{with_thread, with_word};
-ghost use Rattle.image_states.specs.Packed.{asleep_at, thread_at, unpacked, words_in, IsGrown, IsPrefix, IsWithin};
+ghost use Rattle.image_states.specs.Packed.{asleep_at, thread_at, words_in, IsGrown, IsWithin};
 ghost use Rattle.std.specs.Prelude.{option_map};
 ghost use Rattle.image_states.specs.Accesses.{access_of, access_answer, word_after};
-ghost use Rattle.image_states.specs.Nexts.{IsBase, IsMore, MovesTo, Reaches, ReachesAt};
+ghost use Rattle.image_states.specs.Nexts.{IsBase, IsMore, MovesTo, ReachesAt};
 
 use crate::bound::Bound;
-use crate::next::{Doing, Next};
+use crate::next::{Doing, Next, push_next};
 use crate::packed::Packed;
 use crate::parts::Parts;
 use crate::running::Scratch;
@@ -18,20 +17,6 @@ use isa::Image;
 use locals::Request;
 use std::alloc::{AllocError, Global};
 use words::{Addr, Mem};
-
-// The state comes next by a step of this thread's own.
-fn push(state: Packed, thread: u32, found: &mut Vec<Next>) -> Result<Option<Bound>, AllocError>
-    ensures result { OnOk result (result ≡ Ok None) }
-    ensures pushed { OnOk result (found.new.items
-        ≡ found.old.items ++ record { state = state; thread = thread; doing = Doing.Own } ∷ []) }
-{
-    found.push(Next {
-        state,
-        thread,
-        doing: Doing::Own,
-    })?;
-    Ok(None)
-}
 
 // The word at an address, where the address lies in the memory.
 fn word_of(words: &Mem, a: Addr) -> Option<u32>
@@ -96,12 +81,17 @@ impl Parts {
         requires within { IsWithin self.old packed.now }
         requires memory { memory < length self.old.memories.items }
         ensures more { OnOk result (IsMore self.old found.old.items self.new found.new.items) }
-        ensures reaches { IfOk result (λ o. o ≡ None → ReachesAt image.now self.new packed.now found.new.items t
-            (words_in self.new.memories.items memory) (asleep_at packed.now.places.items) scratch.old.here) }
+        ensures reaches { IfOk result (λ o. o ≡ None
+            → ReachesAt image.now self.new packed.now found.new.items t
+            (words_in self.new.memories.items memory)
+            (asleep_at packed.now.places.items) scratch.old.here) }
     {
         match self.stand(alloc, image, packed, k, t, memory, scratch)? {
             None => Ok(Some(Bound::Parts)),
-            Some(state) => push(state, t, found),
+            Some(state) => {
+                push_next(found, state, t, Doing::Own)?;
+                Ok(None)
+            }
         }
     }
 
@@ -123,7 +113,8 @@ impl Parts {
         requires memory { memory < length self.old.memories.items }
         requires answers { CanBeAnswered (look image.now t scratch.old.here) answer }
         ensures more { OnOk result (IsMore self.old found.old.items self.new found.new.items) }
-        ensures reaches { IfOk result (λ o. o ≡ None → ReachesAt image.now self.new packed.now found.new.items t
+        ensures reaches { IfOk result (λ o. o ≡ None
+            → ReachesAt image.now self.new packed.now found.new.items t
             (words_in self.new.memories.items memory) (asleep_at packed.now.places.items)
             (after_answer (look image.now t scratch.old.here) answer scratch.old.here)) }
     {
@@ -149,8 +140,10 @@ impl Parts {
         requires within { IsWithin self.old packed.now }
         requires answers { CanBeAnswered (look image.now t scratch.old.here) answer }
         ensures more { OnOk result (IsMore self.old found.old.items self.new found.new.items) }
-        ensures reaches { IfOk result (λ o. o ≡ None → ReachesAt image.now self.new packed.now found.new.items t
-            (slice_set (words_in self.new.memories.items packed.now.memory) a.0 v) (asleep_at packed.now.places.items)
+        ensures reaches { IfOk result (λ o. o ≡ None
+            → ReachesAt image.now self.new packed.now found.new.items t
+            (slice_set (words_in self.new.memories.items packed.now.memory) a.0 v)
+            (asleep_at packed.now.places.items)
             (after_answer (look image.now t scratch.old.here) answer scratch.old.here)) }
     {
         match self.stored(alloc, packed.memory, a, v)? {
@@ -252,7 +245,8 @@ impl Parts {
     ) -> Result<Option<Bound>, AllocError>
         requires number { t ≡ suc k }
         requires within { IsWithin self.old packed.now }
-        requires asks { next_step_of (look image.now t scratch.old.here) ≡ step.Shared (Request.Print number) }
+        requires asks { next_step_of (look image.now t scratch.old.here)
+            ≡ step.Shared (Request.Print number) }
         ensures more { OnOk result (IsMore self.old found.old.items self.new found.new.items) }
         ensures moves { IfOk result (λ o. o ≡ None
             → MovesTo image.now self.new packed.now found.new.items t scratch.old.here) }
@@ -274,7 +268,8 @@ impl Parts {
     ) -> Result<Option<Bound>, AllocError>
         requires number { t ≡ suc k }
         requires within { IsWithin self.old packed.now }
-        requires stands { thread_at self.old.locals.items packed.now.parts.items t ≡ Some scratch.old.here }
+        requires stands { thread_at self.old.locals.items packed.now.parts.items t
+            ≡ Some scratch.old.here }
         requires asks { next_step_of (look image.now t scratch.old.here) ≡ step.Shared request }
         ensures more { OnOk result (IsMore self.old found.old.items self.new found.new.items) }
         ensures moves { IfOk result (λ o. o ≡ None

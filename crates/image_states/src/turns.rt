@@ -1,18 +1,17 @@
-ghost use Rattle.std.specs.Prelude.{◌≡◌, ◌≤◌, ◌<◌, ◌+◌, ℕ, suc, None, Some, IfOk, IfSome, OnOk, MatchOption, length, IfNone, ◌^◌, All, true, ◌∷◌, []};
-ghost use Rattle.machine.specs.Runs.{Own};
-ghost use Rattle.proof_pieces.specs.WholeCalls.{IsWholeStep};
-ghost use Rattle.image_states.specs.Packed.{asleep_at, thread_at, unpacked, IsGrown, IsPrefix, IsWithin};
+ghost use Rattle.std.specs.Prelude.{◌≡◌, ◌≤◌, ◌<◌, ◌+◌, suc, None, Some, IfOk, IfSome, OnOk, length, IfNone, ◌^◌, All, true, ◌∷◌, []};
+ghost use Rattle.image_states.specs.Packed.{asleep_at, thread_at, IsGrown, IsPrefix, IsWithin};
 ghost use Rattle.buckets.specs.Places.{with_place};
 ghost use Rattle.isa.specs.Programs.{Program};
 ghost use Rattle.image_states.specs.Choosing.{HasKilled};
-ghost use Rattle.image_states.specs.Nexts.{may_of, AreNexts, IsDone, IsMore, KillDone, MovesTo, OwnDone, Reaches, StrayDone};
+ghost use Rattle.image_states.specs.Nexts.{may_of, AreNexts, IsDone, IsMore, KillDone, MovesTo, OwnDone, StrayDone};
 
 use crate::bound::Bound;
-use crate::next::{Doing, Next};
+use crate::next::{Doing, Next, push_next};
 use crate::outside::Outside;
 use crate::packed::{Packed, placed};
 use crate::parts::Parts;
 use crate::running::Scratch;
+use crate::waking::push_placed;
 use isa::Image;
 use locals::NextStep;
 use std::alloc::{AllocError, Global};
@@ -34,11 +33,7 @@ fn push_killed(
     };
     let mut state = placed;
     state.killed = killed;
-    found.push(Next {
-        state,
-        thread: t,
-        doing: Doing::Kill,
-    })?;
+    push_next(found, state, t, Doing::Kill)?;
     Ok(None)
 }
 
@@ -56,7 +51,8 @@ impl Parts {
     ) -> Result<Option<Bound>, AllocError>
         requires number { t ≡ suc k }
         requires within { IsWithin self.old packed.now }
-        requires stands { thread_at self.old.locals.items packed.now.parts.items t ≡ Some scratch.old.here }
+        requires stands { thread_at self.old.locals.items packed.now.parts.items t
+            ≡ Some scratch.old.here }
         ensures more { OnOk result (IsMore self.old found.old.items self.new found.new.items) }
         ensures moves { IfOk result (λ o. o ≡ None
             → MovesTo image.now self.new packed.now found.new.items t scratch.old.here) }
@@ -132,15 +128,7 @@ impl Parts {
         if packed.place(k) == 0 {
             return Ok(None);
         }
-        let Some(state) = placed(alloc, packed, &[t], 0)? else {
-            return Ok(Some(Bound::Foreign));
-        };
-        found.push(Next {
-            state,
-            thread: t,
-            doing: Doing::Stray,
-        })?;
-        Ok(None)
+        push_placed(alloc, packed, &[t], 0, t, Doing::Stray, found)
     }
 
     // The kill by which it begins to die.
@@ -293,8 +281,8 @@ impl Parts {
     }
 }
 
-// The number of the thread behind so many others.
-pub(crate) fn thread_number(k: usize) -> Option<u32>
+/// The number of the thread behind so many others; None where there is no such number.
+pub fn thread_number(k: usize) -> Option<u32>
     ensures some { IfSome result (λ t. t ≡ suc k) }
     ensures none { IfNone result (2 ^ 32 ≤ k + 1) }
 {

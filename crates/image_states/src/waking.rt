@@ -1,11 +1,11 @@
-ghost use Rattle.std.specs.Prelude.{◌≡◌, ◌≤◌, ◌<◌, ℕ, List, None, Some, IfOk, IfSome, OnOk, length, true, Contains};
-ghost use Rattle.buckets.specs.Places.{names, with_place};
+ghost use Rattle.std.specs.Prelude.{◌≡◌, ◌<◌, ℕ, List, None, Some, IfOk, OnOk, length, Contains};
+ghost use Rattle.buckets.specs.Places.{with_place};
 ghost use Rattle.image_states.specs.Packed.{IsPrefix, asleep_at, place_of};
 ghost use Rattle.image_states.specs.Choosing.{AreChosen, AreSleepers, HasPlaced, chosen_of, lists_in};
 
 use crate::bound::Bound;
 use crate::each_set::sets;
-use crate::next::{Doing, Next};
+use crate::next::{Doing, Next, push_next};
 use crate::packed::{Packed, placed};
 use std::alloc::{AllocError, Global};
 
@@ -20,13 +20,14 @@ pub(crate) fn chosen_of(most: u32, sleepers: usize) -> usize
     }
 }
 
-// The state with these threads at a place comes next.
+// The state with these threads at a place comes next, by a step of this kind.
 pub(crate) fn push_placed(
     alloc: Global,
     packed: &Packed,
     chosen: &[u32],
     to: u32,
     thread: u32,
+    doing: Doing,
     found: &mut Vec<Next>,
 ) -> Result<Option<Bound>, AllocError>
     ensures longer { OnOk result (IsPrefix found.old.items found.new.items) }
@@ -36,11 +37,7 @@ pub(crate) fn push_placed(
     let Some(state) = placed(alloc, packed, chosen, to)? else {
         return Ok(Some(Bound::Foreign));
     };
-    found.push(Next {
-        state,
-        thread,
-        doing: Doing::Own,
-    })?;
+    push_next(found, state, thread, doing)?;
     Ok(None)
 }
 
@@ -55,13 +52,14 @@ fn push_set(
     found: &mut Vec<Next>,
 ) -> Result<Option<Bound>, AllocError>
     ensures longer { OnOk result (IsPrefix found.old.items found.new.items) }
-    ensures placed { IfOk result (λ o. o ≡ None → length chosen.now ≡ size → HasPlaced packed.now found.new.items
+    ensures placed { IfOk result (λ o. o ≡ None → length chosen.now ≡ size
+        → HasPlaced packed.now found.new.items
         (with_place (asleep_at packed.now.places.items) chosen.now (place_of to))) }
 {
     if chosen.len() != size {
         return Ok(None);
     }
-    push_placed(alloc, packed, chosen, to, thread, found)
+    push_placed(alloc, packed, chosen, to, thread, Doing::Own, found)
 }
 
 // The state with each of these sets of threads that has this size at a place comes next.
@@ -75,7 +73,8 @@ fn push_sets(
     found: &mut Vec<Next>,
 ) -> Result<Option<Bound>, AllocError>
     ensures longer { OnOk result (IsPrefix found.old.items found.new.items) }
-    ensures each { IfOk result (λ o. o ≡ None → (chosen : List ℕ) → Contains (lists_in lists.now) chosen
+    ensures each { IfOk result (λ o. o ≡ None → (chosen : List ℕ)
+        → Contains (lists_in lists.now) chosen
         → length chosen ≡ size → HasPlaced packed.now found.new.items
         (with_place (asleep_at packed.now.places.items) chosen (place_of to))) }
 {
@@ -99,7 +98,8 @@ pub(crate) fn push_choices(
     found: &mut Vec<Next>,
 ) -> Result<Option<Bound>, AllocError>
     ensures longer { OnOk result (IsPrefix found.old.items found.new.items) }
-    ensures each { IfOk result (λ o. o ≡ None → (place : ℕ) → AreSleepers packed.now.places.items place sleepers.now
+    ensures each { IfOk result (λ o. o ≡ None → (place : ℕ)
+        → AreSleepers packed.now.places.items place sleepers.now
         → (chosen : List ℕ) → AreChosen packed.now.places.items place size chosen
         → HasPlaced packed.now found.new.items
         (with_place (asleep_at packed.now.places.items) chosen (place_of to))) }

@@ -1,5 +1,5 @@
 -- A thread takes its next step with whole calls in pieces, where no other is within a call.
-use Rattle.std.proofs.Common.{◌≡◌, ◌≢◌, ◌<◌, ◌∙◌, ◌+◌, ◌%◌, ◌==◌, ◌⊎◌, ℕ, zero, suc, Bool, true, false, List, [], ◌∷◌}
+use Rattle.std.proofs.Common.{◌≡◌, ◌≢◌, ◌∙◌, ◌+◌, ◌%◌, ◌==◌, ℕ, Bool, true, false, List, [], ◌∷◌}
 use Rattle.std.proofs.Common.{Option, Some, None, inl, inr, refl, sym, ap, arith, length, subst}
 use Rattle.std.specs.Prelude.{if◌then◌else◌, nat_le}
 use Rattle.std.proofs.lemmas.Bool.{cases_eq, eq-eqb, ne_eqb}
@@ -13,6 +13,7 @@ use Rattle.futexcalls.specs.declared.pieces.FutexCall.TheVariants.{Wait, Wake, R
 use Rattle.futexcalls.specs.declared.pieces.FutexPhase.{FutexPhase}
 use Rattle.futexcalls.specs.declared.pieces.FutexPhase.TheVariants.{First, Second, Compare, Act}
 use Rattle.futexcalls.specs.Pieces.{Acts, RequeuesCompared, after_lock, buckets_of, greater, lesser, takes_at, LiesIn}
+use Rattle.robustexit.specs.ExitRules.{exit_of}
 use Rattle.robustexit.specs.declared.phase.ExitPhase.{ExitPhase}
 use Rattle.locals.specs.Threads.{Thread, Exits}
 use Rattle.locals.specs.Looks.{Request, AskLoad, AskStore, AskSwap, AskCompareSwap, AskOr, AskAdd, AskFork, AskPrint}
@@ -47,7 +48,7 @@ pub record Over (p : Program) (u : ℕ) (y : Thread) (s : PieceState) : Type 0 w
   pub others : (v : ℕ) → v ≢ u → after.phase v ≡ s.phase v
   pub made : after.base.made ≡ s.base.made
   pub woken : List ℕ
-  pub moves : MovesWhole s.base u woken (look p u y) after.base
+  pub moves : MovesWhole (exit_of p.version) s.base u woken (look p u y) after.base
 
 abbrev pub past_of : (p : Program) → (u : ℕ) → (y : Thread) → (s : PieceState) → Over p u y s → Past p u s
 past_of p u y s o = record {
@@ -70,7 +71,7 @@ pub record Finished (p : Program) (u : ℕ) (y : Thread) (s : PieceState) : Type
   pub right : IsHeldRight p after
   pub outside : IsOutside after
   pub woken : List ℕ
-  pub moves : MovesWhole s.base u woken (look p u y) after.base
+  pub moves : MovesWhole (exit_of p.version) s.base u woken (look p u y) after.base
 
 -- with these woken
 abbrev pub Finishes : Program → ℕ → Thread → PieceState → List ℕ → Type 0
@@ -105,7 +106,8 @@ module _ (p : Program) (u : ℕ) (y : Thread) (s : PieceState) (right : IsHeldRi
         right = t.1;
         outside = outside_on s u others;
         woken = [];
-        moves = subst (λ l. MovesWhole s.base u [] l (with_thread s.base u z)) (sym looks) (refl, refl);
+        moves = subst (λ l. MovesWhole (exit_of p.version) s.base u [] l (with_thread s.base u z)) (sym looks)
+            (refl, refl);
       }
 
   asks_plain : (request : Request) (go : ℕ → Thread) → look p u y ≡ Asks request go → call_of request ≡ None
@@ -119,13 +121,14 @@ module _ (p : Program) (u : ℕ) (y : Thread) (s : PieceState) (right : IsHeldRi
         right = t.1;
         outside = outside_on s u others;
         woken = [];
-        moves = subst (λ l. MovesWhole s.base u [] l (with_thread h.mid u (go h.answer))) (sym looks)
-            (h.answer, h.mid, h.whole, refl);
+        moves = subst (λ l. MovesWhole (exit_of p.version) s.base u [] l (with_thread h.mid u (go h.answer)))
+            (sym looks) (h.answer, h.mid, h.whole, refl);
       }
 
   leaves : (phase : ExitPhase) → look p u y ≡ Leaves phase → IsFew s.base → Finished p u y s
   leaves phase looks few =
-      let h = left s.base.size u (shared_of s.base) few.most few.asleep phase (leaves_on p u y phase looks) in
+      let h = left (exit_of p.version) s.base.size u (shared_of s.base) few.most few.asleep phase
+      (leaves_on p u y phase looks) in
       let t = taken p s (goes_outside s u (with_shared s.base h.after) [] (Exits h.next)) u y h.woken right stands awake
       (IsExit phase h.after h.next looks (outside u) h.step (λ a w. nobody_holds p s right outside _) refl) in
       record {
@@ -134,7 +137,8 @@ module _ (p : Program) (u : ℕ) (y : Thread) (s : PieceState) (right : IsHeldRi
         right = t.1;
         outside = outside_on s u others;
         woken = h.woken;
-        moves = subst (λ l. MovesWhole s.base u h.woken l (with_thread (with_shared s.base h.after) u (Exits h.next)))
+        moves = subst (λ l. MovesWhole (exit_of p.version) s.base u h.woken l
+            (with_thread (with_shared s.base h.after) u (Exits h.next)))
             (sym looks) (h.after, h.next, h.step, refl);
       }
 
@@ -211,12 +215,13 @@ module _ (p : Program) (u : ℕ) (y : Thread) (s : PieceState) (right : IsHeldRi
             others = λ v ne. put_other mid.phase u First v ne ∙ put_other s.phase u Act v ne;
             made = refl;
             woken = [];
-            moves = subst (λ l. MovesWhole s.base u [] l (with_thread (with_sleepers s.base after) u (go 0))) (sym looks) (
-              0,
-              with_sleepers s.base after,
-              (lies, (refl, inl (after, record { equal = equal; joins = refl }, refl, refl))),
-              refl,
-            );
+            moves = subst (λ l. MovesWhole (exit_of p.version) s.base u [] l
+                (with_thread (with_sleepers s.base after) u (go 0))) (sym looks) (
+                  0,
+                  with_sleepers s.base after,
+                  (lies, (refl, inl (after, record { equal = equal; joins = refl }, refl, refl))),
+                  refl,
+                );
           }
 
       again : s.base.word a ≢ expected → Over p u y s
@@ -231,7 +236,7 @@ module _ (p : Program) (u : ℕ) (y : Thread) (s : PieceState) (right : IsHeldRi
             others = λ v ne. put_other s.phase u First v ne;
             made = refl;
             woken = [];
-            moves = subst (λ l. MovesWhole s.base u [] l (with_thread s.base u (go 1))) (sym looks)
+            moves = subst (λ l. MovesWhole (exit_of p.version) s.base u [] l (with_thread s.base u (go 1))) (sym looks)
                 (1, s.base, (lies, (refl, inr (differs, refl, refl))), refl);
           }
 
@@ -248,7 +253,7 @@ module _ (p : Program) (u : ℕ) (y : Thread) (s : PieceState) (right : IsHeldRi
           others = λ v ne. put_other s.phase u First v ne;
           made = refl;
           woken = woken;
-          moves = subst (λ l. MovesWhole s.base u woken l last.base) (sym looks) (
+          moves = subst (λ l. MovesWhole (exit_of p.version) s.base u woken l last.base) (sym looks) (
             length woken + 0,
             with_sleepers s.base after,
             (lies, after, record { choice = choice; awake = refl }, omega arith, refl),
@@ -305,7 +310,7 @@ module _ (p : Program) (u : ℕ) (y : Thread) (s : PieceState) (right : IsHeldRi
             others = λ v ne. put_other mid.phase u First v ne ∙ put_other s.phase u Act v ne;
             made = refl;
             woken = woken;
-            moves = subst (λ l. MovesWhole s.base u woken l last.base) (sym looks) (
+            moves = subst (λ l. MovesWhole (exit_of p.version) s.base u woken l last.base) (sym looks) (
               length woken + length moved,
               with_sleepers s.base (with_place between moved (Some b)),
               (lies, there, inl (moved, with_place between moved (Some b), compared, refl, refl)),
@@ -337,7 +342,8 @@ module _ (p : Program) (u : ℕ) (y : Thread) (s : PieceState) (right : IsHeldRi
             others = λ v ne. put_other s.phase u First v ne;
             made = refl;
             woken = [];
-            moves = subst (λ l. MovesWhole s.base u [] l (with_thread s.base u (go 4294967295))) (sym looks)
+            moves = subst (λ l. MovesWhole (exit_of p.version) s.base u [] l (with_thread s.base u (go 4294967295)))
+                (sym looks)
                 (4294967295, s.base, (lies, there, inr (differs, refl, refl, refl)), refl);
           }
 
@@ -382,7 +388,7 @@ behind_comes p u y f s mid run base alone o = record {
     | inr ne ↦ o.others v ne ∙ alone.1 v ne
   ];
   woken = o.woken;
-  moves = subst (λ (b : State). MovesWhole b u o.woken (look p u y) o.after.base) base o.moves;
+  moves = subst (λ (b : State). MovesWhole (exit_of p.version) b u o.woken (look p u y) o.after.base) base o.moves;
 }
 
 module _ (p : Program) (u : ℕ) (y : Thread) (s : PieceState) (right : IsHeldRight p s) (outside : IsOutside s)

@@ -1,14 +1,13 @@
 -- Who sleeps in each state of a closed set sleeps for good.
-use Rattle.std.proofs.Common.{◌≡◌, ◌≢◌, ◌∙◌, ◌⊎◌, ℕ, zero, suc, Option, Some, None, List, [], ◌∷◌, Contains}
+use Rattle.std.proofs.Common.{◌≡◌, ◌≢◌, ◌∙◌, ℕ, Option, Some, None, List, [], ◌∷◌, Contains}
 use Rattle.std.proofs.Common.{inl, inr, refl, sym, ap, subst}
-use Rattle.words.specs.Updates.{put}
 use Rattle.words.proofs.Updates.{put_other}
 use Rattle.isa.specs.Programs.{Program}
 use Rattle.futexcalls.specs.declared.pieces.FutexPhase.TheVariants.{First, Act}
 use Rattle.futexcalls.specs.Pieces.{after_lock}
 use Rattle.locals.specs.Threads.{Thread}
 use Rattle.machine.specs.States.{State}
-use Rattle.machine.specs.Runs.{Doing, Own, Step}
+use Rattle.machine.specs.Runs.{Own, Step}
 use Rattle.machine.specs.PieceStates.{PieceState, IsHeldRight, called, committed_at}
 use Rattle.machine.specs.PieceSteps.{GoesByPieces, IsAct, IsAgain, IsEqual, IsExit, IsLocal, IsLock, IsOwnPiece, IsPieceDone}
 use Rattle.machine.specs.PieceSteps.{IsPieceStep, IsPlain, Piece}

@@ -1,6 +1,6 @@
 -- A step that may be can be taken: what is asked for can be served, and an exit goes on.
-use Rattle.std.proofs.Common.{◌≡◌, ◌≢◌, ◌<◌, ◌≤◌, ◌∙◌, ◌+◌, ◌^◌, ◌++◌, ◌⊎◌, ℕ, zero, suc, Bool, true, false, List, [], ◌∷◌}
-use Rattle.std.proofs.Common.{Option, Some, None, inl, inr, refl, sym, ap, arith, length, subst}
+use Rattle.std.proofs.Common.{◌≡◌, ◌≢◌, ◌<◌, ◌≤◌, ◌+◌, ◌^◌, ◌++◌, ◌⊎◌, ℕ, suc, Bool, true, false, List, [], ◌∷◌}
+use Rattle.std.proofs.Common.{Some, None, inl, inr, refl, arith}
 use Rattle.std.specs.Prelude.{if◌then◌else◌, ◌%◌, ◌==◌}
 use Rattle.std.specs.Int.Bits.{bit_or}
 use Rattle.std.proofs.lemmas.Bool.{cases_eq, cases_lt}
@@ -11,11 +11,13 @@ use Rattle.words.specs.Signed.{signed_of}
 use Rattle.words.specs.Updates.{put}
 use Rattle.isa.specs.Programs.{Program}
 use Rattle.buckets.specs.Places.{with_place}
-use Rattle.robustexit.specs.RobustExit.{Shared, ExitStep, EntryStep, PendingStep, IsPending, IsForeign, IsOwned, IsEntry}
-use Rattle.robustexit.specs.RobustExit.{NoEntry, Abandons}
+use Rattle.robustexit.specs.ExitRules.{wakes}
+use Rattle.robustexit.specs.RobustExit.{Shared, ExitStep, EntryStep, PendingStep, IsPending, IsForeign, IsPassed}
+use Rattle.robustexit.specs.RobustExit.{IsEntry, IsOwned, NoEntry, Abandons}
 use Rattle.robustexit.specs.Phases.{next_entry}
 use Rattle.robustexit.specs.declared.phase.ExitPhase.{ExitPhase}
 use Rattle.robustexit.specs.declared.phase.ExitPhase.TheVariants.{Entry, Pending, ClearId, LastWake, Ended}
+use Rattle.robustexit.specs.declared.rule.ExitRule.{ExitRule}
 use Rattle.locals.specs.Threads.{Thread, Runs, Dies, Exits}
 use Rattle.locals.specs.Looks.{Request, AskLoad, AskStore, AskSwap, AskCompareSwap, AskOr, AskAdd, AskFork, AskPrint}
 use Rattle.locals.specs.Looks.{AskWait, AskWake, AskRequeue, AskReturn, AskReturnValue, AskFault, Look, look}
@@ -140,12 +142,12 @@ served t (AskWait a expected) s own h few = absurd cc
 served t (AskWake a n) s own h few = absurd cc
 served t (AskRequeue a b n m expected) s own h few = absurd cc
 
--- a step of an exit
-pub record Left (size t : ℕ) (phase : ExitPhase) (before : Shared) : Type 0 where
+-- a step of an exit by this rule
+pub record Left (rule : ExitRule) (size t : ℕ) (phase : ExitPhase) (before : Shared) : Type 0 where
   pub woken : List ℕ
   pub after : Shared
   pub next : ExitPhase
-  pub step : ExitStep size t phase before woken after next
+  pub step : ExitStep rule size t phase before woken after next
 
 is_entry_or : (size e : ℕ) → IsEntry size e ⊎ (IsEntry size e → ⊥)
 is_entry_or size e = elim (cases_lt 0 e) [
@@ -159,7 +161,7 @@ is_entry_or size e = elim (cases_lt 0 e) [
   ]
 ]
 
-module _ (size t : ℕ) (b : Shared) (k : ℕ) (few : (u a : ℕ) → b.asleep u ≡ Some a → u < k) where
+module _ (rule : ExitRule) (size t : ℕ) (b : Shared) (k : ℕ) (few : (u a : ℕ) → b.asleep u ≡ Some a → u < k) where
   -- whom one wakes on a word
   abbrev woken_at : ℕ → ℕ → List ℕ
   woken_at a n = pick b.asleep a k n
@@ -194,7 +196,21 @@ module _ (size t : ℕ) (b : Shared) (k : ℕ) (few : (u a : ℕ) → b.asleep u
     ]
   ]
 
-  at_pending : (e : ℕ) → (woken : List ℕ) × (after : Shared) × PendingStep size t e b woken after
+  -- at a lock that the thread doesn't own
+  at_foreign : (e : ℕ) → IsEntry size e → owner_of (b.word (e + 1)) ≢ t
+      → (woken : List ℕ) × (after : Shared) × PendingStep rule size t e b woken after
+  at_foreign e is other = by_rule (wakes rule (b.word (e + 1))) refl
+    where
+      by_rule : (so : Bool) → wakes rule (b.word (e + 1)) ≡ so
+          → (woken : List ℕ) × (after : Shared) × PendingStep rule size t e b woken after
+      by_rule true so = (
+        woken_at (e + 1) 1,
+        awoken (e + 1),
+        IsForeign is other so (record { same = refl; wakes = wakes_some b.asleep (e + 1) k 1 few }),
+      )
+      by_rule false so = ([], b, IsPassed is other so (record { nobody = refl; same = refl }))
+
+  at_pending : (e : ℕ) → (woken : List ℕ) × (after : Shared) × PendingStep rule size t e b woken after
   at_pending e = elim (is_entry_or size e) [
     | inr none ↦ ([], b, NoEntry none (record { nobody = refl; same = refl }))
     | inl is ↦ elim (cases_eq (owner_of (b.word (e + 1))) t) [
@@ -203,15 +219,11 @@ module _ (size t : ℕ) (b : Shared) (k : ℕ) (few : (u a : ℕ) → b.asleep u
         abandoned (e + 1),
         IsOwned is (abandons (e + 1) q),
       )
-      | inr other ↦ (
-        woken_at (e + 1) 1,
-        awoken (e + 1),
-        IsForeign is other (record { same = refl; wakes = wakes_some b.asleep (e + 1) k 1 few }),
-      )
+      | inr other ↦ at_foreign e is other
     ]
   ]
 
-  pub left : (phase : ExitPhase) → phase ≢ Ended → Left size t phase b
+  pub left : (phase : ExitPhase) → phase ≢ Ended → Left rule size t phase b
   left (Entry e seen) on = elim (is_entry_or size e.0) [
     | inl is ↦ let h = at_entry e.0 in
         record {

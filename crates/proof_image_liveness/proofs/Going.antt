@@ -1,5 +1,5 @@
 -- Runs of the threads' own steps in pieces, and where no thread is within a call.
-use Rattle.std.proofs.Common.{◌≡◌, ◌≢◌, ◌∙◌, ◌++◌, ℕ, zero, suc, Bool, true, false, List, [], ◌∷◌, Option, Some, None}
+use Rattle.std.proofs.Common.{◌≡◌, ◌≢◌, ◌∙◌, ◌++◌, ℕ, zero, suc, true, false, List, [], ◌∷◌, Option, Some, None}
 use Rattle.std.proofs.Common.{refl, sym, ap, subst}
 use Rattle.std.specs.Prelude.{ℤ}
 use Rattle.words.specs.Updates.{put}
@@ -7,12 +7,11 @@ use Rattle.words.proofs.Updates.{at_put, put_itself, put_same}
 use Rattle.isa.specs.Programs.{Program}
 use Rattle.buckets.specs.Places.{names}
 use Rattle.futexcalls.specs.declared.pieces.FutexPhase.{FutexPhase}
-use Rattle.futexcalls.specs.declared.pieces.FutexPhase.TheVariants.{First, Second, Compare, Act}
+use Rattle.futexcalls.specs.declared.pieces.FutexPhase.TheVariants.{First}
 use Rattle.futexcalls.specs.Pieces.{held_at}
-use Rattle.locals.specs.Threads.{Thread, is_dying}
+use Rattle.locals.specs.Threads.{Thread}
 use Rattle.locals.specs.Looks.{Look, Asks, Breaks, Goes, Leaves, Rests, look}
-use Rattle.locals.specs.Steps.{local_next, local_step}
-use Rattle.machine.specs.States.{State, with_thread}
+use Rattle.locals.specs.Steps.{local_next}
 use Rattle.machine.specs.Runs.{Step, Own, is_paused}
 use Rattle.machine.specs.PieceStates.{PieceState, IsHeldRight, called, committed, committed_at}
 use Rattle.machine.specs.PieceSteps.{GoesByPieces, IsLocal, IsPieceStep, Piece, goes_outside}

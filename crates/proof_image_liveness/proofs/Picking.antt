@@ -1,7 +1,7 @@
 -- Some choice of sleepers, where only threads before a number sleep.
 use Rattle.std.proofs.Common.{◌≡◌, ◌<◌, ◌≤◌, ◌∙◌, ℕ, zero, suc, Bool, true, false, List, [], ◌∷◌, Option, Some, None, ◌==◌}
 use Rattle.std.proofs.Common.{inl, inr, refl, sym, ap, arith, length, eqb}
-use Rattle.std.specs.Prelude.{if◌then◌else◌, nat_eq, ◌⊎◌, ◌||◌}
+use Rattle.std.specs.Prelude.{if◌then◌else◌, nat_eq}
 use Rattle.std.specs.List.{IsDistinct, AllByRecursion}
 use Rattle.std.proofs.lemmas.Bool.{eqb-true, eq-eqb, cases_eq, or_cases, or_left, or_right}
 use Rattle.buckets.specs.Places.{names, with_place}

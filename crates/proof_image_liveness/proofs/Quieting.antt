@@ -1,7 +1,8 @@
 -- From each state a run of the threads' own steps leads to where no thread is within a call; and so whoever sleeps is woken.
-use Rattle.std.proofs.Common.{◌≡◌, ◌≢◌, ◌<◌, ◌≤◌, ◌∙◌, ◌+◌, ◌++◌, ◌%◌, ◌⊎◌, ℕ, zero, suc, Bool, true, false, List, [], ◌∷◌}
-use Rattle.std.proofs.Common.{Option, Some, None, Contains, inl, inr, refl, sym, ap, arith, subst, length}
-use Rattle.std.proofs.lemmas.Bool.{cases_eq, cases_lt}
+use Rattle.std.proofs.Common.{◌≡◌, ◌≢◌, ◌<◌, ◌≤◌, ◌∙◌, ◌+◌, ◌++◌, ◌%◌, ◌⊎◌, ℕ, zero, suc, true, List, [], ◌∷◌}
+use Rattle.std.proofs.Common.{Option, Some, None, Contains, inl, inr, refl, sym, ap, arith, subst}
+use Rattle.std.proofs.lemmas.Bool.{cases_eq}
+use Rattle.std.proofs.lemmas.Option.{same_Some}
 use Rattle.words.specs.Updates.{put}
 use Rattle.words.proofs.Updates.{put_other, put_same}
 use Rattle.isa.specs.Programs.{Program}
@@ -11,13 +12,12 @@ use Rattle.futexcalls.specs.declared.pieces.FutexCall.TheVariants.{Wait, Wake, R
 use Rattle.futexcalls.specs.declared.pieces.FutexPhase.{FutexPhase}
 use Rattle.futexcalls.specs.declared.pieces.FutexPhase.TheVariants.{First, Second, Compare, Act}
 use Rattle.futexcalls.specs.Pieces.{after_lock, greater, held_at, lesser, takes_at, IsPhase, LiesIn}
-use Rattle.locals.specs.Threads.{Thread}
+use Rattle.robustexit.specs.ExitRules.{exit_of}
 use Rattle.locals.specs.Looks.{Asks, look}
 use Rattle.machine.specs.States.{State}
 use Rattle.machine.specs.Runs.{Step}
-use Rattle.machine.specs.PieceStates.{PieceState, IsHeldRight, IsWithin, called, opening_pieces, request_of}
+use Rattle.machine.specs.PieceStates.{PieceState, IsHeldRight, IsWithin, opening_pieces, request_of}
 use Rattle.machine.specs.PieceSteps.{BlocksAt, CanTakePiece, IsLock, PieceRun}
-use Rattle.proof_pieces.specs.Whole.{whole}
 use Rattle.proof_pieces.proofs.Calls.{called_is}
 use Rattle.proof_pieces.proofs.Rests.{holders_go_on, sleeps_so}
 use Rattle.proof_image_search.specs.Searching.{AreFrom, AreNamed, IsComplete, IsNamed, Kept, May, kills_by, kills_in}
@@ -82,9 +82,6 @@ holds_some n Second (Wait a expected) there = absurd there
 holds_some n Second (Wake a wakes) there = absurd there
 holds_some n First call there = absurd there
 
-some_same : {A : Type 0} {x y : A} → Some x ≡ Some y → x ≡ y
-some_same e = cc
-
 module _ (p : Program) (s : PieceState) (right : IsHeldRight p s) where
   within_up : (k : ℕ) → ((v : ℕ) → v ≤ k → s.phase v ≡ First) ⊎ ((u : ℕ) × IsWithin p s u)
   within_up zero = elim (right.apart zero) [
@@ -124,7 +121,8 @@ module _ (p : Program) (s : PieceState) (right : IsHeldRight p s) where
       (called_is p u w.thread w.call w.go (s.base.thread u) w.stands w.asks) ∙ r.1))
 
   -- it takes its call to the end
-  module _ (t : ℕ) (w : IsWithin p s t) (free : BlocksAt s t (Asks (request_of w.call) w.go) → ⊥) (few : IsFew s.base) where
+  module _ (t : ℕ) (w : IsWithin p s t)
+      (free : BlocksAt (exit_of p.version) s t (Asks (request_of w.call) w.go) → ⊥) (few : IsFew s.base) where
     to_end : (f : FutexPhase) (call : FutexCall) → s.phase t ≡ f → w.call ≡ call → IsPhase s.buckets f call → Past p t s
     to_end First call at is there = absurd there
     to_end Act call at is there = acts_on p t w.thread s right w.stands w.awake w.call w.go w.asks at few
@@ -181,7 +179,8 @@ module _ (p : Program) (s : PieceState) (right : IsHeldRight p s) where
         by_holder : (o : Option ℕ) → s.holder g ≡ o → Past p t s
         by_holder None none = behind (taken p s mid t w.thread [] right w.stands w.awake
             (IsLock call w.go g asks lies takes none refl refl))
-        by_holder (Some v) held = absurd (free (subst (λ (c : FutexCall). BlocksAt s t (Asks (request_of c) w.go)) (sym is)
+        by_holder (Some v) held = absurd (free (subst
+            (λ (c : FutexCall). BlocksAt (exit_of p.version) s t (Asks (request_of c) w.go)) (sym is)
             (lies, g, v, takes, held)))
 
     pub past : Past p t s
@@ -199,9 +198,9 @@ module _ (p : Program) (Holds : PieceState → Type 0)
       → (t : ℕ) × (q : Past p t s) × (all_inside s.phase s.base.made ≡ suc (all_inside q.after.phase s.base.made))
   one_past s right holds u w =
       let g = some_goes_on p s right u w in
-      let same : g.2.thread ≡ g.1.thread = some_same (sym g.2.stands ∙ g.1.stands) in
-      let free : BlocksAt s g.0 (Asks (request_of g.1.call) g.1.go) → ⊥ = λ blocks. g.2.free
-      (subst (BlocksAt s g.0) (sym (ap (look p g.0) same ∙ g.1.asks)) blocks) in
+      let same : g.2.thread ≡ g.1.thread = same_Some _ _ (sym g.2.stands ∙ g.1.stands) in
+      let free : BlocksAt (exit_of p.version) s g.0 (Asks (request_of g.1.call) g.1.go) → ⊥ = λ blocks. g.2.free
+      (subst (BlocksAt (exit_of p.version) s g.0) (sym (ap (look p g.0) same ∙ g.1.asks)) blocks) in
       let q = past p s right g.0 g.1 free (few s right holds) in
       let less : g.0 < s.base.made + 1 = right.few g.0 g.1.thread g.1.stands in (
         g.0,

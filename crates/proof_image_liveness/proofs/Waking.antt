@@ -1,21 +1,21 @@
 -- From a state outside calls, of which a live one is further on, a run of the threads' own steps wakes its thread.
-use Rattle.std.proofs.Common.{◌≡◌, ◌<◌, ◌∙◌, ◌⊎◌, ℕ, zero, suc, Option, Some, None, List, [], ◌∷◌, Contains, true, false}
-use Rattle.std.proofs.Common.{inl, inr, refl, sym, ap, arith, subst, length}
+use Rattle.std.proofs.Common.{◌≡◌, ◌<◌, ◌⊎◌, ℕ, zero, suc, Option, Some, None, List, [], ◌∷◌, Contains}
+use Rattle.std.proofs.Common.{inl, inr, refl, sym, arith, subst}
 use Rattle.std.specs.Prelude.{ℤ}
 use Rattle.isa.specs.Programs.{Program}
 use Rattle.futexcalls.specs.FutexCalls.{IsChoice}
 use Rattle.locals.specs.Threads.{Thread}
 use Rattle.locals.specs.Looks.{look}
 use Rattle.machine.specs.States.{State}
-use Rattle.machine.specs.Runs.{CanStep, IsBroken, NextIsBroken, has_ended}
+use Rattle.machine.specs.Runs.{IsBroken, NextIsBroken}
 use Rattle.machine.specs.PieceStates.{PieceState, IsHeldRight}
 use Rattle.proof_pieces.specs.WholeCalls.{IsWholeStep}
-use Rattle.proof_image_search.specs.Searching.{IsCovered, Kept}
+use Rattle.proof_image_search.specs.Searching.{Kept}
 use Rattle.proof_image_search.proofs.Ahead.{Ahead, AllAhead, ahead, stands_back}
 use Rattle.proof_image_search.proofs.Closing.{Reached, broken_on}
 use Rattle.proof_image_liveness.specs.Sleeping.{AreLive, IsFew, IsLive, IsWoken, LeadsOn, LeadsOnBy}
-use Rattle.proof_image_liveness.proofs.Calling.{Finished, finish, wake_so}
-use Rattle.proof_image_liveness.proofs.Going.{IsOutside, OwnRun, Stood, no_run, run_up, then_run}
+use Rattle.proof_image_liveness.proofs.Calling.{finish, wake_so}
+use Rattle.proof_image_liveness.proofs.Going.{IsOutside, OwnRun, Stood, run_up, then_run}
 use Rattle.proof_image_liveness.proofs.Landing.{landed}
 
 -- a run leads to where one of these is further on

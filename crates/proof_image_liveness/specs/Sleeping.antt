@@ -1,5 +1,5 @@
 -- Threads that sleep for good, and states from which a thread is woken.
-use Rattle.std.specs.Prelude.{ℕ, suc, ◌≡◌, ◌<◌, ◌≤◌, ◌⊎◌, ⊤, Option, Some, None, List, [], ◌∷◌, Contains}
+use Rattle.std.specs.Prelude.{ℕ, ◌≡◌, ◌<◌, ◌≤◌, ◌⊎◌, ⊤, Some, None, List, [], ◌∷◌, Contains}
 use Rattle.isa.specs.Programs.{Program}
 use Rattle.futexcalls.specs.FutexCalls.{IsChoice}
 use Rattle.locals.specs.Threads.{Thread}

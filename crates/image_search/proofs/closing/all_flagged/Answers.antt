@@ -1,4 +1,4 @@
-use Rattle.std.proofs.Common.{◌<◌, arith, below_more, suc}
+use Rattle.std.proofs.Common.{arith, below_more, suc}
 use Rattle.image_search.specs.Living.{HoldsAt, OwnLeads}
 use Rattle.image_search.proofs.Flagging.{leads_still, still_none, still_twice}
 use Rattle.image_search.proofs.closing.all_flagged.Goals as goal

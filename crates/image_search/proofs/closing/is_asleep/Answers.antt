@@ -1,5 +1,4 @@
-use Rattle.std.proofs.Common.{◌≡◌, ◌∙◌, Some, ap, length, refl, slice_get, subst, suc, sym}
-use Rattle.std.proofs.lemmas.Option.{slice_get_read}
+use Rattle.std.proofs.Common.{◌≡◌, ◌∙◌, Some, ap, slice_get, suc, sym}
 use Rattle.image_states.specs.Packed.{place_of}
 use Rattle.image_search.specs.Living.{SleepsAt}
 use Rattle.image_search.proofs.Flagging.{holds_at, place_some}
@@ -9,10 +8,7 @@ pub returns-in-Some : goal.returns-in-Some
 returns-in-Some c = λ e p.
     let kept = c.args.kept.now in
     let x = c.in-Some.packed.now in
-    let here : slice_get kept.states.items c.args.place ≡ Some x =
-    subst (λ xs. slice_get xs c.args.place ≡ Some x) c.deref.ensures.value
-    (slice_get_read c.deref.result.now (length c.deref.result.now) c.args.place x refl c.in-Some.ensures.lookup.3.0
-    c.in-Some.ensures.lookup.1) in
+    let here : slice_get kept.states.items c.args.place ≡ Some x = rw c.in-Some.is at c.state.ensures in
     let some = place_some c.place.result e in
     holds_at p kept c.args.place x (SleepsAt (suc c.args.k)) here
     (some.0, ap place_of (sym c.place.ensures) ∙ some.1)

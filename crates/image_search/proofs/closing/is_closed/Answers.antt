@@ -1,4 +1,4 @@
-use Rattle.std.proofs.Common.{◌≡◌, ◌<◌, Some, arith, below_more, slice_get, suc, true}
+use Rattle.std.proofs.Common.{◌≡◌, Some, arith, below_more, slice_get, suc, true}
 use Rattle.std.proofs.lemmas.Option.{slice_get_within}
 use Rattle.image_search.specs.Living.{HoldsAt, IsClosed}
 use Rattle.image_search.proofs.Closed.{are_asleep}

@@ -34,7 +34,7 @@ returns-clause-leads c = λ e.
     subst (λ xs. (x : PackedOf) × (slice_get xs c.args.place ≡ Some x) × OwnDone p mid x found c.in-Some.t)
     c.as_slice.ensures.value
     (c.in_ok-why.ensures.done (is_none c.in_ok-why.why c.is_some.result c.is_some.ensures c.if-is_some.false)) in
-    subst (λ u. HoldsAt p kept' c.args.place (OwnLeads p kept' c.args.flags.now u)) c.in-Some.ensures
+    subst (λ u. HoldsAt p kept' c.args.place (OwnLeads p kept' c.args.flags.now u)) c.in-Some.ensures.some
     (own_leads p kept' c.args.flags.now c.args.place c.in-Some.t at.0 found at.1 at.2
     (subst (All (λ (next : NextOf). IsFlagged kept' c.args.flags.now next.state)) c.as_slice-2.ensures.value
     (c.has_all_flagged-all.ensures e)))

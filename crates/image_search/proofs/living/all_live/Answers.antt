@@ -1,5 +1,5 @@
 use Rattle.std.proofs.Common.{◌≡◌, ◌≤◌, All, arith, length, subst, suc, true}
-use Rattle.image_search.proofs.Flagging.{all_wakened, known_none, same_count}
+use Rattle.image_search.proofs.Flagging.{all_wakened, known_none}
 use Rattle.image_search.proofs.living.all_live.Goals as goal
 
 pub mark_on-requires-clause-known : goal.mark_on-requires-clause-known

@@ -1,4 +1,4 @@
-use Rattle.std.proofs.Common.{◌<◌, arith, below_more, suc}
+use Rattle.std.proofs.Common.{arith, below_more, suc}
 use Rattle.image_search.specs.Living.{AllWakened}
 use Rattle.image_search.proofs.Flagging.{made_still, still_none, still_twice, wakened_still}
 use Rattle.image_search.proofs.living.all_live_for.Goals as goal

@@ -1,4 +1,4 @@
-use Rattle.std.proofs.Common.{◌≤◌, All, length, subst, sym}
+use Rattle.std.proofs.Common.{◌≤◌, All, length, subst}
 use Rattle.image_states.specs.declared.packed.Packed.{Packed as PackedOf}
 use Rattle.image_search.specs.Living.{IsMade}
 use Rattle.image_search.proofs.Flagging.{are_wakened, made_still, within_still_too}

@@ -1,4 +1,4 @@
-use Rattle.std.proofs.Common.{◌≡◌, ◌≤◌, ◌∙◌, All, ap, arith, length, subst}
+use Rattle.std.proofs.Common.{◌≡◌, ◌∙◌, All, ap, arith, subst}
 use Rattle.std.proofs.lemmas.List.{take_all}
 use Rattle.words.specs.Versions.{most_of}
 use Rattle.image_search.specs.Living.{IsMade}

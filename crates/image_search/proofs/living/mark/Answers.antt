@@ -1,5 +1,4 @@
 use Rattle.std.proofs.Common.{suc}
-use Rattle.image_search.specs.Living.{HoldsAt, LivesAt}
 use Rattle.image_search.proofs.Flagging.{known_more, known_still, lives_slice}
 use Rattle.image_search.proofs.living.mark.Goals as goal
 

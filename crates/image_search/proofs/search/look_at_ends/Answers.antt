@@ -1,5 +1,4 @@
-use Rattle.std.proofs.Common.{◌≡◌, Some, inl, inr, length, refl, slice_get, subst}
-use Rattle.std.proofs.lemmas.Option.{slice_get_read}
+use Rattle.std.proofs.Common.{◌≡◌, Some, inl, inr, refl, slice_get}
 use Rattle.image_states.specs.Packed.{kept_of}
 use Rattle.image_search.proofs.Keeping.{state_at}
 use Rattle.image_search.proofs.Searched.{end_so, plain_so}
@@ -10,10 +9,7 @@ returns-then-not-is_any-clause-told c = λ e.
     let p = c.args.image.now in
     let kept = c.args.kept.now in
     let x = c.in-Some.packed.now in
-    let here : slice_get kept.states.items c.args.place ≡ Some x =
-    subst (λ xs. slice_get xs c.args.place ≡ Some x) c.deref.ensures.value
-    (slice_get_read c.deref.result.now (length c.deref.result.now) c.args.place x refl c.in-Some.ensures.lookup.3.0
-    c.in-Some.ensures.lookup.1) in
+    let here : slice_get kept.states.items c.args.place ≡ Some x = rw c.in-Some.is at c.state.ensures in
     let none = c.if-not-is_any.ensures in (
       kept_of p kept.parts x,
       state_at p kept c.args.place x here,
@@ -25,10 +21,7 @@ returns-then-not-tries-clause-told c = λ e.
     let p = c.args.image.now in
     let kept = c.args.kept.now in
     let x = c.in-Some.packed.now in
-    let here : slice_get kept.states.items c.args.place ≡ Some x =
-    subst (λ xs. slice_get xs c.args.place ≡ Some x) c.deref.ensures.value
-    (slice_get_read c.deref.result.now (length c.deref.result.now) c.args.place x refl c.in-Some.ensures.lookup.3.0
-    c.in-Some.ensures.lookup.1) in (
+    let here : slice_get kept.states.items c.args.place ≡ Some x = rw c.in-Some.is at c.state.ensures in (
       kept_of p kept.parts x,
       state_at p kept c.args.place x here,
       inr (c.one_more.ensures, end_so p (kept_of p kept.parts x) c.ends_of-ends.result c.ends_of-ends.ensures c.if-not-is_any.ensures),
@@ -39,10 +32,7 @@ returns-clause-told c = λ e.
     let p = c.args.image.now in
     let kept = c.args.kept.now in
     let x = c.in-Some.packed.now in
-    let here : slice_get kept.states.items c.args.place ≡ Some x =
-    subst (λ xs. slice_get xs c.args.place ≡ Some x) c.deref.ensures.value
-    (slice_get_read c.deref.result.now (length c.deref.result.now) c.args.place x refl c.in-Some.ensures.lookup.3.0
-    c.in-Some.ensures.lookup.1) in (
+    let here : slice_get kept.states.items c.args.place ≡ Some x = rw c.in-Some.is at c.state.ensures in (
       kept_of p kept.parts x,
       state_at p kept c.args.place x here,
       inr (c.one_more.ensures, end_so p (kept_of p kept.parts x) c.ends_of-ends.result c.ends_of-ends.ensures c.if-not-is_any.ensures),

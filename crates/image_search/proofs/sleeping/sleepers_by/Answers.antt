@@ -1,6 +1,4 @@
-use Rattle.std.proofs.Common.{arith}
 use Rattle.std.proofs.lemmas.Result.{IfOk-weaker}
-use Rattle.image_search.proofs.Flagging.{still_none}
 use Rattle.image_search.proofs.sleeping.sleepers_by.Goals as goal
 
 pub returns-in-Ok-clause-sleep : goal.returns-in-Ok-clause-sleep

@@ -27,6 +27,7 @@ returns c =
     c.phase_at-next.ensures ∙ ap (next_entry c.load.result) c.saturating_add.ensures
     ∙ next_entry-past c.load.result (c.args.seen + 1) 4294967295 (omega arith)
     ∙ ap (λ x. next_entry x (c.args.seen + 1)) (sym link) in
-    subst (IsPlanOf (length words) c.args.t (Entry c.args.entry c.args.seen) (word_of words)) (sym c.abandon.ensures)
-    (owned_entry (length words) c.args.t c.args.seen c.args.entry c.in-Some.lock (word_of words) c.load-word.result
-    c.phase_at-next.result found.1 other owned found.0 lock next)
+    λ rule. subst (IsPlanOf rule (length words) c.args.t (Entry c.args.entry c.args.seen) (word_of words))
+    (sym c.abandon.ensures)
+    (owned_entry rule (length words) c.args.t c.args.seen c.args.entry c.in-Some.lock (word_of words)
+    c.load-word.result c.phase_at-next.result found.1 other owned found.0 lock next)

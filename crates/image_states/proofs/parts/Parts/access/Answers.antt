@@ -2,10 +2,11 @@ use Rattle.std.proofs.Common.{◌≡◌, ◌<◌, ◌≤◌, length}
 use Rattle.std.specs.Prelude.{slice_index}
 use Rattle.machine.proofs.Steps.{can_answer}
 use Rattle.locals.specs.Looks.{look}
-use Rattle.image_states.specs.Packed.{words_in}
+use Rattle.image_states.specs.Packed.{unpacked, words_in}
 use Rattle.image_states.proofs.Growing.{grown_none, more_none}
 use Rattle.image_states.proofs.Results.{if_both}
-use Rattle.image_states.proofs.Stepped.{access_moves, access_none}
+use Rattle.image_states.proofs.Served.{access_served}
+use Rattle.image_states.proofs.Stepped.{access_moves, none_moves}
 use Rattle.image_states.proofs.parts.Parts.access.Goals as goal
 
 pub returns-in-None-clause-more : goal.returns-in-None-clause-more
@@ -15,9 +16,12 @@ pub returns-in-None-clause-moves : goal.returns-in-None-clause-moves
 returns-in-None-clause-moves c =
     let outside : length (words_in c.args.self.now.memories.items c.args.packed.now.memory) ≤ c.args.a.0 =
     rw c.in-None.is at c.word.ensures in
-    λ none. access_none c.args.image.now c.args.self.now c.args.self.now c.args.packed.now c.args.found.now.items c.args.t
-    c.args.scratch.now.here (grown_none c.args.self.now) c.requires.within c.args.request c.args.a.0 c.requires.asks
-    c.requires.access outside
+    let p = c.args.image.now in
+    let a = c.args.self.now in
+    let x = c.args.packed.now in
+    λ none. none_moves p a a x c.args.found.now.items c.args.t c.args.scratch.now.here (grown_none a) c.requires.within
+    c.args.request c.args.a.0 c.requires.asks outside (λ woken answer mid served.
+    (access_served c.args.t (unpacked p a x) woken answer mid c.args.request c.args.a.0 c.requires.access served).lies)
 
 pub exchange-requires-clause-answers : goal.exchange-requires-clause-answers
 exchange-requires-clause-answers c =

@@ -1,4 +1,5 @@
 use Rattle.std.proofs.Common.{◌≡◌, ◌∙◌, Some, ap, subst, suc, sym}
+use Rattle.std.proofs.lemmas.Option.{same_Some}
 use Rattle.machine.proofs.Steps.{can_answer}
 use Rattle.locals.specs.declared.request.NextStep.TheVariants as step
 use Rattle.locals.specs.Looks.{look}
@@ -6,7 +7,6 @@ use Rattle.locals.specs.Requests.{after_answer, next_step_of}
 use Rattle.image_states.specs.Nexts.{ReachesAt}
 use Rattle.image_states.specs.Packed.{asleep_at, thread_at, words_in}
 use Rattle.image_states.proofs.Growing.{more_none, stands_still}
-use Rattle.image_states.proofs.Requeued.{one_thread}
 use Rattle.image_states.proofs.Results.{if_both}
 use Rattle.image_states.proofs.parts.Parts.answer_again.Goals as goal
 
@@ -34,7 +34,7 @@ returns-in-Some-clause-reaches c =
     subst (λ z. ReachesAt c.args.image.now c.push_answer.new.self c.args.packed.now c.push_answer.new.found.items c.args.t
     (words_in c.push_answer.new.self.memories.items c.args.packed.now.memory) (asleep_at c.args.packed.now.places.items)
     (after_answer (look c.args.image.now c.args.t z) 4294967295 z))
-    (c.look_at.ensures ∙ one_thread c.in-Some.local.now here
+    (c.look_at.ensures ∙ same_Some c.in-Some.local.now here
     (sym (ap (thread_at c.args.self.now.locals.items c.args.packed.now.parts.items) c.requires.number ∙ there)
     ∙ sym (stands_still c.args.self.now c.push_answer.new.self m.parts c.args.packed.now c.requires.within c.args.t) ∙ stands))
     (r none))

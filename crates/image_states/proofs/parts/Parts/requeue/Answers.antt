@@ -1,4 +1,5 @@
 use Rattle.std.proofs.Common.{◌≡◌, ◌∙◌, refl, subst, sym}
+use Rattle.std.proofs.lemmas.Option.{same_Some}
 use Rattle.locals.specs.declared.request.NextStep.TheVariants as step
 use Rattle.locals.specs.Looks.{look}
 use Rattle.locals.specs.Requests.{next_step_of}
@@ -6,7 +7,7 @@ use Rattle.locals.specs.declared.request.Request.TheVariants as told
 use Rattle.image_states.specs.Packed.{unpacked}
 use Rattle.image_states.proofs.Growing.{more_none, more_twice, stands_still, within_still}
 use Rattle.image_states.proofs.Listing.{is_none}
-use Rattle.image_states.proofs.Requeued.{asks_still, one_thread, requeue_moves, requeue_none, requeues_still}
+use Rattle.image_states.proofs.Requeued.{asks_still, requeue_moves, requeue_none, requeues_still}
 use Rattle.image_states.proofs.Results.{if_both, on_ok}
 use Rattle.image_states.proofs.parts.Parts.requeue.Goals as goal
 
@@ -23,7 +24,7 @@ pub requeue_all-requires-clause-asks : goal.requeue_all-requires-clause-asks
 requeue_all-requires-clause-asks c = λ here stands.
     subst (λ z. next_step_of (look c.args.image.now c.args.t z)
     ≡ step.Shared (told.Requeue c.args.from c.args.to c.args.wake c.args.moves c.args.expected))
-    (one_thread c.args.scratch.now.here here (sym c.requires.stands ∙ stands)) c.requires.asks
+    (same_Some c.args.scratch.now.here here (sym c.requires.stands ∙ stands)) c.requires.asks
 
 pub requeue_again-requires-clause-within : goal.requeue_again-requires-clause-within
 requeue_again-requires-clause-within c =
@@ -36,7 +37,7 @@ requeue_again-requires-clause-asks c =
     c.requires.within c.args.t (told.Requeue c.args.from c.args.to c.args.wake c.args.moves c.args.expected)
     (λ here stands. subst (λ z. next_step_of (look c.args.image.now c.args.t z)
     ≡ step.Shared (told.Requeue c.args.from c.args.to c.args.wake c.args.moves c.args.expected))
-    (one_thread c.args.scratch.now.here here (sym c.requires.stands ∙ stands)) c.requires.asks)
+    (same_Some c.args.scratch.now.here here (sym c.requires.stands ∙ stands)) c.requires.asks)
 
 pub returns-clause-more : goal.returns-clause-more
 returns-clause-more c = on_ok c.requeue_again.result _ _ c.requeue_again.ensures.more (λ m.

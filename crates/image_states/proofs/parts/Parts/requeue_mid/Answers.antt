@@ -1,13 +1,10 @@
-use Rattle.std.proofs.Common.{◌≡◌, rules, subst, suc, sym}
+use Rattle.std.proofs.Common.{subst, suc, sym}
 use Rattle.image_states.specs.Choosing.{AreSleepers}
 use Rattle.image_states.proofs.Growing.{more_none}
 use Rattle.image_states.proofs.parts.Parts.requeue_mid.Goals as goal
 
 pub returns-then-not-is_within-clause-more : goal.returns-then-not-is_within-clause-more
 returns-then-not-is_within-clause-more c = more_none c.args.self.now c.args.found.now.items
-
-pub returns-in_default-clause-more : goal.returns-in_default-clause-more
-returns-in_default-clause-more c = more_none c.args.self.now c.args.found.now.items
 
 pub returns-in-None-clause-more : goal.returns-in-None-clause-more
 returns-in-None-clause-more c = more_none c.args.self.now c.args.found.now.items
@@ -17,7 +14,5 @@ requeue_to-requires-clause-mid c = c.is_within.ensures c.if-not-is_within.false
 
 pub requeue_to-requires-clause-sleepers : goal.requeue_to-requires-clause-sleepers
 requeue_to-requires-clause-sleepers c =
-    let e : c.in-Some.place ≡ suc c.args.from.0 = search rules in
-    subst (λ n. AreSleepers c.args.mid.now.places.items n c.as_slice.result.now) e
-    (subst (AreSleepers c.args.mid.now.places.items c.in-Some.place) (sym c.as_slice.ensures.value)
-    (rw c.in-Some-2.is at c.in_ok-sleepers.ensures))
+    subst (AreSleepers c.args.mid.now.places.items (suc c.args.from.0)) (sym c.as_slice.ensures.value)
+    (rw c.in-Some.is at c.in_ok-sleepers_on.ensures)

@@ -1,4 +1,5 @@
 use Rattle.std.proofs.Common.{◌≡◌, ◌+◌, ◌∙◌, Some, ap, length, refl, rules, subst, suc, sym}
+use Rattle.std.proofs.lemmas.Option.{same_Some}
 use Rattle.machine.proofs.Steps.{can_answer}
 use Rattle.buckets.specs.Places.{with_place}
 use Rattle.locals.specs.declared.request.NextStep.TheVariants as step
@@ -9,7 +10,6 @@ use Rattle.image_states.specs.Nexts.{ReachesAt}
 use Rattle.image_states.specs.Packed.{asleep_at, place_of, thread_at, words_in}
 use Rattle.image_states.proofs.Choosing.{are_chosen}
 use Rattle.image_states.proofs.Growing.{more_none, stands_still}
-use Rattle.image_states.proofs.Requeued.{one_thread}
 use Rattle.image_states.proofs.Results.{if_both}
 use Rattle.image_states.proofs.parts.Parts.requeue_to.Goals as goal
 
@@ -45,7 +45,7 @@ returns-in-Some-thread-clause-done c =
     (let e : c.in-Some-checked_add.place ≡ suc c.args.to.0 = search rules in ap place_of e) in
     if_both c.stand_waking.result _ _ _ c.stand_waking.ensures.more c.stand_waking.ensures.reaches
     (λ m o r none here stands moved choice.
-    let same : c.look_at.new.self.here ≡ here = c.look_at.ensures ∙ one_thread c.in-Some-thread.local.now here
+    let same : c.look_at.new.self.here ≡ here = c.look_at.ensures ∙ same_Some c.in-Some-thread.local.now here
     (sym (ap (thread_at c.args.self.now.locals.items c.args.packed.now.parts.items) c.requires.number ∙ there)
     ∙ sym (stands_still c.args.self.now new m.parts c.args.packed.now c.requires.within c.args.t) ∙ stands) in
     let chosen : AreChosen mid.places.items (suc c.args.from.0) c.chosen_of-moved.result moved =

@@ -1,10 +1,5 @@
-use Rattle.std.proofs.Common.{◌≡◌, ◌++◌, ◌∷◌, ◌∙◌, [], false, true, None, Contains, rules, subst, sym}
-use Rattle.std.proofs.lemmas.List.Elements.{Contains-push}
-use Rattle.buckets.specs.Places.{with_place}
-use Rattle.image_states.specs.declared.next.Doing.TheVariants as doing
-use Rattle.image_states.specs.declared.next.Next.{Next as NextOf}
-use Rattle.image_states.specs.Choosing.{HasPlaced}
-use Rattle.image_states.specs.Packed.{asleep_at}
+use Rattle.std.proofs.Common.{◌≡◌, ◌∙◌, false, true, sym}
+use Rattle.std.proofs.lemmas.Result.{IfOk-weaker}
 use Rattle.image_states.proofs.Turned.{stray_absent, stray_done}
 use Rattle.image_states.proofs.parts.Parts.stray_nexts.Goals as goal
 
@@ -17,14 +12,6 @@ returns-then-place-eq0-clause-done c = λ none is p.
     (sym c.place.ensures ∙ c.if-place-eq0.true)
 
 pub returns-clause-done : goal.returns-clause-done
-returns-clause-done c = λ none is p.
-    let next : NextOf = record { state = c.in-Some.state; thread = c.args.t; doing = doing.Stray } in
-    let e : c.push.new.self.items ≡ c.args.found.now.items ++ next ∷ [] = search rules in
-    let has : HasPlaced c.args.packed.now c.push.new.self.items
-    (with_place (asleep_at c.args.packed.now.places.items) (c.args.t ∷ []) None) = record {
-      next = next;
-      found = subst (λ l. Contains l next) (sym e) (Contains-push c.args.found.now.items next);
-      placed = rw c.in-Some.is at c.in_ok-state.ensures.placed;
-      killed = rw c.in-Some.is at c.in_ok-state.ensures.killed;
-    } in
-    stray_done p c.args.self.now c.args.packed.now c.push.new.self.items c.args.t c.requires.within has
+returns-clause-done c = IfOk-weaker c.push_placed.result _ _ (λ o has none is p.
+    stray_done p c.args.self.now c.args.packed.now c.push_placed.new.found.items c.args.t c.requires.within (has none))
+    c.push_placed.ensures.placed

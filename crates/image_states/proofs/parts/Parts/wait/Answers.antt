@@ -6,7 +6,7 @@ use Rattle.locals.specs.Looks.{look}
 use Rattle.image_states.specs.Packed.{words_in}
 use Rattle.image_states.proofs.Growing.{grown_none, more_none}
 use Rattle.image_states.proofs.Results.{if_both}
-use Rattle.image_states.proofs.Stepped.{again_moves, sleep_moves, wait_none}
+use Rattle.image_states.proofs.Stepped.{again_moves, none_moves, sleep_moves}
 use Rattle.image_states.proofs.parts.Parts.wait.Goals as goal
 
 pub returns-in-None-clause-more : goal.returns-in-None-clause-more
@@ -16,9 +16,10 @@ pub returns-in-None-clause-moves : goal.returns-in-None-clause-moves
 returns-in-None-clause-moves c =
     let outside : length (words_in c.args.self.now.memories.items c.args.packed.now.memory) ≤ c.args.address.0 =
     rw c.in-None.is at c.word.ensures in
-    λ none. wait_none c.args.image.now c.args.self.now c.args.self.now c.args.packed.now c.args.found.now.items c.args.t
-    c.args.scratch.now.here (grown_none c.args.self.now) c.requires.within c.args.address c.args.expected c.requires.asks
-    outside
+    let a = c.args.self.now in
+    λ none. none_moves c.args.image.now a a c.args.packed.now c.args.found.now.items c.args.t c.args.scratch.now.here
+    (grown_none a) c.requires.within (told.Wait c.args.address c.args.expected) c.args.address.0 c.requires.asks outside
+    (λ woken answer mid served. served.0)
 
 pub sleep-requires-clause-answers : goal.sleep-requires-clause-answers
 sleep-requires-clause-answers c = can_answer (look c.args.image.now c.args.t c.args.scratch.now.here) 0

@@ -1,7 +1,8 @@
 use Rattle.std.proofs.Common.{◌≤◌, length}
+use Rattle.locals.specs.declared.request.Request.TheVariants as told
 use Rattle.image_states.specs.Packed.{words_in}
 use Rattle.image_states.proofs.Growing.{grown_none, more_none}
-use Rattle.image_states.proofs.Stepped.{wake_none}
+use Rattle.image_states.proofs.Stepped.{none_moves}
 use Rattle.image_states.proofs.parts.Parts.wake.Goals as goal
 
 pub returns-in-None-clause-more : goal.returns-in-None-clause-more
@@ -11,6 +12,7 @@ pub returns-in-None-clause-moves : goal.returns-in-None-clause-moves
 returns-in-None-clause-moves c =
     let outside : length (words_in c.args.self.now.memories.items c.args.packed.now.memory) ≤ c.args.address.0 =
     rw c.in-None.is at c.word.ensures in
-    λ none. wake_none c.args.image.now c.args.self.now c.args.self.now c.args.packed.now c.args.found.now.items c.args.t
-    c.args.scratch.now.here (grown_none c.args.self.now) c.requires.within c.args.address c.args.count c.requires.asks
-    outside
+    let a = c.args.self.now in
+    λ none. none_moves c.args.image.now a a c.args.packed.now c.args.found.now.items c.args.t c.args.scratch.now.here
+    (grown_none a) c.requires.within (told.Wake c.args.address c.args.count) c.args.address.0 c.requires.asks outside
+    (λ woken answer mid served. served.0)

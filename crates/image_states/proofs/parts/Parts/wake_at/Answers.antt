@@ -1,17 +1,12 @@
-use Rattle.std.proofs.Common.{◌≡◌, rules, subst, suc, sym}
+use Rattle.std.proofs.Common.{subst, suc, sym}
 use Rattle.image_states.specs.Choosing.{AreSleepers}
 use Rattle.image_states.proofs.Growing.{more_none}
 use Rattle.image_states.proofs.parts.Parts.wake_at.Goals as goal
-
-pub returns-in_default-clause-more : goal.returns-in_default-clause-more
-returns-in_default-clause-more c = more_none c.args.self.now c.args.found.now.items
 
 pub returns-in-None-clause-more : goal.returns-in-None-clause-more
 returns-in-None-clause-more c = more_none c.args.self.now c.args.found.now.items
 
 pub wake_of-requires-clause-sleepers : goal.wake_of-requires-clause-sleepers
 wake_of-requires-clause-sleepers c =
-    let e : c.in-Some.place ≡ suc c.args.address.0 = search rules in
-    subst (λ n. AreSleepers c.args.packed.now.places.items n c.as_slice.result.now) e
-    (subst (AreSleepers c.args.packed.now.places.items c.in-Some.place) (sym c.as_slice.ensures.value)
-    (rw c.in-Some-2.is at c.in_ok-sleepers.ensures))
+    subst (AreSleepers c.args.packed.now.places.items (suc c.args.address.0)) (sym c.as_slice.ensures.value)
+    (rw c.in-Some.is at c.in_ok-sleepers_on.ensures)
