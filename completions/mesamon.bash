@@ -6,18 +6,18 @@ _mesamon_words() {
     case "$1" in
         check) echo FILE --hints ;;
         compile) echo FILE OUT --workers=N --image=N --hints ;;
-        list) echo IMAGE --source=FILE --hints ;;
-        run) echo FILE --steps=N --in-order --seed=N --strays=N --kills=N --trace --log=OUT --page=OUT --hints ;;
-        exec) echo IMAGE --steps=N --in-order --seed=N --strays=N --kills=N --trace --log=OUT --assembly ;;
-        replay) echo FILE SCHEDULE --steps=N --trace --log=LOG --page=OUT --assembly --image --hints ;;
+        list) echo IMAGE --linux --source=FILE --hints ;;
+        run) echo FILE --steps=N --in-order --seed=N --strays=N --kills=N --trace --log=OUT --page=OUT --linux --hints ;;
+        exec) echo IMAGE --steps=N --in-order --seed=N --strays=N --kills=N --trace --log=OUT --assembly --exits=RULE ;;
+        replay) echo FILE SCHEDULE --steps=N --trace --log=LOG --page=OUT --assembly --image --linux --exits=RULE --hints ;;
         explain)
             echo FILE --steps=N --seed=N --strays=N --kills=N --schedule=SCHEDULE --log=LOG
-            echo --chart=OUT --from=N --to=N --timeline=OUT --page=OUT --places --hints ;;
+            echo --chart=OUT --from=N --to=N --timeline=OUT --page=OUT --places --linux --hints ;;
         emit) echo FILE OUT --hints ;;
         assemble) echo FILE OUT --hints ;;
         explore)
             echo FILE --states=N --strays --kills=N --chart=OUT --from=N --to=N --timeline=OUT --page=OUT
-            echo --places --assembly --image --schedule=OUT --hints ;;
+            echo --places --assembly --image --schedule=OUT --linux --exits=RULE --hints ;;
         fmt) echo FILE --check --hints ;;
         help) echo COMMAND ;;
     esac
@@ -32,6 +32,9 @@ _mesamon_offer() {
         SCHEDULE) ending=.schedule ;;
         LOG) ending=.log ;;
         OUT) ;;
+        RULE)
+            mapfile -t COMPREPLY < <(compgen -W "machine linux" -- "$2")
+            return ;;
         COMMAND)
             mapfile -t COMPREPLY < <(compgen -W "check compile list run exec replay explain emit explore assemble fmt help" -- "$2")
             return ;;

@@ -83,8 +83,10 @@ class Explainer:
             self.defer_fault(number)
         if name in ("RET", "RETV") and self.code.marks[place] in ("return", "last return"):
             self.defer(number, "return")
-        if name == "AADD":
+        if name == "AADD" and taken[1] == 1:
             self.raised.add(number)
+        elif name == "AADD":
+            return True
         return name in ("FREQ", "PRINT") or name == "FORK" and answer != 0
 
     def is_process_word(self, address, *words):

@@ -14,8 +14,9 @@ SHARED = "LOAD STORE SWAP CAS AOR AADD FORK PRINT FWAIT FWAKE FREQ"
 OPCODES.update({name: code for code, name in enumerate(SHARED.split(), 0x20)})
 OPERATORS = {"+": "ADD", "-": "SUB", "*": "MUL", "/": "DIV", "MOD": "MOD", "=": "EQ", "#": "NE", "<": "LT", "<=": "LE",
              ">": "GT", ">=": "GE", "AND": "BAND", "OR": "BOR"}
-# How many processes there can be, by the version of an image.
-MOST = {1: 64, 2: 1000}
+# How many processes there can be, by the version of an image. The layout for Linux's exits has the bytes of version 2.
+LINUX = "linux"
+MOST = {1: 64, 2: 1000, LINUX: 1000}
 WAITERS, DIED, OWNER = 1 << 31, 1 << 30, (1 << 30) - 1
 TEMPLATES = {
     "ENTER": """my 1; PUSH e; STORE; PUSH L; PUSH 0; SELF; CAS;
@@ -31,6 +32,9 @@ TEMPLATES = {
     "LEAVE": """my 1; PUSH e; STORE; my 0; PUSH e; LOAD; STORE;
                 PUSH L; PUSH 0; SWAP; PUSH W; BAND; JZ n;
                 PUSH L; PUSH 1; FWAKE; POP; n:""",
+    "LEAVE linux": """my 1; PUSH e; STORE; my 0; PUSH e; LOAD; STORE;
+                      PUSH L; SELF; NEG; AADD; PUSH W; BAND; JZ n;
+                      PUSH L; PUSH 1; FWAKE; POP; n:""",
     "EXIT": "LEAVE; my 1; PUSH 0; STORE",
     "WAIT": "PUSH s; PUSH s; LOAD; LEAVE; FWAIT; POP; TAKE; GOT",
     "NOTIFY": "PUSH s; PUSH 1; AADD; POP; PUSH s; PUSH 1; FWAKE; POP",
@@ -70,6 +74,8 @@ class Code:
 
     def __init__(self, program, version):
         self.program, self.code, self.marks = program, [], []
+        # By Linux's exits a lock is given up in another way.
+        self.leave = "LEAVE linux" if version == LINUX else "LEAVE"
         # The link word of each monitor, and the address of each member by the monitor and its number.
         self.links, self.members = [], {}
         at = 1 + 6 * MOST[version]
@@ -104,7 +110,7 @@ class Code:
             if word in parts:
                 parts[word]()
             elif word in TEMPLATES:
-                self.template(word, words, parts)
+                self.template(self.leave if word == "LEAVE" else word, words, parts)
             elif word == "my":
                 self.put("SELF")
                 self.put("PADDR", int(operands[0]))
@@ -257,7 +263,7 @@ def number_bytes(number):
 def image_bytes(code):
     """The bytes of an image."""
     words = [sum(size or 1 for _, _, size in monitor.members) for monitor in code.program.monitors]
-    found = bytearray(b"MFUT" + bytes([code.version]))
+    found = bytearray(b"MFUT" + bytes([2 if code.version == LINUX else code.version]))
     for number in [len(words), *words, code.start, len(code.code)]:
         found += number_bytes(number)
     for name, *operands in code.code:

@@ -9,7 +9,7 @@ import sys
 
 from explaining import NAMES, Explainer
 from language import Refusal, program_of
-from lowering import image_bytes, lowered, MOST
+from lowering import image_bytes, LINUX, lowered, MOST
 from meaning import action_of, line_of, run_of
 from other_machine import FAULTS, BadImage, Broken, CannotMove, Machine, image_of
 import runs
@@ -20,11 +20,11 @@ KEYS = ("text", "times", "bytes", "again", "schedule", "log", "words", "output",
 WANTED = ("output", "errors", "logged", "image", "status")
 # The options that are known here, by their commands; those that end with `=` take a word.
 OPTIONS = {
-    "check": [], "list": [], "compile": ["workers=", "image="],
-    "run": ["steps=", "in-order", "seed=", "strays=", "kills=", "trace", "log="],
-    "exec": ["steps=", "in-order", "seed=", "strays=", "kills=", "trace", "log="],
-    "replay": ["steps=", "trace", "log=", "image"],
-    "explain": ["steps=", "seed=", "strays=", "kills=", "schedule=", "log="],
+    "check": [], "list": ["linux"], "compile": ["workers=", "image="],
+    "run": ["steps=", "in-order", "seed=", "strays=", "kills=", "trace", "log=", "linux"],
+    "exec": ["steps=", "in-order", "seed=", "strays=", "kills=", "trace", "log=", "exits="],
+    "replay": ["steps=", "trace", "log=", "image", "linux", "exits="],
+    "explain": ["steps=", "seed=", "strays=", "kills=", "schedule=", "log=", "linux"],
 }
 FILES = {"check": [["program.mesa"]], "list": [["program.mesa"]], "compile": [["program.mesa", "program.image"]],
          "run": [["program.mesa"]], "exec": [["program.mesa"]], "explain": [["program.mesa"]],
@@ -33,6 +33,10 @@ FILES = {"check": [["program.mesa"]], "list": [["program.mesa"]], "compile": [["
 
 class NotCovered(Exception):
     """Nothing is said of a row here."""
+
+
+class FirstVersion(Exception):
+    """An image of the first version is to go by Linux's rule of exits."""
 
 
 class Row:
@@ -146,6 +150,8 @@ def expected(row):
         return None
     except Refusal as refusal:
         return Outcome(errors=[refusal.line()], status=1).lines()
+    except FirstVersion:
+        return Outcome(errors=["image of version 1, by Linux's exits"], status=6).lines()
     except BadImage as fault:
         return Outcome(errors=[f"image error {fault.args[0]} {FAULTS[fault.args[0]]}"], status=6).lines()
     except Broken:
@@ -163,8 +169,8 @@ def do_compile(row, _files, options):
     return Outcome([f"ok {len(code.code)} instructions"], image=image_bytes(code))
 
 
-def do_list(row, _files, _options):
-    _, _, _, code = image_of(row.program.encode("latin-1"))
+def do_list(row, _files, options):
+    _, _, _, code = code_and_image(row, options)[1] if "linux" in options else image_of(row.program.encode("latin-1"))
     return Outcome([f"{at:05} {shown(instruction)}" for at, instruction in enumerate(code)])
 
 
@@ -173,22 +179,37 @@ def shown(instruction):
     return " ".join([NAMES[instruction[0]], *map(str, instruction[1:])])
 
 
-def code_and_image(row):
-    code = lowered(program_of(row.program), 2)
+def code_and_image(row, options):
+    code = lowered(program_of(row.program), LINUX if "linux" in options else 2)
     return code, image_of(image_bytes(code))
 
 
+def machine_of(image, options):
+    """The machine of an image, by the rule of exits that is asked for."""
+    if options.get("exits", "machine") not in ("machine", "linux"):
+        raise NotCovered
+    return Machine(image, linux="linux" in options or options.get("exits") == "linux")
+
+
+def given_image(row, options):
+    """The image of a row, which is of the second version where Linux's rule of exits is asked for by name."""
+    image = image_of(row.program.encode("latin-1"))
+    if options.get("exits") == "linux" and image[0] == MOST[1]:
+        raise FirstVersion
+    return image
+
+
 def do_run(row, _files, options):
-    return ran(code_and_image(row)[1], options)
+    return ran(code_and_image(row, options)[1], options)
 
 
 def do_exec(row, _files, options):
-    return ran(image_of(row.program.encode("latin-1")), options)
+    return ran(given_image(row, options), options)
 
 
 def ran(image, options):
     """A run by the program's own choice."""
-    machine = Machine(image)
+    machine = machine_of(image, options)
     log = list(entries_by(machine, options, "in-order" in options))
     return told(machine, log, options, None if row_log(options) is None else log)
 
@@ -234,7 +255,9 @@ def do_replay(row, files, options):
     by_log = len(files) == 1
     if by_log and ("log" not in options or "image" in options) or not by_log and "steps" in options:
         raise NotCovered
-    machine = Machine(image_of(row.program.encode("latin-1")) if "image" in options else code_and_image(row)[1])
+    if "exits" in options and "image" not in options or {"linux", "image"} <= set(options):
+        raise NotCovered
+    machine = machine_of(given_image(row, options) if "image" in options else code_and_image(row, options)[1], options)
     row_log(options)
     try:
         log = list(log_entries(row, machine, options) if by_log else schedule_entries(row, machine))
@@ -279,13 +302,13 @@ def log_entries(row, machine, options):
 
 
 def do_explain(row, _files, options):
-    code, image = code_and_image(row)
+    code, image = code_and_image(row, options)
     if len({"seed", "schedule", "log"} & set(options)) > 1 or options.get("schedule", "program.schedule") != "program.schedule":
         raise NotCovered
     if {"schedule", "log"} & set(options) and {"strays", "kills"} & set(options) or {"schedule", "steps"} <= set(options):
         raise NotCovered
     row_log(options)
-    explainer = Explainer(code, Machine(image))
+    explainer = Explainer(code, machine_of(image, options))
     try:
         for entry in explained_entries(row, image, options):
             explainer.follow(entry)
@@ -297,7 +320,7 @@ def do_explain(row, _files, options):
 
 def explained_entries(row, image, options):
     """The entries that are explained, all of which are legal."""
-    machine = Machine(image)
+    machine = machine_of(image, options)
     if "log" not in options:
         yield from schedule_entries(row, machine) if "schedule" in options else entries_by(machine, options, True)
         return

@@ -1,6 +1,5 @@
--- A robust lock whose release clears its word: right where an exit always wakes at the pending entry, as this machine's
--- does. WRONG on Linux, where it loses a wake with one kill. The wrong line is the SWAP of leave.
-VERSION 1
+-- A robust lock whose release clears its word: right where an exit always wakes at the pending entry, as by this machine's rule.
+-- WRONG by Linux's (--exits linux), where it loses a wake with one kill. The wrong line is the SWAP of leave.
 LOCK m
 CONST WAITERS 0x80000000
 CONST OWNER 0x3fffffff

@@ -1,5 +1,4 @@
 -- A robust lock for Linux: its release keeps the waiters flag.
-VERSION 1
 LOCK m
 CONST WAITERS 0x80000000
 CONST OWNER 0x3fffffff

@@ -1,14 +1,14 @@
 -- A refusal is the text's own.
-use Rattle.std.proofs.Common.{◌≡◌, ◌≢◌, ◌⊎◌, ℕ, List, Result, Ok, Err, IfErr, inl, inr, ap, subst, sym, ◌∙◌}
+use Rattle.std.proofs.Common.{◌≡◌, ◌⊎◌, ℕ, List, Result, Ok, Err, IfErr, inl, inr, ap, subst, sym}
 use Rattle.std.specs.Prelude.{IsErr, IsErrAnd}
+use Rattle.words.specs.declared.version.ImageVersion.{ImageVersion}
 use Rattle.scanner.specs.Refusals.{out_of_memory}
 use Rattle.scanner.specs.declared.refusal.Refusal.{Refusal}
-use Rattle.scanner.specs.declared.refusal.RefusalKind.TheVariants as kind
 use Rattle.isa.specs.Programs.{Program as Image}
 use Rattle.machine.specs.declared.event.Entry.{Entry}
 use Rattle.runner.specs.Logs.{Outside}
 use Rattle.runner.specs.declared.schedule.Turn.{Turn}
-use Rattle.compiler.specs.Accepts.{RefusesText}
+use Rattle.compiler.specs.Accepts.{RefusesTextAs}
 use Rattle.answers.specs.Explaining.{IsRefusedExplanation}
 use Rattle.answers.specs.Failures.{IsLeftBy, IsRefusalBy, OfExplain, OfRefusal, OfReplay, OfRun, OfSourceLog}
 use Rattle.answers.specs.Replaying.{IsRefusedReplay}
@@ -18,7 +18,7 @@ use Rattle.answers.specs.declared.explained_run.ExplainSourceFault.{ExplainSourc
 use Rattle.answers.specs.declared.explained_run.ExplainSourceFault.TheVariants as explain
 use Rattle.answers.specs.declared.failure.Failure.{Failure}
 use Rattle.answers.specs.declared.failure.NoAnswer.{NoAnswer}
-use Rattle.answers.specs.declared.failure.NoAnswer.TheVariants.{Refused, Failed}
+use Rattle.answers.specs.declared.failure.NoAnswer.TheVariants.{Failed}
 use Rattle.answers.specs.declared.replaying.ReplayFault.{ReplayFault}
 use Rattle.answers.specs.declared.replaying.ReplayFault.TheVariants as replay
 use Rattle.answers.specs.declared.source_log.SourceLogFault.{SourceLogFault}
@@ -47,37 +47,41 @@ refused_by Refuses e n known (inl (is, gives)) = fails Refuses n _ gives
 refused_by Refuses e n (inl memory) (inr (is_not, gives)) = absurd (is_not (ap (λ (x : Refusal). x.kind) memory))
 refused_by Refuses e n (inr refuses) (inr (is_not, gives)) = subst (IsRefusalBy Refuses) (sym gives) refuses
 
-pub run_left : (text : List ℕ) (may : Outside) (limit : ℕ) (fault : RunSourceFault) (n : NoAnswer)
-    → IsRefusedRun text may limit fault → OfRun fault n → IsRefusalBy (RefusesText text) n
-run_left text may limit (source.Refused e) n known gives = refused_by (RefusesText text) e n known gives
-run_left text may limit (source.Run fault) n known (f, of_fault, gives) = fails (RefusesText text) n f gives
+module _ (v : ImageVersion) (text : List ℕ) where
+  abbrev Refuses : Refusal → Type 0
+  Refuses e = RefusesTextAs v text e
 
-pub explain_left : (text : List ℕ) (fault : ExplainSourceFault) (n : NoAnswer) → IsRefusedExplanation text fault
-    → OfExplain fault n → IsRefusalBy (RefusesText text) n
-explain_left text (explain.Refused e) n known gives = refused_by (RefusesText text) e n known gives
-explain_left text explain.Memory n known gives = fails (RefusesText text) n _ gives
+  pub run_left : (may : Outside) (limit : ℕ) (fault : RunSourceFault) (n : NoAnswer)
+      → IsRefusedRun v text may limit fault → OfRun fault n → IsRefusalBy (RefusesTextAs v text) n
+  run_left may limit (source.Refused e) n known gives = refused_by Refuses e n known gives
+  run_left may limit (source.Run fault) n known (f, of_fault, gives) = fails Refuses n f gives
 
-pub replay_left_by : (text : List ℕ) (schedule : List Turn) (fault : ReplayFault) (n : NoAnswer)
-    → IsRefusedReplay text schedule fault → OfReplay fault n → IsRefusalBy (RefusesText text) n
-replay_left_by text schedule (replay.Refused e) n known gives = refused_by (RefusesText text) e n known gives
-replay_left_by text schedule (replay.BadEntry number) n known gives = fails (RefusesText text) n _ gives
-replay_left_by text schedule replay.Memory n known gives = fails (RefusesText text) n _ gives
+  pub explain_left : (fault : ExplainSourceFault) (n : NoAnswer) → IsRefusedExplanation v text fault
+      → OfExplain fault n → IsRefusalBy (RefusesTextAs v text) n
+  explain_left (explain.Refused e) n known gives = refused_by Refuses e n known gives
+  explain_left explain.Memory n known gives = fails Refuses n _ gives
 
-pub log_left : (text lines : List ℕ) (most : ℕ) (fault : SourceLogFault) (n : NoAnswer)
-    → IsRefusedLog text lines most fault → OfSourceLog fault n → IsRefusalBy (RefusesText text) n
-log_left text lines most (log.Refused e) n known gives = refused_by (RefusesText text) e n known gives
-log_left text lines most (log.Line number) n known gives = fails (RefusesText text) n _ gives
-log_left text lines most (log.Steps count) n known gives = fails (RefusesText text) n _ gives
-log_left text lines most (log.Entry number) n known gives = fails (RefusesText text) n _ gives
-log_left text lines most log.Memory n known gives = fails (RefusesText text) n _ gives
+  pub replay_left_by : (schedule : List Turn) (fault : ReplayFault) (n : NoAnswer)
+      → IsRefusedReplay v text schedule fault → OfReplay fault n → IsRefusalBy (RefusesTextAs v text) n
+  replay_left_by schedule (replay.Refused e) n known gives = refused_by Refuses e n known gives
+  replay_left_by schedule (replay.BadEntry number) n known gives = fails Refuses n _ gives
+  replay_left_by schedule replay.Memory n known gives = fails Refuses n _ gives
 
-pub log_not_followed : (text lines : List ℕ) (most : ℕ) (fault : SourceLogFault) (n : NoAnswer)
-    → IsUnfollowedLog text lines most fault → OfSourceLog fault n → IsRefusalBy (RefusesText text) n
-log_not_followed text lines most (log.Refused e) n known gives = refused_by (RefusesText text) e n known gives
-log_not_followed text lines most (log.Line number) n known gives = fails (RefusesText text) n _ gives
-log_not_followed text lines most (log.Steps count) n known gives = fails (RefusesText text) n _ gives
-log_not_followed text lines most (log.Entry number) n known gives = fails (RefusesText text) n _ gives
-log_not_followed text lines most log.Memory n known gives = fails (RefusesText text) n _ gives
+  pub log_left : (lines : List ℕ) (most : ℕ) (fault : SourceLogFault) (n : NoAnswer)
+      → IsRefusedLog v text lines most fault → OfSourceLog fault n → IsRefusalBy (RefusesTextAs v text) n
+  log_left lines most (log.Refused e) n known gives = refused_by Refuses e n known gives
+  log_left lines most (log.Line number) n known gives = fails Refuses n _ gives
+  log_left lines most (log.Steps count) n known gives = fails Refuses n _ gives
+  log_left lines most (log.Entry number) n known gives = fails Refuses n _ gives
+  log_left lines most log.Memory n known gives = fails Refuses n _ gives
+
+  pub log_not_followed : (lines : List ℕ) (most : ℕ) (fault : SourceLogFault) (n : NoAnswer)
+      → IsUnfollowedLog v text lines most fault → OfSourceLog fault n → IsRefusalBy (RefusesTextAs v text) n
+  log_not_followed lines most (log.Refused e) n known gives = refused_by Refuses e n known gives
+  log_not_followed lines most (log.Line number) n known gives = fails Refuses n _ gives
+  log_not_followed lines most (log.Steps count) n known gives = fails Refuses n _ gives
+  log_not_followed lines most (log.Entry number) n known gives = fails Refuses n _ gives
+  log_not_followed lines most log.Memory n known gives = fails Refuses n _ gives
 
 -- a failure is no refusal of either kind
 fails_so : (n : NoAnswer) (f : Failure) → n ≡ Failed f → IsLeftBy (λ e. ⊥) (λ e. ⊥) n

@@ -8,6 +8,7 @@ use Rattle.std.proofs.lemmas.Simd.{map-map}
 use Rattle.std.proofs.lemmas.List.Elements.{All-head, All-tail}
 use Rattle.std.proofs.lemmas.List.Sums.{sum_by-cons}
 use Rattle.words.specs.Limits.{run_buckets}
+use Rattle.words.specs.declared.version.ImageVersion.{ImageVersion}
 use Rattle.isa.specs.Programs.{Program}
 use Rattle.machine.specs.declared.event.Entry.{Entry}
 use Rattle.machine.specs.declared.event.Event.{Event}
@@ -16,7 +17,7 @@ use Rattle.machine.specs.Runs.{Step}
 use Rattle.piece_machine.specs.PieceConcrete.{pieces_at}
 use Rattle.piece_machine.specs.PieceViews.{parts}
 use Rattle.piece_machine.proofs.Refused.{piece_breaks_so}
-use Rattle.lowering.specs.Pieces.{code_of}
+use Rattle.program.specs.Trees.{as_version}
 use Rattle.refinement.specs.Pieces.{ExplainedInPieces, RefinesInPieces}
 use Rattle.log_simulation.proofs.Verdicts.{verdict_so}
 use Rattle.runner.specs.Logs.{cost, event_cost}
@@ -27,9 +28,10 @@ use Rattle.runner.specs.declared.schedule.ScheduleFault.TheVariants.{Broken}
 use Rattle.runner.specs.declared.schedule.Turn.{Turn}
 use Rattle.runner.specs.declared.schedule.Turn.TheVariants as turn
 use Rattle.runner.proofs.Unrolling.{runs_so}
-use Rattle.compiler.specs.Compiles.{IsCompiled}
+use Rattle.compiler.specs.Compiles.{IsCompiledAs}
 use Rattle.runner.specs.declared.schedule.ScheduleFault.TheVariants as follow
 use Rattle.answers.specs.Replaying.{IsLeftSchedule, IsNoRefusal, IsRefusedReplay, IsReplayOfText, step_turn}
+use Rattle.answers.specs.Versions.{code_as}
 use Rattle.answers.specs.declared.replaying.ReplayFault.{ReplayFault}
 use Rattle.answers.specs.declared.replaying.ReplayFault.TheVariants.{Refused, BadEntry, Memory}
 
@@ -74,14 +76,14 @@ same_turns : (run : List Step) (steps : List EventStep) → map label_of run ≡
 same_turns run steps same =
     sym (map-map label_turn label_of run) ∙ ap (map label_turn) same ∙ map-map label_turn event_label steps
 
-pub replay_explained : (text : List ℕ) (image : Program) (schedule : List Turn) (r : Report) → IsCompiled text image
-    → IsFollowed image schedule r → IsReplayOfText text schedule r
-replay_explained text image schedule r c f =
-    let followed : IsFollowed (code_of c.program) schedule r = subst (λ (p : Program). IsFollowed p schedule r) c.code
+pub replay_explained : (v : ImageVersion) (text : List ℕ) (image : Program) (schedule : List Turn) (r : Report)
+    → IsCompiledAs v text image → IsFollowed image schedule r → IsReplayOfText v text schedule r
+replay_explained v text image schedule r c f =
+    let followed : IsFollowed (code_as v c.program) schedule r = subst (λ (p : Program). IsFollowed p schedule r) c.code
     f in
-    let refines : RefinesInPieces c.program (code_of c.program) = subst (λ (p : Program). RefinesInPieces c.program p)
-    c.code c.pieces in
-    let (steps, run, count, same, fit) = runs_so (code_of c.program) r.log.items (parts r.last)
+    let refines : RefinesInPieces (as_version v c.program) (code_as v c.program) =
+    subst (λ (p : Program). RefinesInPieces (as_version v c.program) p) c.code c.pieces in
+    let (steps, run, count, same, fit) = runs_so (code_as v c.program) r.log.items (parts r.last)
     followed.follows.legal in
     let single = followed.follows.single in
     let total = ones_cost r.log.items single in
@@ -89,7 +91,7 @@ replay_explained text image schedule r c f =
     sym (length-map r.log.items turn_of) ∙ ap length followed.follows.turns in
     let below = followed.few in
     let few : length steps < 2 ^ 32 = omega (arith, count, total, many, below) in
-    let explained : ExplainedInPieces c.program (code_of c.program) steps (pieces_at (parts r.last)) =
+    let explained : ExplainedInPieces (as_version v c.program) (code_as v c.program) steps (pieces_at (parts r.last)) =
     refines.follows run_buckets steps (pieces_at (parts r.last)) (omega arith) run few in
     record {
       program = c.program;
@@ -99,18 +101,19 @@ replay_explained text image schedule r c f =
       turns = same_turns steps (steps_of r.log.items) same ∙ steps_turns r.log.items single ∙ followed.follows.turns;
       machine_run = run;
       explained = explained;
-      says = verdict_so c.program steps (parts r.last) explained r.verdict followed.verdict;
+      says = verdict_so (as_version v c.program) steps (parts r.last) explained r.verdict followed.verdict;
     }
 
-sound_at : (text : List ℕ) (image : Program) (schedule : List Turn) (number : ℕ) (c : IsCompiled text image)
-    → FailsAt (code_of c.program) schedule (Broken number) → ⊥
-sound_at text image schedule number c (inl memory) = absurd memory
-sound_at text image schedule number c (inr (before, k, turn.Stray t, comes, refuses)) = absurd refuses.2
-sound_at text image schedule number c (inr (before, k, turn.Kill t, comes, refuses)) = absurd refuses.2
-sound_at text image schedule number c (inr (before, k, turn.Step t, comes, refuses)) =
-    let refines : RefinesInPieces c.program (code_of c.program) = subst (λ (p : Program). RefinesInPieces c.program p)
-    c.code c.pieces in
-    let (steps, run, count, same, fit) = runs_so (code_of c.program) comes.log k
+sound_at : (v : ImageVersion) (text : List ℕ) (image : Program) (schedule : List Turn) (number : ℕ)
+    (c : IsCompiledAs v text image)
+    → FailsAt (code_as v c.program) schedule (Broken number) → ⊥
+sound_at v text image schedule number c (inl memory) = absurd memory
+sound_at v text image schedule number c (inr (before, k, turn.Stray t, comes, refuses)) = absurd refuses.2
+sound_at v text image schedule number c (inr (before, k, turn.Kill t, comes, refuses)) = absurd refuses.2
+sound_at v text image schedule number c (inr (before, k, turn.Step t, comes, refuses)) =
+    let refines : RefinesInPieces (as_version v c.program) (code_as v c.program) =
+    subst (λ (p : Program). RefinesInPieces (as_version v c.program) p) c.code c.pieces in
+    let (steps, run, count, same, fit) = runs_so (code_as v c.program) comes.log k
     comes.follows.legal in
     let total = ones_cost comes.log comes.follows.single in
     let many : length comes.log ≡ min before (length schedule) =
@@ -118,36 +121,37 @@ sound_at text image schedule number c (inr (before, k, turn.Step t, comes, refus
     let below = comes.few in
     let few : length steps < 2 ^ 32 = omega (arith, count, total, many, below) in
     (refines.follows run_buckets steps (pieces_at k) (omega arith) run few).sound t
-    ((piece_breaks_so (code_of c.program) k t fit).0 refuses.2.1)
+    ((piece_breaks_so (code_as v c.program) k t fit).0 refuses.2.1)
 
 -- by no schedule compiled code meets a step that may not be
-pub replay_sound : (text : List ℕ) (image : Program) (schedule : List Turn) (number : ℕ) → IsCompiled text image
-    → FailsAt image schedule (Broken number) → ⊥
-replay_sound text image schedule number c fails =
-    sound_at text image schedule number c (subst (λ (p : Program). FailsAt p schedule (Broken number)) c.code fails)
+pub replay_sound : (v : ImageVersion) (text : List ℕ) (image : Program) (schedule : List Turn) (number : ℕ)
+    → IsCompiledAs v text image → FailsAt image schedule (Broken number) → ⊥
+replay_sound v text image schedule number c fails =
+    sound_at v text image schedule number c (subst (λ (p : Program). FailsAt p schedule (Broken number)) c.code fails)
 
 -- what a run by a schedule of the image of a text answers, of the text
-pub replayed : (text : List ℕ) (image : Program) (schedule : List Turn) (r : Result Report ReplayFault)
-    → IsCompiled text image → MatchResult r (IsFollowed image schedule) (IsLeftSchedule image schedule)
-    → IfOk r (IsReplayOfText text schedule)
-replayed text image schedule (Ok report) c h = replay_explained text image schedule report c h
-replayed text image schedule (Err fault) c h = tt
+pub replayed : (v : ImageVersion) (text : List ℕ) (image : Program) (schedule : List Turn) (r : Result Report ReplayFault)
+    → IsCompiledAs v text image → MatchResult r (IsFollowed image schedule) (IsLeftSchedule image schedule)
+    → IfOk r (IsReplayOfText v text schedule)
+replayed v text image schedule (Ok report) c h = replay_explained v text image schedule report c h
+replayed v text image schedule (Err fault) c h = tt
 
-pub left_of_text : (text : List ℕ) (image : Program) (schedule : List Turn) (fault : ReplayFault)
-    → IsCompiled text image → IsLeftSchedule image schedule fault → IsRefusedReplay text schedule fault
-left_of_text text image schedule (Refused e) c h = absurd h
-left_of_text text image schedule (BadEntry number) c h = record {
+pub left_of_text : (v : ImageVersion) (text : List ℕ) (image : Program) (schedule : List Turn) (fault : ReplayFault)
+    → IsCompiledAs v text image → IsLeftSchedule image schedule fault → IsRefusedReplay v text schedule fault
+left_of_text v text image schedule (Refused e) c h = absurd h
+left_of_text v text image schedule (BadEntry number) c h = record {
   program = c.program;
   accepts = c.accepts;
   fails = subst (λ (p : Program). FailsAt p schedule (follow.BadEntry number)) c.code h;
 }
-left_of_text text image schedule Memory c h = tt
+left_of_text v text image schedule Memory c h = tt
 
-pub replay_left : (text : List ℕ) (image : Program) (schedule : List Turn) (r : Result Report ReplayFault)
-    → IsCompiled text image → MatchResult r (IsFollowed image schedule) (IsLeftSchedule image schedule)
-    → IfErr r (IsRefusedReplay text schedule)
-replay_left text image schedule (Ok report) c h = tt
-replay_left text image schedule (Err fault) c h = left_of_text text image schedule fault c h
+pub replay_left : (v : ImageVersion) (text : List ℕ) (image : Program) (schedule : List Turn)
+    (r : Result Report ReplayFault)
+    → IsCompiledAs v text image → MatchResult r (IsFollowed image schedule) (IsLeftSchedule image schedule)
+    → IfErr r (IsRefusedReplay v text schedule)
+replay_left v text image schedule (Ok report) c h = tt
+replay_left v text image schedule (Err fault) c h = left_of_text v text image schedule fault c h
 
 pub keeps_no_refusal : (image : Program) (schedule : List Turn) (fault : ReplayFault)
     → IsLeftSchedule image schedule fault → IsNoRefusal fault

@@ -2,12 +2,13 @@
 use Rattle.std.proofs.Common.{◌≡◌, ◌<◌, ◌∙◌, ◌^◌, ℕ, List, Result, Ok, Err, IfErr, length, ap, sym, subst, arith}
 use Rattle.std.specs.Prelude.{IfOk, IsErr, IsErrAnd, MatchResult}
 use Rattle.words.specs.Limits.{run_buckets}
+use Rattle.words.specs.declared.version.ImageVersion.{ImageVersion}
 use Rattle.isa.specs.Programs.{Program as Image}
 use Rattle.machine.specs.declared.event.Entry.{Entry}
 use Rattle.machine.specs.Views.{concrete}
 use Rattle.piece_machine.specs.PieceConcrete.{pieces_at}
 use Rattle.piece_machine.specs.PieceViews.{PieceView, parts}
-use Rattle.program.specs.Trees.{Program}
+use Rattle.program.specs.Trees.{Program, as_version}
 use Rattle.lowering.specs.Pieces.{code_of}
 use Rattle.refinement.specs.Pieces.{ExplainedInPieces, RefinesInPieces}
 use Rattle.log_simulation.proofs.Verdicts.{verdict_so}
@@ -18,9 +19,10 @@ use Rattle.runner.proofs.Unrolling.{runs_so}
 use Rattle.log_text.specs.Spelled.{IsLogText}
 use Rattle.simulation.specs.ExplainedLog.{IsLast, StopsAt}
 use Rattle.compiler.specs.Accepts.{AcceptsText}
-use Rattle.compiler.specs.Compiles.{IsCompiled}
+use Rattle.compiler.specs.Compiles.{IsCompiledAs}
 use Rattle.answers.specs.SourceLog.{FollowsNot, IsOfLog, IsRefusedLog, IsReplayOfLog, IsReportOfLog}
 use Rattle.answers.specs.SourceLog.{IsUnfollowedLog, StopsLog}
+use Rattle.answers.specs.Versions.{code_as}
 use Rattle.answers.specs.declared.source_log.SourceLogFault.{SourceLogFault}
 use Rattle.answers.specs.declared.source_log.SourceLogFault.TheVariants.{Refused, Line, Entry as Entry', Steps, Memory}
 
@@ -54,16 +56,16 @@ reported p image entries slice last r own same h logged is output verdict = reco
   verdict = subst (λ (v : PieceView). IsVerdict (concrete v.view) r.verdict) (sym is) verdict;
 }
 
-module _ (text lines : List ℕ) (most : ℕ) (p : Program) (image : Image) (entries slice : List Entry) (accepts : AcceptsText text p)
-    (own : image ≡ code_of p) (reads : IsLogText lines entries) (same : slice ≡ entries) where
+module _ (v : ImageVersion) (text lines : List ℕ) (most : ℕ) (p : Program) (image : Image) (entries slice : List Entry)
+    (accepts : AcceptsText text p) (own : image ≡ code_as v p) (reads : IsLogText lines entries) (same : slice ≡ entries) where
   -- entries that stop being legal
-  pub stopped : (f : SourceLogFault) → StopsLog image slice f → IsRefusedLog text lines most f × IsOfLog f
+  pub stopped : (f : SourceLogFault) → StopsLog image slice f → IsRefusedLog v text lines most f × IsOfLog f
   stopped (Refused e) h = absurd h
   stopped (Line number) h = absurd h
   stopped (Entry' number) h = (
     record {
       log = record { program = p; accepts = accepts; entries = entries; reads = reads };
-      stops = subst (λ (es : List Entry). StopsAt (code_of p) es number) same
+      stops = subst (λ (es : List Entry). StopsAt (code_as v p) es number) same
           (subst (λ (i : Image). StopsAt i slice number) own h);
     },
     tt,
@@ -72,13 +74,13 @@ module _ (text lines : List ℕ) (most : ℕ) (p : Program) (image : Image) (ent
   stopped Memory h = (tt, tt)
 
   -- and those that can't be followed
-  pub not_followed : (f : SourceLogFault) → FollowsNot image slice f → IsUnfollowedLog text lines most f × IsOfLog f
+  pub not_followed : (f : SourceLogFault) → FollowsNot image slice f → IsUnfollowedLog v text lines most f × IsOfLog f
   not_followed (Refused e) h = absurd h
   not_followed (Line number) h = absurd h
   not_followed (Entry' number) h = (
     record {
       log = record { program = p; accepts = accepts; entries = entries; reads = reads };
-      fails = subst (λ (es : List Entry). IsBadLogEntry (code_of p) es number) same
+      fails = subst (λ (es : List Entry). IsBadLogEntry (code_as v p) es number) same
           (subst (λ (i : Image). IsBadLogEntry i slice number) own h);
     },
     tt,
@@ -87,19 +89,19 @@ module _ (text lines : List ℕ) (most : ℕ) (p : Program) (image : Image) (ent
   not_followed Memory h = (tt, tt)
 
 -- a log that is followed
-pub followed_log : (text lines : List ℕ) (image : Image) (entries slice : List Entry) (r : Report)
-    → IsCompiled text image → IsLogText lines entries → slice ≡ entries → IsFollowedLog image slice r
-    → IsReplayOfLog text lines r
-followed_log text lines image entries slice r c reads same f =
-    let followed = subst (λ (es : List Entry). IsFollowedLog (code_of c.program) es r) same
+pub followed_log : (v : ImageVersion) (text lines : List ℕ) (image : Image) (entries slice : List Entry) (r : Report)
+    → IsCompiledAs v text image → IsLogText lines entries → slice ≡ entries → IsFollowedLog image slice r
+    → IsReplayOfLog v text lines r
+followed_log v text lines image entries slice r c reads same f =
+    let followed = subst (λ (es : List Entry). IsFollowedLog (code_as v c.program) es r) same
     (subst (λ (i : Image). IsFollowedLog i slice r) c.code f) in
-    let refines : RefinesInPieces c.program (code_of c.program) = subst (λ (i : Image). RefinesInPieces c.program i)
-    c.code c.pieces in
-    let (steps, run, count, labels, fit) = runs_so (code_of c.program) r.log.items (parts r.last)
+    let refines : RefinesInPieces (as_version v c.program) (code_as v c.program) =
+    subst (λ (i : Image). RefinesInPieces (as_version v c.program) i) c.code c.pieces in
+    let (steps, run, count, labels, fit) = runs_so (code_as v c.program) r.log.items (parts r.last)
     followed.follows.legal in
     let below = followed.follows.few in
     let few : length steps < 2 ^ 32 = omega (arith, count, below) in
-    let explained : ExplainedInPieces c.program (code_of c.program) steps (pieces_at (parts r.last)) =
+    let explained : ExplainedInPieces (as_version v c.program) (code_as v c.program) steps (pieces_at (parts r.last)) =
     refines.follows run_buckets steps (pieces_at (parts r.last)) (omega arith) run few in
     record {
       log = record { program = c.program; accepts = c.accepts; entries = entries; reads = reads };
@@ -109,5 +111,5 @@ followed_log text lines image entries slice r c reads same f =
       labels = labels;
       machine_run = run;
       explained = explained;
-      says = verdict_so c.program steps (parts r.last) explained r.verdict followed.verdict;
+      says = verdict_so (as_version v c.program) steps (parts r.last) explained r.verdict followed.verdict;
     }

@@ -1,6 +1,7 @@
 -- What is told of a job, by what is told of what it made.
-use Rattle.std.proofs.Common.{◌≡◌, ◌⊎◌, ◌∙◌, ℕ, List, Option, None, Result, Ok, Err, IfOk, IfErr, inl, inr, ap, sym, subst}
+use Rattle.std.proofs.Common.{◌≡◌, ◌∙◌, ℕ, List, Option, None, Result, Ok, Err, IfOk, IfErr, ap, sym, subst}
 use Rattle.assembler.specs.declared.refusal.AssemblyRefusal.{AssemblyRefusal}
+use Rattle.words.specs.declared.version.ImageVersion.{ImageVersion}
 use Rattle.isa.specs.Programs.{Program as Image}
 use Rattle.scanner.specs.declared.refusal.Refusal.{Refusal}
 use Rattle.commandline.specs.declared.options.ExplainedBy.{ExplainedBy}
@@ -31,7 +32,7 @@ no_memory (Ok x) Refuses h = tt
 no_memory (Err n) Refuses h = memory_is_none Refuses n h
 
 -- a refusal is one in more words
-refusal_so : (P Q : Refusal → Type 0) (n : NoAnswer) → ((e : Refusal) → P e → Q e) → IsRefusalBy P n → IsRefusalBy Q n
+pub refusal_so : (P Q : Refusal → Type 0) (n : NoAnswer) → ((e : Refusal) → P e → Q e) → IsRefusalBy P n → IsRefusalBy Q n
 refusal_so P Q (Refused e) on h = on e h
 refusal_so P Q (Unassembled e) on h = h
 refusal_so P Q (Failed f) on h = tt
@@ -70,10 +71,10 @@ are_puts made files out put is has none no_page no_schedule same =
     subst (ArePuts put) (sym is) (ap put_of has ∙ same, ap name_of none, ap name_of no_page, ap name_of no_schedule)
 
 -- a run again, by what is named
-pub replayed_as : {E : Type 0} (r : Result Report E) (by same : ReplayedBy) (second text : List ℕ) → by ≡ same
-    → IfOk r (IsReplayedAs same second text) → IfOk r (IsReplayedAs by second text)
-replayed_as r by same second text is h =
-    subst (λ (b : ReplayedBy). IfOk r (IsReplayedAs b second text)) (sym is) h
+pub replayed_as : {E : Type 0} (r : Result Report E) (v : ImageVersion) (by same : ReplayedBy) (second text : List ℕ)
+    → by ≡ same → IfOk r (IsReplayedAs v same second text) → IfOk r (IsReplayedAs v by second text)
+replayed_as r v by same second text is h =
+    subst (λ (b : ReplayedBy). IfOk r (IsReplayedAs v b second text)) (sym is) h
 
 -- the same of an image
 pub followed_as : {E : Type 0} (r : Result Report E) (by same : ReplayedBy) (image : Image) (second : List ℕ) → by ≡ same
@@ -82,7 +83,8 @@ followed_as r by same image second is h =
     subst (λ (b : ReplayedBy). IfOk r (IsFollowedAs b image second)) (sym is) h
 
 -- a run that is explained, by what is named
-pub explained_as : {E : Type 0} (r : Result ExplainedRun E) (by same : ExplainedBy) (second text : List ℕ) → by ≡ same
-    → IfOk r (IsExplainedAs same second text) → IfOk r (IsExplainedAs by second text)
-explained_as r by same second text is h =
-    subst (λ (b : ExplainedBy). IfOk r (IsExplainedAs b second text)) (sym is) h
+pub explained_as : {E : Type 0} (r : Result ExplainedRun E) (v : ImageVersion) (by same : ExplainedBy)
+    (second text : List ℕ) → by ≡ same → IfOk r (IsExplainedAs v same second text)
+    → IfOk r (IsExplainedAs v by second text)
+explained_as r v by same second text is h =
+    subst (λ (b : ExplainedBy). IfOk r (IsExplainedAs v b second text)) (sym is) h

@@ -1,5 +1,5 @@
 -- What a device has of what was told, and that a device which failed has met a failure.
-use Rattle.std.proofs.Common.{◌≡◌, ◌≤◌, ◌++◌, ◌⊎◌, ℕ, List, [], Option, Result, Ok, Err, OnOk, OnErr, arith}
+use Rattle.std.proofs.Common.{◌++◌, ℕ, List, Option, Result, Ok, Err, OnOk, OnErr, arith}
 use Rattle.std.specs.Io.KnownBytes.{Appends}
 use Rattle.std.proofs.KnownBytes.{Appends-trans}
 use Rattle.devices.specs.Counting.{HasFailed}

@@ -1,6 +1,7 @@
 -- What is asked for of a text: which run of it.
 use Rattle.std.proofs.Common.{Bor}
 use Rattle.std.specs.Prelude.{ℕ, List, Option, None, is_some}
+use Rattle.words.specs.declared.version.ImageVersion.{ImageVersion}
 use Rattle.commandline.specs.declared.options.ExplainedBy.{ExplainedBy}
 use Rattle.commandline.specs.declared.options.ExplainedBy.TheVariants.{Order, Seed, Schedule, Log}
 use Rattle.commandline.specs.declared.options.Order.{Order as OrderOf}
@@ -14,7 +15,7 @@ use Rattle.answers.specs.declared.explained_run.ExplainedRun.{ExplainedRun}
 use Rattle.answers.specs.Explaining.{IsExplanation, IsExplanationOfText}
 use Rattle.answers.specs.LogLimits.{HasFewSteps}
 use Rattle.answers.specs.Replaying.{IsReplayOfText}
-use Rattle.answers.specs.Running.{IsRunOfText}
+use Rattle.answers.specs.Running.{IsRunInOrder, IsRunOfText}
 use Rattle.answers.specs.SourceLog.{IsExplanationOfLog, IsReplayOfLog}
 use Rattle.answers.specs.Turns.{turns_in}
 
@@ -24,22 +25,31 @@ outside_by Workers = nothing_outside
 outside_by InOrder = nothing_outside
 outside_by (InSeed seed strays kills) = outside_of (is_some strays) kills
 
--- the run that is made of a text, as the options say
-abbrev pub IsRunAs : RunOptions → List ℕ → Report → Type 0
-IsRunAs options text report = IsRunOfText text (outside_by options.order) options.steps report
+-- the run that is made of a text's code for this version, in this order and within this limit
+abbrev pub IsRunBy : ImageVersion → OrderOf → (limit : ℕ) → List ℕ → Report → Type 0
+IsRunBy version Workers limit text report = IsRunOfText version text nothing_outside limit report
+IsRunBy version InOrder limit text report = IsRunInOrder version text limit report
+IsRunBy version (InSeed seed strays kills) limit text report =
+    IsRunOfText version text (outside_of (is_some strays) kills) limit report
+
+-- the same, as the options say
+abbrev pub IsRunAs : ImageVersion → RunOptions → List ℕ → Report → Type 0
+IsRunAs version options text report = IsRunBy version options.order options.steps text report
 
 -- the run that is explained, by what is named; with these bytes in the schedule or the log
-abbrev pub IsExplainedAs : ExplainedBy → (second : List ℕ) → List ℕ → ExplainedRun → Type 0
-IsExplainedAs (Order steps) second text r = IsExplanationOfText text nothing_outside steps r
-IsExplainedAs (Seed steps seed strays kills) second text r =
-    IsExplanationOfText text (outside_of (is_some strays) kills) steps r
-IsExplainedAs (Schedule name) second text r = IsExplanation text (IsReplayOfText text (turns_in second)) r
-IsExplainedAs (Log name steps) second text r = IsExplanationOfLog text second r × HasFewSteps second steps
+abbrev pub IsExplainedAs : ImageVersion → ExplainedBy → (second : List ℕ) → List ℕ → ExplainedRun → Type 0
+IsExplainedAs version (Order steps) second text r = IsExplanation version text (IsRunInOrder version text steps) r
+IsExplainedAs version (Seed steps seed strays kills) second text r =
+    IsExplanationOfText version text (outside_of (is_some strays) kills) steps r
+IsExplainedAs version (Schedule name) second text r =
+    IsExplanation version text (IsReplayOfText version text (turns_in second)) r
+IsExplainedAs version (Log name steps) second text r =
+    IsExplanationOfLog version text second r × HasFewSteps second steps
 
 -- the run again, by what is named, with these bytes
-abbrev pub IsReplayedAs : ReplayedBy → (second : List ℕ) → List ℕ → Report → Type 0
-IsReplayedAs (BySchedule name log) second text r = IsReplayOfText text (turns_in second) r
-IsReplayedAs (ByLog name steps) second text r = IsReplayOfLog text second r × HasFewSteps second steps
+abbrev pub IsReplayedAs : ImageVersion → ReplayedBy → (second : List ℕ) → List ℕ → Report → Type 0
+IsReplayedAs version (BySchedule name log) second text r = IsReplayOfText version text (turns_in second) r
+IsReplayedAs version (ByLog name steps) second text r = IsReplayOfLog version text second r × HasFewSteps second steps
 
 -- the file that the log of a replay is written to, where one is named
 abbrev pub log_beside : ReplayedBy → Option (Bor (List ℕ))

@@ -1,10 +1,11 @@
 -- What is done of the bytes of a file, and what is told of it.
 use Rattle.std.proofs.Common.{Bor}
-use Rattle.std.specs.Prelude.{codes, ◌≡◌, ◌++◌, ℕ, Bool, true, false, List, [], Option, Some, None, length, map}
+use Rattle.std.specs.Prelude.{codes, ◌≡◌, ◌⊎◌, ℕ, Bool, true, false, List, [], Option, Some, None, length, map}
 use Rattle.std.specs.List.{flat_map}
 use Rattle.words.specs.declared.version.ImageVersion.{ImageVersion}
+use Rattle.words.specs.declared.version.ImageVersion.TheVariants.{Linux}
 use Rattle.isa.specs.Programs.{Program}
-use Rattle.isa.specs.Spelling.{IsSpelled, spelling}
+use Rattle.isa.specs.Spelling.{HasByte, IsSpelled, spelling}
 use Rattle.isa.specs.Lines.{lines}
 use Rattle.scanner.specs.declared.refusal.Refusal.{Refusal}
 use Rattle.assembler.specs.Listings.{IsAssembled}
@@ -15,6 +16,7 @@ use Rattle.source_states.specs.Actions.{action_of}
 use Rattle.actionlines.specs.Lines.{line}
 use Rattle.backend.specs.Refusals.{CodeFits}
 use Rattle.commandline.specs.declared.options.ChartOptions.{ChartOptions}
+use Rattle.commandline.specs.declared.options.Exits.{Exits}
 use Rattle.commandline.specs.declared.options.ExplainedBy.{ExplainedBy}
 use Rattle.commandline.specs.declared.options.ImageForm.{ImageForm}
 use Rattle.commandline.specs.declared.options.RunOptions.{RunOptions}
@@ -27,7 +29,7 @@ use Rattle.answers.specs.Answers.{AreDrawn, ArePuts, AreTold, TellsAlone, TellsR
 use Rattle.answers.specs.Answers.{status_of_verdict}
 use Rattle.answers.specs.Asked.{IsExplainedAs, outside_by}
 use Rattle.answers.specs.ImageLine.{image_line}
-use Rattle.answers.specs.Images.{IsImageOf}
+use Rattle.answers.specs.Images.{IsImageBy}
 
 -- the text was checked, and it was told that it is a program
 pub record HasChecked (text : List ℕ) (a : Answer) : Type 0 where
@@ -65,11 +67,15 @@ pub record TellsLines (more : Bool) (lines : List ℕ) (a : Answer) : Type 0 whe
   pub account : a.account.items ≡ []
   pub files : ArePuts None a.files
 
--- the bytes spell an image, and the lines of its instructions were told
-pub record HasListed (more : Bool) (bytes : List ℕ) (a : Answer) : Type 0 where
+-- the image that is listed: the bytes spell it; or where a source text's code for Linux is asked for, they are that text
+abbrev pub IsListed : (linux : Bool) → (bytes : List ℕ) → Program → Type 0
+IsListed false bytes image = HasByte image.version × IsSpelled image × (spelling image ≡ bytes)
+IsListed true bytes image = IsCompiledAs Linux bytes image
+
+-- the lines of its instructions were told
+pub record HasListed (linux more : Bool) (bytes : List ℕ) (a : Answer) : Type 0 where
   pub image : Program
-  pub spelled : IsSpelled image
-  pub is : spelling image ≡ bytes
+  pub is : IsListed linux bytes image
   pub tells : TellsLines more (lines 0 image.code) a
 
 -- the text was run so, and that was told and logged, and shown on a page where that is wanted
@@ -87,11 +93,12 @@ pub record RunsImage (options : RunOptions) (image : Program) (a : Answer) : Typ
   pub run : IsReport image (outside_by options.order) options.steps report
   pub tells : TellsReport report options.trace options.log None a
 
--- the image in a file of this form was run so
-pub record HasExecuted (form : ImageForm) (options : RunOptions) (bytes : List ℕ) (a : Answer) : Type 0 where
-  pub image : Program
-  pub is : IsImageOf form bytes image
-  pub runs : RunsImage options image a
+-- the image in a file of this form was run so, by this rule of exits
+pub record HasExecuted (exits : Exits) (form : ImageForm) (options : RunOptions) (bytes : List ℕ) (a : Answer) : Type 0
+  where
+    pub image : Program
+    pub is : IsImageBy exits form bytes image
+    pub runs : RunsImage options image a
 
 -- the lines of the actions of an explained run, by the names of its program
 abbrev pub explained_lines : ExplainedRun → List ℕ
@@ -108,18 +115,26 @@ pub record TellsRun (places : Bool) (chart : Option ChartOptions) (timeline page
     pub account : a.account.items ≡ []
     pub files : AreDrawn chart timeline page a.files
 
--- the text was run as was asked for and its run explained, or a log of it, and that was told
-pub record HasExplained (by : ExplainedBy) (second : List ℕ) (places : Bool) (chart : Option ChartOptions)
-    (timeline page : Option (Bor (List ℕ))) (text : List ℕ) (a : Answer)
+-- the text's code for this version was run as was asked for and its run explained, or a log of it, and that was told
+pub record HasExplained (version : ImageVersion) (by : ExplainedBy) (second : List ℕ) (places : Bool)
+    (chart : Option ChartOptions) (timeline page : Option (Bor (List ℕ))) (text : List ℕ) (a : Answer)
     : Type 0
   where
     pub explained_run : ExplainedRun
-    pub explained : IsExplainedAs by second text explained_run
+    pub explained : IsExplainedAs version by second text explained_run
     pub tells : TellsRun places chart timeline page explained_run a
 
+-- this is the refusal of a source text whose code is to be listed
+abbrev pub RefusesListed : (linux : Bool) → (bytes : List ℕ) → Refusal → Type 0
+RefusesListed false bytes e = ⊥
+RefusesListed true bytes e = RefusesTextAs Linux bytes e
+
 -- this is the refusal of the source beside an image, where one is named, for an image of the version of that one
-pub record RefusesBeside (bytes second : List ℕ) (e : Refusal) : Type 0 where
+pub record RefusesBeside (linux : Bool) (bytes second : List ℕ) (e : Refusal) : Type 0 where
   pub image : Program
-  pub spelled : IsSpelled image
-  pub is : spelling image ≡ bytes
+  pub is : IsListed linux bytes image
   pub refuses : RefusesTextAs image.version second e
+
+-- this is a refusal of a listing
+abbrev pub RefusesListing : (linux : Bool) → (bytes second : List ℕ) → Refusal → Type 0
+RefusesListing linux bytes second e = RefusesListed linux bytes e ⊎ RefusesBeside linux bytes second e

@@ -7,12 +7,13 @@ use Rattle.std.specs.Global.{Global}
 use Rattle.std.specs.List.{flat_map}
 use Rattle.words.specs.declared.outcome.Cause.{Cause}
 use Rattle.words.specs.declared.outcome.Outcome.TheVariants as outcome
+use Rattle.words.specs.declared.version.ImageVersion.{ImageVersion}
 use Rattle.machine.specs.PieceStates.{PieceState}
 use Rattle.machine.specs.PieceSteps.{PieceRun}
 use Rattle.machine.specs.Runs.{CanStep, MachineRun, Step}
 use Rattle.machine.specs.States.{State}
 use Rattle.program.specs.Names.{Naming, said_by}
-use Rattle.program.specs.Trees.{Program}
+use Rattle.program.specs.Trees.{Program, as_version}
 use Rattle.lowering.specs.Pieces.{code_of}
 use Rattle.proof_exploration.specs.Exploring.{IsStuck}
 use Rattle.refinement.specs.Pieces.{RestsInPieces}
@@ -69,11 +70,12 @@ pub record HoldsOfImage (p : Program) (may : Outside) (e : Exploration) : Type 0
       → 0 < buckets → PieceRun (code_of p) buckets steps s → length steps < 2 ^ 32 → IsSearched p may steps
       → machine_end s.base q ≡ Some (outcome.Aborted cause) → IsCounted may cause → ⊥
 
--- the text's program, what was found of it, and what that says of its image
-pub record IsExploredText (text : List ℕ) (may : Outside) (most : ℕ) (r : ExploredText) : Type 0 where
-  pub accepts : AcceptsText text (said_by r.checked)
-  pub found : IsFoundOf (said_by r.checked) may most r.exploration
-  pub image : HoldsOfImage (said_by r.checked) may r.exploration
+-- the text's program, what was found of it, and what that says of its image of this version
+pub record IsExploredText (version : ImageVersion) (text : List ℕ) (may : Outside) (most : ℕ) (r : ExploredText) : Type 0
+  where
+    pub accepts : AcceptsText text (said_by r.checked)
+    pub found : IsFoundOf (said_by r.checked) may most r.exploration
+    pub image : HoldsOfImage (as_version version (said_by r.checked)) may r.exploration
 
 -- the line of how many states were kept
 abbrev pub states_line : ℕ → Bool → List ℕ
@@ -155,11 +157,11 @@ pub record TellsFound (may : Outside) (places : Bool) (chart : Option ChartOptio
     pub files : AreDrawnIf (is_found r.exploration) chart timeline page a.files
 
 -- all runs of the text's program were searched, with as much from outside as may be and keeping so many states at most, and
--- what was found was told
-pub record HasExplored (may : Outside) (most : ℕ) (places : Bool) (chart : Option ChartOptions) (timeline page : Option (Bor (List ℕ)))
-    (text : List ℕ) (a : Answer)
+-- what was found was told; of the image of this version that says what it says
+pub record HasExplored (version : ImageVersion) (may : Outside) (most : ℕ) (places : Bool) (chart : Option ChartOptions)
+    (timeline page : Option (Bor (List ℕ))) (text : List ℕ) (a : Answer)
     : Type 0
   where
     pub explored_text : ExploredText
-    pub explored : IsExploredText text may most explored_text
+    pub explored : IsExploredText version text may most explored_text
     pub tells : TellsFound may places chart timeline page explored_text a

@@ -3,10 +3,14 @@ use Rattle.std.proofs.Common.{Bor}
 use Rattle.std.specs.Prelude.{ℕ, ◌≡◌, ◌≤◌, ◌++◌, Bool, true, false, List, [], Option, Some, None, codes, if◌then◌else◌, nat_lt, ⊤}
 use Rattle.std.specs.Fmt.{decimal}
 use Rattle.std.specs.List.{flat_map}
+use Rattle.words.specs.declared.version.ImageVersion.{ImageVersion}
+use Rattle.words.specs.declared.version.ImageVersion.TheVariants.{One, Two, Linux}
 use Rattle.isa.specs.Programs.{Program}
-use Rattle.isa.specs.Spelling.{IsSpelled, spelling}
+use Rattle.isa.specs.Spelling.{HasByte, IsSpelled, spelling}
 use Rattle.assembler.specs.Listings.{IsAssembled, RefusesText}
 use Rattle.assembler.specs.declared.refusal.AssemblyRefusal.{AssemblyRefusal}
+use Rattle.commandline.specs.declared.options.Exits.{Exits}
+use Rattle.commandline.specs.declared.options.Exits.TheVariants as exits
 use Rattle.commandline.specs.declared.options.ImageForm.{ImageForm}
 use Rattle.commandline.specs.declared.options.ImageForm.TheVariants as form
 use Rattle.commandline.specs.declared.options.ReplayedBy.{ReplayedBy}
@@ -42,7 +46,24 @@ use Rattle.answers.specs.declared.status.Status.TheVariants.{Done, Stuck, Limit,
 -- the image in a file of this form
 abbrev pub IsImageOf : ImageForm → List ℕ → Program → Type 0
 IsImageOf form.Assembly text p = IsAssembled text p
-IsImageOf form.Image bytes p = IsSpelled p × (spelling p ≡ bytes)
+IsImageOf form.Image bytes p = HasByte p.version × IsSpelled p × (spelling p ≡ bytes)
+
+-- the first version, whose images aren't run by Linux's rule of exits
+abbrev pub is_first : ImageVersion → Bool
+is_first One = true
+is_first Two = false
+is_first Linux = false
+
+-- an image as it is run by this rule: by Linux's with the version that has it
+abbrev pub IsRunBy : Exits → Program → Program → Type 0
+IsRunBy exits.Machine p q = q ≡ p
+IsRunBy exits.Linux p q = (is_first p.version ≡ false) × (q ≡ record p { version = Linux })
+
+-- the image in a file of this form, as it is run by this rule
+pub record IsImageBy (exits : Exits) (form : ImageForm) (bytes : List ℕ) (image : Program) : Type 0 where
+  pub own : Program
+  pub is : IsImageOf form bytes own
+  pub by : IsRunBy exits own image
 
 -- the refusal of an assembly text in a file of this form
 abbrev pub UnassemblesAs : ImageForm → List ℕ → AssemblyRefusal → Type 0
@@ -67,11 +88,14 @@ pub record FollowsImage (image : Program) (by : ReplayedBy) (trace : Bool) (seco
   pub followed : IsFollowedAs by image second report
   pub tells : TellsReport report trace (log_beside by) None a
 
--- the same of the image in a file
-pub record HasFollowed (form : ImageForm) (by : ReplayedBy) (trace : Bool) (bytes second : List ℕ) (a : Answer) : Type 0 where
-  pub image : Program
-  pub is : IsImageOf form bytes image
-  pub follows : FollowsImage image by trace second a
+-- the same of the image in a file, by this rule of exits
+pub record HasFollowed (exits : Exits) (form : ImageForm) (by : ReplayedBy) (trace : Bool) (bytes second : List ℕ)
+    (a : Answer)
+    : Type 0
+  where
+    pub image : Program
+    pub is : IsImageBy exits form bytes image
+    pub follows : FollowsImage image by trace second a
 
 -- how a complete search ended
 abbrev pub sleeping_status : Sleeping → Status
@@ -198,29 +222,37 @@ SaysNever p may (ending.Failed turns) = ⊤
 SaysNever p may (ending.Broken turns) = ⊤
 SaysNever p may (ending.Bounded bound) = ⊤
 
--- with kills, by whose rule a thread's exit wakes
-abbrev pub exit_line : Outside → List ℕ
-exit_line may = if nat_lt 0 may.kills then codes "by this machine's exit; Linux wakes less\n" else []
+-- with kills, that a thread's exit wakes by this machine's rule, where it does
+abbrev pub machine_line : Outside → List ℕ
+machine_line may = if nat_lt 0 may.kills then codes "by this machine's exit; Linux wakes less\n" else []
+
+abbrev pub exit_line : Exits → Outside → List ℕ
+exit_line exits.Machine may = machine_line may
+exit_line exits.Linux may = []
 
 -- what was found is told: these lines, and more behind them; it is shown in the files of these names
-pub record TellsSearch (may : Outside) (wanted : SearchFiles) (e : ImageExploration) (a : Answer) : Type 0 where
-  pub ended : a.status ≡ search_status e.sleeping e.ending
-  pub output : (more : List ℕ) × (a.output.items ≡ search_lines may e ++ more)
-  pub account : a.account.items ≡ exit_line may
-  pub files : AreShown wanted e.sleeping e.ending a.files
+pub record TellsSearch (exits : Exits) (may : Outside) (wanted : SearchFiles) (e : ImageExploration) (a : Answer) : Type 0
+  where
+    pub ended : a.status ≡ search_status e.sleeping e.ending
+    pub output : (more : List ℕ) × (a.output.items ≡ search_lines may e ++ more)
+    pub account : a.account.items ≡ exit_line exits may
+    pub files : AreShown wanted e.sleeping e.ending a.files
 
 -- all schedules of the image were searched, keeping so many states at most, and that was told
-pub record SearchesImage (image : Program) (may : Outside) (most : ℕ) (wanted : SearchFiles) (a : Answer) : Type 0 where
-  pub exploration : ImageExploration
-  pub searched : IsSearchOf image (may_of may) most exploration
-  pub never : SaysNever image may exploration.ending
-  pub slept : HasSlept image (may_of may) exploration.ending exploration.sleeping
-  pub tells : TellsSearch may wanted exploration a
+pub record SearchesImage (exits : Exits) (image : Program) (may : Outside) (most : ℕ) (wanted : SearchFiles) (a : Answer)
+    : Type 0
+  where
+    pub exploration : ImageExploration
+    pub searched : IsSearchOf image (may_of may) most exploration
+    pub never : SaysNever image may exploration.ending
+    pub slept : HasSlept image (may_of may) exploration.ending exploration.sleeping
+    pub tells : TellsSearch exits may wanted exploration a
 
--- the same of the image in a file
-pub record HasSearched (form : ImageForm) (may : Outside) (most : ℕ) (wanted : SearchFiles) (bytes : List ℕ) (a : Answer)
+-- the same of the image in a file, by this rule of exits
+pub record HasSearched (exits : Exits) (form : ImageForm) (may : Outside) (most : ℕ) (wanted : SearchFiles)
+    (bytes : List ℕ) (a : Answer)
     : Type 0
   where
     pub image : Program
-    pub is : IsImageOf form bytes image
-    pub searches : SearchesImage image may most wanted a
+    pub is : IsImageBy exits form bytes image
+    pub searches : SearchesImage exits image may most wanted a

@@ -1,4 +1,5 @@
 pub mod Turns
+pub mod Versions
 pub mod Running
 pub mod Alone
 pub mod Replaying

@@ -1,6 +1,7 @@
 -- What a log that comes from outside answers, as the text of its lines: explained, or run again.
 use Rattle.std.specs.Prelude.{◌≡◌, ◌≤◌, ◌<◌, ◌^◌, ◌⊎◌, ℕ, List, length, map}
 use Rattle.words.specs.Limits.{run_buckets}
+use Rattle.words.specs.declared.version.ImageVersion.{ImageVersion}
 use Rattle.isa.specs.Programs.{Program as Image}
 use Rattle.machine.specs.declared.event.Entry.{Entry}
 use Rattle.machine.specs.FrontRuns.{event_label, label_of}
@@ -11,7 +12,7 @@ use Rattle.piece_machine.specs.PieceConcrete.{PieceConcrete, pieces_at}
 use Rattle.piece_machine.specs.PieceViews.{parts}
 use Rattle.scanner.specs.Refusals.{out_of_memory}
 use Rattle.program.specs.Names.{said_by}
-use Rattle.program.specs.Trees.{Program}
+use Rattle.program.specs.Trees.{Program, as_version}
 use Rattle.lowering.specs.Pieces.{code_of}
 use Rattle.refinement.specs.Pieces.{ExplainedInPieces}
 use Rattle.log_simulation.specs.Verdicts.{SaysOf}
@@ -24,11 +25,12 @@ use Rattle.runner.specs.Reports.{IsVerdict}
 use Rattle.runner.specs.declared.report.Report.{Report}
 use Rattle.log_text.specs.Spelled.{IsBadLine, IsLogText}
 use Rattle.simulation.specs.ExplainedLog.{IsExplainedLog, IsLast, LeadsTo, StopsAt}
-use Rattle.compiler.specs.Accepts.{AcceptsText, RefusesText}
+use Rattle.compiler.specs.Accepts.{AcceptsText, RefusesTextAs}
 use Rattle.answers.specs.declared.explained_run.ExplainedRun.{ExplainedRun}
 use Rattle.answers.specs.declared.source_log.SourceLogFault.{SourceLogFault}
 use Rattle.answers.specs.declared.source_log.SourceLogFault.TheVariants.{Refused, Line, Entry as Entry', Steps, Memory}
 use Rattle.answers.specs.LogLimits.{HasManySteps}
+use Rattle.answers.specs.Versions.{code_as}
 
 -- why lines aren't read
 abbrev pub ReadsNone : List ℕ → SourceLogFault → Type 0
@@ -60,15 +62,17 @@ pub record IsReportOfLog (p : Program) (entries : List Entry) (r : Report) : Typ
   pub output : r.output.items ≡ (concrete r.last.view).common.output
   pub verdict : IsVerdict (concrete r.last.view) r.verdict
 
--- the lines are those of a log of the code of the text's program, and the actions are its explanation; the verdict on where
--- it leads is one on the source
-pub record IsExplanationOfLog (text lines : List ℕ) (r : ExplainedRun) : Type 0 where
+-- the lines are those of a log of the code of the text's program for this version, and the actions are its explanation; the
+-- verdict on where it leads is one on the source
+pub record IsExplanationOfLog (version : ImageVersion) (text lines : List ℕ) (r : ExplainedRun) : Type 0 where
   pub accepts : AcceptsText text (said_by r.checked)
   pub entries : List Entry
   pub reads : IsLogText lines entries
-  pub explained : IsExplainedLog (said_by r.checked) (code_of (said_by r.checked)) entries (map action_of r.actions.items)
-  pub report : IsReportOfLog (said_by r.checked) entries r.report
-  pub says : SaysOf r.report.verdict (said_by r.checked) explained.recorded.explained.explained.source
+  pub explained : IsExplainedLog (as_version version (said_by r.checked)) (code_as version (said_by r.checked)) entries
+      (map action_of r.actions.items)
+  pub report : IsReportOfLog (as_version version (said_by r.checked)) entries r.report
+  pub says : SaysOf r.report.verdict (as_version version (said_by r.checked))
+      explained.recorded.explained.explained.source
 
 -- the text is a program's, and the lines are those of entries
 pub record ReadsLog (text lines : List ℕ) : Type 0 where
@@ -83,10 +87,10 @@ pub record HasBadLine (text lines : List ℕ) (number : ℕ) : Type 0 where
   pub accepts : AcceptsText text program
   pub bad : IsBadLine lines number
 
--- the entry of this number is the first with which the log is none of the code of the text's program
-pub record HasBadEntry (text lines : List ℕ) (number : ℕ) : Type 0 where
+-- the entry of this number is the first with which the log is none of the code of the text's program for this version
+pub record HasBadEntry (version : ImageVersion) (text lines : List ℕ) (number : ℕ) : Type 0 where
   pub log : ReadsLog text lines
-  pub stops : StopsAt (code_of log.program) log.entries number
+  pub stops : StopsAt (code_as version log.program) log.entries number
 
 -- the text is a program's, and the lines are those of a log of more steps than these
 pub record HasLongLog (text lines : List ℕ) (most : ℕ) : Type 0 where
@@ -95,12 +99,12 @@ pub record HasLongLog (text lines : List ℕ) (most : ℕ) : Type 0 where
   pub many : HasManySteps lines most
 
 -- why a log of at most so many steps isn't explained
-abbrev pub IsRefusedLog : List ℕ → List ℕ → (most : ℕ) → SourceLogFault → Type 0
-IsRefusedLog text lines most (Refused e) = (e ≡ out_of_memory) ⊎ RefusesText text e
-IsRefusedLog text lines most (Line number) = HasBadLine text lines number
-IsRefusedLog text lines most (Steps n) = (n ≡ most) × HasLongLog text lines most
-IsRefusedLog text lines most (Entry' number) = HasBadEntry text lines number
-IsRefusedLog text lines most Memory = Unit {0}
+abbrev pub IsRefusedLog : ImageVersion → List ℕ → List ℕ → (most : ℕ) → SourceLogFault → Type 0
+IsRefusedLog version text lines most (Refused e) = (e ≡ out_of_memory) ⊎ RefusesTextAs version text e
+IsRefusedLog version text lines most (Line number) = HasBadLine text lines number
+IsRefusedLog version text lines most (Steps n) = (n ≡ most) × HasLongLog text lines most
+IsRefusedLog version text lines most (Entry' number) = HasBadEntry version text lines number
+IsRefusedLog version text lines most Memory = Unit {0}
 
 -- no refusal of the text but for want of memory
 abbrev pub IsOfLog : SourceLogFault → Type 0
@@ -110,15 +114,16 @@ IsOfLog (Entry' number) = Unit {0}
 IsOfLog (Steps n) = Unit {0}
 IsOfLog Memory = Unit {0}
 
--- the text is a program's whose code fits, and the lines are those of a log of a run of it of at most so many steps
-pub record LinesOfRun (text lines : List ℕ) (most : ℕ) : Type 0 where
+-- the text is a program's whose code for this version fits, and the lines are those of a log of a run of it of at most so
+-- many steps
+pub record LinesOfRun (version : ImageVersion) (text lines : List ℕ) (most : ℕ) : Type 0 where
   pub program : Program
   pub accepts : AcceptsText text program
-  pub fits : CodeFits program
+  pub fits : CodeFits (as_version version program)
   pub entries : List Entry
   pub reads : IsLogText lines entries
   pub machine : PieceConcrete
-  pub legal : LeadsTo (code_of program) entries machine
+  pub legal : LeadsTo (code_as version program) entries machine
   pub short : cost entries < 2 ^ 32
   pub few : cost entries ≤ most
 
@@ -128,28 +133,29 @@ IsWantOfMemory (Refused e) = e ≡ out_of_memory
 IsWantOfMemory Memory = Unit {0}
 IsWantOfMemory fault = ⊥
 
--- the report of the code of the text's program, run by the threads and counts of the log that the lines are: a run of the
--- machine, whose steps are those of the report's own log, one by one, and which a run of the program explains; its verdict
--- is one on the source
-pub record IsReplayOfLog (text lines : List ℕ) (report : Report) : Type 0 where
+-- the report of the code of the text's program for this version, run by the threads and counts of the log that the lines
+-- are: a run of the machine, whose steps are those of the report's own log, one by one, and which a run of the program
+-- explains; its verdict is one on the source
+pub record IsReplayOfLog (version : ImageVersion) (text lines : List ℕ) (report : Report) : Type 0 where
   pub log : ReadsLog text lines
-  pub followed : IsFollowedLog (code_of log.program) log.entries report
+  pub followed : IsFollowedLog (code_as version log.program) log.entries report
   pub steps : List Step
   pub count : length steps ≡ cost report.log.items
   pub labels : map label_of steps ≡ map event_label (steps_of report.log.items)
-  pub machine_run : PieceRun (code_of log.program) run_buckets steps (pieces_at (parts report.last))
-  pub explained : ExplainedInPieces log.program (code_of log.program) steps (pieces_at (parts report.last))
-  pub says : SaysOf report.verdict log.program explained.source
+  pub machine_run : PieceRun (code_as version log.program) run_buckets steps (pieces_at (parts report.last))
+  pub explained : ExplainedInPieces (as_version version log.program) (code_as version log.program) steps
+      (pieces_at (parts report.last))
+  pub says : SaysOf report.verdict (as_version version log.program) explained.source
 
--- the entry of this number is the first that the code of the text's program can't follow
-pub record CannotFollow (text lines : List ℕ) (number : ℕ) : Type 0 where
+-- the entry of this number is the first that the code of the text's program for this version can't follow
+pub record CannotFollow (version : ImageVersion) (text lines : List ℕ) (number : ℕ) : Type 0 where
   pub log : ReadsLog text lines
-  pub fails : IsBadLogEntry (code_of log.program) log.entries number
+  pub fails : IsBadLogEntry (code_as version log.program) log.entries number
 
 -- why a log of at most so many steps isn't run again
-abbrev pub IsUnfollowedLog : List ℕ → List ℕ → (most : ℕ) → SourceLogFault → Type 0
-IsUnfollowedLog text lines most (Refused e) = (e ≡ out_of_memory) ⊎ RefusesText text e
-IsUnfollowedLog text lines most (Line number) = HasBadLine text lines number
-IsUnfollowedLog text lines most (Steps n) = (n ≡ most) × HasLongLog text lines most
-IsUnfollowedLog text lines most (Entry' number) = CannotFollow text lines number
-IsUnfollowedLog text lines most Memory = Unit {0}
+abbrev pub IsUnfollowedLog : ImageVersion → List ℕ → List ℕ → (most : ℕ) → SourceLogFault → Type 0
+IsUnfollowedLog version text lines most (Refused e) = (e ≡ out_of_memory) ⊎ RefusesTextAs version text e
+IsUnfollowedLog version text lines most (Line number) = HasBadLine text lines number
+IsUnfollowedLog version text lines most (Steps n) = (n ≡ most) × HasLongLog text lines most
+IsUnfollowedLog version text lines most (Entry' number) = CannotFollow version text lines number
+IsUnfollowedLog version text lines most Memory = Unit {0}

@@ -4,21 +4,27 @@ ghost use Rattle.program.specs.Names.{said_by};
 ghost use Rattle.program.specs.Trees.{Program, as_version};
 ghost use Rattle.source_states.specs.Actions.{action_of};
 ghost use Rattle.runner.specs.Logs.{cost};
-ghost use Rattle.runner.specs.Logs.{nothing_outside, outside_of};
+ghost use Rattle.runner.specs.Logs.{outside_of};
+ghost use Rattle.runner.specs.Orders.{IsInOrder};
 ghost use Rattle.runner.specs.Reports.{CanFail, IsReport};
 ghost use Rattle.simulation.specs.ExplainedLog.{IsExplainedLog, LeadsTo};
 ghost use Rattle.backend.specs.Lowered.{IsLowered};
 ghost use Rattle.backend.specs.Refusals.{CodeFits};
 ghost use Rattle.compiler.specs.Accepts.{AcceptsText};
-ghost use Rattle.compiler.specs.Compiles.{IsCompiled};
+ghost use Rattle.compiler.specs.Compiles.{IsCompiledAs};
+ghost use Rattle.commandline.specs.CommandLine.{version_by};
+ghost use Rattle.words.specs.declared.version.ImageVersion.{ImageVersion as VersionOf};
 ghost use Rattle.answers.specs.Alone.{outside_alone};
 ghost use Rattle.answers.specs.Explaining.{IsExplanation, IsExplanationOfText, IsRefusedExplanation, IsWantOfMemory};
+ghost use Rattle.answers.specs.Running.{IsRunInOrder};
+ghost use Rattle.answers.specs.declared.explained_run.Alone.TheVariants.{InOrder};
 ghost use Rattle.answers.specs.Replaying.{IsReplayOfText, IsRefusedReplay, IsNoRefusal};
 ghost use Rattle.answers.specs.declared.explained_run.ExplainSourceFault.TheVariants.{Refused, Memory};
 
+use crate::compiled::compile_checked_by;
 use crate::replaying::{ReplayFault, follow_compiled};
 use backend::Lowered;
-use compiler::compile_checked;
+use commandline::Exits;
 use isa::Image;
 use packed_log::LogReader;
 use program::Checked;
@@ -77,6 +83,7 @@ enum Alone {
 // Runs an image on the calling thread.
 fn run_alone(alloc: Global, image: &Image, limit: u32, order: Alone) -> Result<Report, RunFault>
     ensures ok { IfOk result (λ report. IsReport image.now (outside_alone order) limit report) }
+    ensures order { order ≡ InOrder → IfOk result (λ report. IsInOrder image.now limit report.log.items) }
     ensures err { IfErr result (λ fault. CanFail image.now (outside_alone order) limit fault) }
 {
     match order {
@@ -96,9 +103,10 @@ fn run_image(
     limit: u32,
     order: Alone,
 ) -> Result<Report, ExplainSourceFault>
-    requires { (text : List ℕ) × IsCompiled text image.now }
-    ensures { MatchResult result (λ report. IsReport image.now (outside_alone order) limit report)
+    requires { (version : VersionOf) × (text : List ℕ) × IsCompiledAs version text image.now }
+    ensures report { MatchResult result (λ report. IsReport image.now (outside_alone order) limit report)
         (λ fault. fault ≡ Memory) }
+    ensures order { order ≡ InOrder → IfOk result (λ report. IsInOrder image.now limit report.log.items) }
 {
     logs_are_machine_runs();
     match run_alone(alloc, image, limit, order) {
@@ -135,17 +143,21 @@ fn explain_run(
 fn explain_alone<'a>(
     alloc: Global,
     text: &'a [u8],
+    exits: Exits,
     limit: u32,
     order: Alone,
 ) -> Result<ExplainedRun<'a>, ExplainSourceFault>
     ensures explained { IfOk result
-        (λ run. IsExplanationOfText text.now (outside_alone order) limit run) }
-    ensures fault { IfErr result (λ fault. IsRefusedExplanation text.now fault) }
-    ensures only { (p : Program) → AcceptsText text.now p → CodeFits p
+        (λ run. IsExplanationOfText (version_by exits) text.now (outside_alone order) limit run) }
+    ensures order { order ≡ InOrder → IfOk result
+        (λ run. IsExplanation (version_by exits) text.now (IsRunInOrder (version_by exits) text.now limit) run) }
+    ensures fault { IfErr result (λ fault. IsRefusedExplanation (version_by exits) text.now fault) }
+    ensures only { (p : Program) → AcceptsText text.now p
+        → CodeFits (as_version (version_by exits) p)
         → IfErr result (λ fault. IsWantOfMemory fault) }
 {
     logs_are_machine_runs();
-    let (checked, lowered) = compile_checked(alloc, text)?;
+    let (checked, lowered) = compile_checked_by(alloc, text, exits)?;
     let report = run_image(alloc, &lowered.image, limit, order)?;
     let actions = explain_run(alloc, &checked, lowered, report.log.iter())?;
     Ok(ExplainedRun {
@@ -155,8 +167,8 @@ fn explain_alone<'a>(
     })
 }
 
-/// Compiles a source text, runs its image within a limit of steps as `run_in_order` does, and explains the log: the
-/// actions are a run of the text's program, at whose end the same is seen as of the machine.
+/// Compiles a source text for this rule of exits, runs its image within a limit of steps as `run_in_order` does, and
+/// explains the log: the actions are a run of the text's program, at whose end the same is seen as of the machine.
 ///
 /// # Errors
 ///
@@ -164,14 +176,17 @@ fn explain_alone<'a>(
 pub fn explain_source<'a>(
     alloc: Global,
     text: &'a [u8],
+    exits: Exits,
     limit: u32,
 ) -> Result<ExplainedRun<'a>, ExplainSourceFault>
-    ensures explained { IfOk result (λ run. IsExplanationOfText text.now nothing_outside limit run) }
-    ensures fault { IfErr result (λ fault. IsRefusedExplanation text.now fault) }
-    ensures only { (p : Program) → AcceptsText text.now p → CodeFits p
+    ensures explained { IfOk result
+        (λ run. IsExplanation (version_by exits) text.now (IsRunInOrder (version_by exits) text.now limit) run) }
+    ensures fault { IfErr result (λ fault. IsRefusedExplanation (version_by exits) text.now fault) }
+    ensures only { (p : Program) → AcceptsText text.now p
+        → CodeFits (as_version (version_by exits) p)
         → IfErr result (λ fault. IsWantOfMemory fault) }
 {
-    explain_alone(alloc, text, limit, Alone::InOrder)
+    explain_alone(alloc, text, exits, limit, Alone::InOrder)
 }
 
 /// The same, with the run in the order that follows from a seed, with stray wakes and kills or without, as `run_by_seed`
@@ -183,15 +198,17 @@ pub fn explain_source<'a>(
 pub fn explain_by_seed<'a>(
     alloc: Global,
     text: &'a [u8],
+    exits: Exits,
     limit: u32,
     seed: u64,
     strays: Option<u32>,
     kills: u32,
 ) -> Result<ExplainedRun<'a>, ExplainSourceFault>
     ensures explained { IfOk result
-        (λ run. IsExplanationOfText text.now (outside_of (is_some strays) kills) limit run) }
-    ensures fault { IfErr result (λ fault. IsRefusedExplanation text.now fault) }
-    ensures only { (p : Program) → AcceptsText text.now p → CodeFits p
+        (λ run. IsExplanationOfText (version_by exits) text.now (outside_of (is_some strays) kills) limit run) }
+    ensures fault { IfErr result (λ fault. IsRefusedExplanation (version_by exits) text.now fault) }
+    ensures only { (p : Program) → AcceptsText text.now p
+        → CodeFits (as_version (version_by exits) p)
         → IfErr result (λ fault. IsWantOfMemory fault) }
 {
     let order = Alone::Seed {
@@ -199,10 +216,10 @@ pub fn explain_by_seed<'a>(
         strays,
         kills,
     };
-    explain_alone(alloc, text, limit, order)
+    explain_alone(alloc, text, exits, limit, order)
 }
 
-/// Compiles a source text, runs its image by a schedule as `replay` does, and explains the log.
+/// Compiles a source text for this rule of exits, runs its image by a schedule as `replay` does, and explains the log.
 ///
 /// # Errors
 ///
@@ -210,15 +227,18 @@ pub fn explain_by_seed<'a>(
 pub fn explain_schedule<'a>(
     alloc: Global,
     text: &'a [u8],
+    exits: Exits,
     schedule: &[Turn],
 ) -> Result<ExplainedRun<'a>, ReplayFault>
     ensures explained { IfOk result
-        (λ run. IsExplanation text.now (IsReplayOfText text.now schedule.now) run) }
-    ensures fault { IfErr result (λ fault. IsRefusedReplay text.now schedule.now fault) }
-    ensures only { (p : Program) → AcceptsText text.now p → CodeFits p
-        → IfErr result (λ fault. IsNoRefusal fault) }
+        (λ run. IsExplanation (version_by exits) text.now
+        (IsReplayOfText (version_by exits) text.now schedule.now) run) }
+    ensures fault { IfErr result
+        (λ fault. IsRefusedReplay (version_by exits) text.now schedule.now fault) }
+    ensures only { (p : Program) → AcceptsText text.now p
+        → CodeFits (as_version (version_by exits) p) → IfErr result (λ fault. IsNoRefusal fault) }
 {
-    let (checked, lowered) = compile_checked(alloc, text)?;
+    let (checked, lowered) = compile_checked_by(alloc, text, exits)?;
     let report = follow_compiled(alloc, &lowered.image, schedule)?;
     let Ok(actions) = explain_run(alloc, &checked, lowered, report.log.iter()) else {
         return Err(ReplayFault::Memory);

@@ -1,5 +1,6 @@
 ghost use Rattle.std.specs.Prelude.{IfOk, IfErr, true};
-ghost use Rattle.compiler.specs.Accepts.{RefusesText};
+ghost use Rattle.compiler.specs.Accepts.{RefusesTextAs};
+ghost use Rattle.commandline.specs.CommandLine.{version_by};
 ghost use Rattle.answers.specs.Asked.{IsExplainedAs};
 ghost use Rattle.answers.specs.Answers.{AreTold};
 ghost use Rattle.answers.specs.Done.{HasExplained, TellsRun, explained_lines};
@@ -38,9 +39,10 @@ pub fn answer_explain<'a>(
     places: bool,
     told: &mut String,
 ) -> Result<Answer<'a>, NoAnswer<'a>>
-    ensures done { IfOk result (HasExplained by.entry second.now places drawings.entry.chart
-        drawings.entry.timeline drawings.entry.page text.now.bytes.now) }
-    ensures refused { IfErr result (IsRefusalBy (RefusesText text.now.bytes.now)) }
+    ensures done { IfOk result (HasExplained (version_by text.now.exits) by.entry second.now places
+        drawings.entry.chart drawings.entry.timeline drawings.entry.page text.now.bytes.now) }
+    ensures refused { IfErr result
+        (IsRefusalBy (RefusesTextAs (version_by text.now.exits) text.now.bytes.now)) }
 {
     let run = explain_by(alloc, text, second, by, told)?;
     tell_explained(alloc, told, text, &run, by);
@@ -132,17 +134,19 @@ fn explain_by<'a, 't>(
     by: ExplainedBy<'a>,
     told: &mut String,
 ) -> Result<ExplainedRun<'t>, NoAnswer<'a>>
-    ensures run { IfOk result (λ run. IsExplainedAs by.entry second.now text.now.bytes.now run) }
-    ensures refused { IfErr result (IsRefusalBy (RefusesText text.now.bytes.now)) }
+    ensures run { IfOk result (λ run. IsExplainedAs (version_by text.now.exits) by.entry
+        second.now text.now.bytes.now run) }
+    ensures refused { IfErr result
+        (IsRefusalBy (RefusesTextAs (version_by text.now.exits) text.now.bytes.now)) }
 {
     match by {
-        ExplainedBy::Order { steps } => Ok(explain_source(alloc, text.bytes, steps)?),
+        ExplainedBy::Order { steps } => Ok(explain_source(alloc, text.bytes, text.exits, steps)?),
         ExplainedBy::Seed {
             steps,
             seed,
             strays,
             kills,
-        } => Ok(explain_by_seed(alloc, text.bytes, steps, seed, strays, kills)?),
+        } => Ok(explain_by_seed(alloc, text.bytes, text.exits, steps, seed, strays, kills)?),
         ExplainedBy::Schedule(_) => explain_turns(alloc, text, second, told),
         ExplainedBy::Log { steps, .. } => explain_log(alloc, text, second, steps, told),
     }
@@ -155,12 +159,13 @@ fn explain_turns<'a, 't>(
     schedule: &[u8],
     told: &mut String,
 ) -> Result<ExplainedRun<'t>, NoAnswer<'a>>
-    ensures run { IfOk result (λ run. IsExplanation text.now.bytes.now
-        (IsReplayOfText text.now.bytes.now (turns_in schedule.now)) run) }
-    ensures refused { IfErr result (IsRefusalBy (RefusesText text.now.bytes.now)) }
+    ensures run { IfOk result (λ run. IsExplanation (version_by text.now.exits) text.now.bytes.now
+        (IsReplayOfText (version_by text.now.exits) text.now.bytes.now (turns_in schedule.now)) run) }
+    ensures refused { IfErr result
+        (IsRefusalBy (RefusesTextAs (version_by text.now.exits) text.now.bytes.now)) }
 {
     let turns = schedule_of(alloc, schedule)?;
-    match explain_schedule(alloc, text.bytes, turns.as_slice()) {
+    match explain_schedule(alloc, text.bytes, text.exits, turns.as_slice()) {
         Ok(run) => Ok(run),
         Err(fault) => Err(told_turn(alloc, told, text, turns.as_slice(), fault)),
     }
@@ -174,14 +179,16 @@ fn explain_log<'a, 't>(
     steps: u32,
     told: &mut String,
 ) -> Result<ExplainedRun<'t>, NoAnswer<'a>>
-    ensures run { IfOk result (λ run. IsExplanationOfLog text.now.bytes.now lines.now run
-        × HasFewSteps lines.now steps) }
-    ensures refused { IfErr result (IsRefusalBy (RefusesText text.now.bytes.now)) }
+    ensures run { IfOk result
+        (λ run. IsExplanationOfLog (version_by text.now.exits) text.now.bytes.now
+        lines.now run × HasFewSteps lines.now steps) }
+    ensures refused { IfErr result
+        (IsRefusalBy (RefusesTextAs (version_by text.now.exits) text.now.bytes.now)) }
 {
     if lines.len() > log_bytes(steps) {
         return Err(NoAnswer::Failed(Failure::LogBytes(log_bytes(steps))));
     }
-    match explain_log_text(alloc, text.bytes, lines, steps) {
+    match explain_log_text(alloc, text.bytes, text.exits, lines, steps) {
         Ok(run) => Ok(run),
         Err(fault) => Err(told_entry(alloc, told, text, lines, fault)),
     }

@@ -1,7 +1,8 @@
 ghost use Rattle.std.specs.Prelude.{◌≡◌, ◌++◌, ◌⊎◌, IfOk, IfErr, MatchResult, OnOk, is_some, string_bytes, true};
 ghost use Rattle.scanner.specs.Refusals.{out_of_memory};
 ghost use Rattle.program.specs.Names.{naming_of, said_by};
-ghost use Rattle.compiler.specs.Accepts.{RefusesText};
+ghost use Rattle.compiler.specs.Accepts.{RefusesTextAs};
+ghost use Rattle.commandline.specs.CommandLine.{version_by};
 ghost use Rattle.answers.specs.Answers.{AreTold};
 ghost use Rattle.answers.specs.Exploring.{blocked_line, blocked_lines, end_lines, explored_lines, explored_status};
 ghost use Rattle.answers.specs.Exploring.{is_blocked, is_failed, is_found, none_aborts, process_word, states_line};
@@ -10,6 +11,7 @@ ghost use Rattle.std.specs.List.{flat_map};
 ghost use Rattle.answers.specs.Failures.{HasNoMemory, IsRefusalBy};
 
 use crate::answer::{Answer, OutFiles};
+use crate::compiled::compile_checked_by;
 use crate::drawing::{Drawings, ShownRun};
 use crate::failure::NoAnswer;
 use crate::hinting::SourceText;
@@ -17,7 +19,8 @@ use crate::status::Status;
 use crate::telling::tell_found;
 use crate::titles::title_of_found;
 use actionlines::action_lines;
-use compiler::{compile_checked, text_laws};
+use commandline::Exits;
+use compiler::text_laws;
 use image_ends::image_laws;
 use line_tails::put_beside;
 use packed_log::PackedLog;
@@ -39,13 +42,15 @@ pub struct ExploredText<'a> {
 }
 
 /// Searches all runs of the program of a source text, keeping at most so many states: for one that gets stuck, for one in
-/// which a process aborts, and where nothing comes from outside for one at whose end a process is blocked for good. With strays, processes that wait on a condition are also woken by nobody; with kills,
-/// so many processes at most are killed, wherever they stand, and who was killed doesn't count as one that aborts.
+/// which a process aborts, and where nothing comes from outside for one at whose end a process is blocked for good.
+/// With strays, processes that wait on a condition are also woken by nobody; with kills, so many processes at most are
+/// killed, wherever they stand, and who was killed doesn't count as one that aborts.
 ///
-/// The search is complete unless it met a bound, which `Exploration::bound` names: as many states are kept as may be, or one
-/// of the others. Where it was complete and found none, there is none, and so no schedule of the text's image hangs, or has a
-/// thread that aborts: with strays whatever wakes come from outside, else as long as none do; and as long as no more
-/// threads are killed. That is so where futex calls are whole, and where they are taken in pieces.
+/// The search is complete unless it met a bound, which `Exploration::bound` names: as many states are kept as may be,
+/// or one of the others. Where it was complete and found none, there is none, and so no schedule of the text's image
+/// hangs, or has a thread that aborts: with strays whatever wakes come from outside, else as long as none do; and as
+/// long as no more threads are killed. That is so where futex calls are whole, and where they are taken in pieces, by
+/// this rule of exits.
 ///
 /// How far the search has come is told as it goes.
 ///
@@ -55,16 +60,18 @@ pub struct ExploredText<'a> {
 pub fn explore_source<'a, P: Progress>(
     alloc: Global,
     text: &'a [u8],
+    exits: Exits,
     most_states: usize,
     outside: Outside,
     progress: &mut P,
 ) -> Result<ExploredText<'a>, Refusal>
-    ensures { MatchResult result (λ explored. IsExploredText text.now outside most_states explored)
-        (λ e. (e ≡ out_of_memory) ⊎ RefusesText text.now e) }
+    ensures { MatchResult result
+        (λ explored. IsExploredText (version_by exits) text.now outside most_states explored)
+        (λ e. (e ≡ out_of_memory) ⊎ RefusesTextAs (version_by exits) text.now e) }
 {
     text_laws();
     image_laws();
-    let (checked, _lowered) = compile_checked(alloc, text)?;
+    let (checked, _lowered) = compile_checked_by(alloc, text, exits)?;
     let exploration = explore_checked(alloc, &checked, most_states, outside, progress)?;
     Ok(ExploredText {
         checked,
@@ -97,11 +104,19 @@ pub fn answer_explore<'a, P: Progress>(
     told: &mut String,
     progress: &mut P,
 ) -> Result<Answer<'a>, NoAnswer<'a>>
-    ensures done { IfOk result (HasExplored outside most_states places drawings.entry.chart
-        drawings.entry.timeline drawings.entry.page text.now.bytes.now) }
-    ensures refused { IfErr result (IsRefusalBy (RefusesText text.now.bytes.now)) }
+    ensures done { IfOk result (HasExplored (version_by text.now.exits) outside most_states places
+        drawings.entry.chart drawings.entry.timeline drawings.entry.page text.now.bytes.now) }
+    ensures refused { IfErr result
+        (IsRefusalBy (RefusesTextAs (version_by text.now.exits) text.now.bytes.now)) }
 {
-    let explored = explore_source(alloc, text.bytes, most_states as usize, outside, progress)?;
+    let explored = explore_source(
+        alloc,
+        text.bytes,
+        text.exits,
+        most_states as usize,
+        outside,
+        progress,
+    )?;
     let found = shown(&explored.exploration);
     tell_found(alloc, told, text, &explored.checked, found);
     found_answer(alloc, text, &explored, outside, drawings, places)

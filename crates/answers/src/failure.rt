@@ -43,6 +43,9 @@ pub enum Failure<'a> {
     /// The bytes are no image.
     #[error("{0}")]
     Image(DecodeFault),
+    /// An image of the first version was to be run by Linux's rule of exits.
+    #[error("image of version 1, by Linux's exits")]
+    FirstVersion,
     /// The run failed.
     #[error("{0}")]
     Run(RunFault),

@@ -1,7 +1,7 @@
 ghost use Rattle.std.specs.Prelude.{◌≡◌, IfOk, IfErr};
 ghost use Rattle.answers.specs.Failures.{IsLeftBy};
-ghost use Rattle.answers.specs.Images.{FollowsImage, HasFollowed, IsFollowedAs, IsFollowedByLines};
-ghost use Rattle.answers.specs.Images.{IsImageOf, UnassemblesAs};
+ghost use Rattle.answers.specs.Images.{FollowsImage, HasFollowed, IsFollowedAs, IsFollowedByLines, IsImageBy};
+ghost use Rattle.answers.specs.Images.{IsImageOf, IsRunBy, UnassemblesAs, is_first};
 ghost use Rattle.answers.specs.Turns.{turns_in};
 ghost use Rattle.runner.specs.Schedules.{IsFollowed};
 
@@ -14,10 +14,11 @@ use crate::running::log_beside;
 use crate::schedule::schedule_of;
 use crate::source_log::{entries_of, follow_entries};
 use assembler::{Assembled, assemble};
-use commandline::{ImageForm, ReplayedBy};
+use commandline::{Exits, ImageForm, ReplayedBy};
 use isa::Image;
 use runner::{Report, ScheduleFault, follow};
 use std::alloc::Global;
+use words::ImageVersion;
 
 /// Runs an image by a schedule or a log, of which `second` has the bytes.
 pub fn answer_follow<'a>(
@@ -28,15 +29,72 @@ pub fn answer_follow<'a>(
     by: ReplayedBy<'a>,
     trace: bool,
 ) -> Result<Answer<'a>, NoAnswer<'a>>
-    ensures done { IfOk result (HasFollowed form by.entry trace text.now.bytes.now second.now) }
+    ensures done { IfOk result (HasFollowed text.now.exits form by.entry trace
+        text.now.bytes.now second.now) }
     ensures refused { IfErr result (IsLeftBy (λ e. ⊥) (UnassemblesAs form text.now.bytes.now)) }
 {
-    let formed = formed_image(alloc, text.bytes, form)?;
+    let formed = formed_image(alloc, text, form)?;
     follow_image(alloc, &formed.image, second, by, trace)
 }
 
-/// The image that these bytes are, in this form, and where it stands in its text, if it has one.
+/// The image that a file has in this form, as it is run by the rule of exits that is asked for, and where it stands in its
+/// text, if it has one. An image of the first version isn't run by Linux's rule.
 pub fn formed_image<'t, 'a>(
+    alloc: Global,
+    text: &SourceText<'t>,
+    form: ImageForm,
+) -> Result<Assembled<'t>, NoAnswer<'a>>
+    ensures image { IfOk result
+        (λ formed. IsImageBy text.now.exits form text.now.bytes.now formed.image) }
+    ensures refused { IfErr result (IsLeftBy (λ e. ⊥) (UnassemblesAs form text.now.bytes.now)) }
+{
+    let formed = own_image(alloc, text.bytes, form)?;
+    run_by(formed, text.exits)
+}
+
+// An image, as it is run by this rule of exits.
+fn run_by<'t, 'a>(formed: Assembled<'t>, exits: Exits) -> Result<Assembled<'t>, NoAnswer<'a>>
+    ensures image { IfOk result (λ run. IsRunBy exits formed.entry.image run.image) }
+    ensures refused { IfErr result (IsLeftBy (λ e. ⊥) (λ e. ⊥)) }
+{
+    match exits {
+        Exits::Machine => Ok(formed),
+        Exits::Linux => run_by_linux(formed),
+    }
+}
+
+// By Linux's, unless it is of the first version.
+fn run_by_linux<'t, 'a>(formed: Assembled<'t>) -> Result<Assembled<'t>, NoAnswer<'a>>
+    ensures image { IfOk result (λ run. IsRunBy Exits.Linux formed.entry.image run.image) }
+    ensures refused { IfErr result (IsLeftBy (λ e. ⊥) (λ e. ⊥)) }
+{
+    let Assembled {
+        image,
+        lines,
+        names,
+    } = formed;
+    if is_first(image.version()) {
+        return Err(NoAnswer::Failed(Failure::FirstVersion));
+    }
+    Ok(Assembled {
+        image: image.as_version(ImageVersion::Linux),
+        lines,
+        names,
+    })
+}
+
+// Whether it is the first version, whose images aren't run by Linux's rule.
+fn is_first(version: ImageVersion) -> bool
+    ensures { result ≡ is_first version }
+{
+    match version {
+        ImageVersion::One => true,
+        ImageVersion::Two | ImageVersion::Linux => false,
+    }
+}
+
+// The image itself.
+fn own_image<'t, 'a>(
     alloc: Global,
     bytes: &'t [u8],
     form: ImageForm,

@@ -1,14 +1,18 @@
 use crate::failure::NoAnswer;
+use commandline::Exits;
 use refusal_hints::hints_of;
 use std::alloc::{AllocError, Global};
 
-/// A source text, and whether hints stand behind what is told of it.
+/// A source text, or an image or an assembly text: by whose rule the exits of its threads wake, and whether hints stand
+/// behind what is told of it.
 #[derive(Clone, Copy)]
 pub struct SourceText<'a> {
     /// The name of its file.
     pub file: &'a str,
     /// Its bytes.
     pub bytes: &'a [u8],
+    /// By whose rule the exits of its threads wake.
+    pub exits: Exits,
     /// Whether hints are wanted.
     pub hints: bool,
 }

@@ -2,6 +2,7 @@
 #![tactic(auto)]
 
 mod answer;
+mod compiled;
 mod compiling;
 mod drawing;
 mod explained_run;

@@ -1,8 +1,9 @@
-ghost use Rattle.std.specs.Prelude.{IfOk, IfErr, is_some, string_bytes};
+ghost use Rattle.std.specs.Prelude.{IfOk, IfErr, is_some, string_bytes, ◌⊎◌};
 ghost use Rattle.compiler.specs.Accepts.{RefusesTextAs};
 ghost use Rattle.isa.specs.Lines.{lines};
 ghost use Rattle.answers.specs.Answers.{AreTold};
-ghost use Rattle.answers.specs.Done.{HasListed, RefusesBeside, TellsLines};
+ghost use Rattle.answers.specs.Done.{HasListed, IsListed, RefusesListed, RefusesListing, TellsLines};
+ghost use Rattle.compiler.specs.Compiles.{IsCompiledAs};
 ghost use Rattle.answers.specs.Failures.{IsRefusalBy};
 
 use crate::answer::{Answer, OutFiles};
@@ -10,12 +11,14 @@ use crate::failure::{Failure, NoAnswer};
 use crate::hinting::{SourceText, tell_refused};
 use crate::images::image_of;
 use crate::status::Status;
-use compiler::compile_checked_as;
+use commandline::Exits;
+use compiler::{compile_as, compile_checked_as};
 use isa::{Image, encode, list_lines};
 use line_tails::put_beside;
 use program::Checked;
 use source_listing::{Listing, listing_of};
 use std::alloc::{AllocError, Global};
+use words::ImageVersion;
 
 // Whether two images are one.
 fn are_same(alloc: Global, a: &Image, b: &Image) -> Result<bool, AllocError> {
@@ -81,6 +84,7 @@ fn lines_beside<'a>(
     let text = SourceText {
         file: source,
         bytes: second,
+        exits: Exits::Machine,
         hints,
     };
     let Listing { head, tails } = listing_of_text(alloc, &text, source, image, told)?;
@@ -104,19 +108,67 @@ fn list_image<'a>(
     Ok(Answer::quiet(alloc, Status::Done, output, OutFiles::only(None)))
 }
 
-/// Lists the instructions of the image that these bytes spell, with the lines of the source text of a file, whose image it
-/// has to be, where one is named. `second` has the bytes of that file.
+// The code for Linux of a source text.
+fn code_for_linux<'a>(
+    alloc: Global,
+    text: &SourceText<'_>,
+    hints: bool,
+    told: &mut String,
+) -> Result<Image, NoAnswer<'a>>
+    ensures image { IfOk result (IsCompiledAs ImageVersion.Linux text.now.bytes.now) }
+    ensures refused { IfErr result
+        (IsRefusalBy (RefusesTextAs ImageVersion.Linux text.now.bytes.now)) }
+{
+    match compile_as(alloc, text.bytes, ImageVersion::Linux) {
+        Ok(image) => Ok(image),
+        Err(refusal) => {
+            let refused = NoAnswer::from(refusal);
+            let told_of = SourceText {
+                file: text.file,
+                bytes: text.bytes,
+                exits: text.exits,
+                hints,
+            };
+            tell_refused(alloc, told, &told_of, refused);
+            Err(refused)
+        }
+    }
+}
+
+// The image that is listed.
+fn listed_image<'a>(
+    alloc: Global,
+    text: &SourceText<'_>,
+    linux: bool,
+    hints: bool,
+    told: &mut String,
+) -> Result<Image, NoAnswer<'a>>
+    ensures image { IfOk result (IsListed linux text.now.bytes.now) }
+    ensures refused { IfErr result (IsRefusalBy (RefusesListed linux text.now.bytes.now)) }
+{
+    if linux {
+        code_for_linux(alloc, text, hints, told)
+    } else {
+        Ok(image_of(alloc, text.bytes)?)
+    }
+}
+
+/// Lists the instructions of an image, with the lines of the source text of a file, whose image it has to be, where one is
+/// named. The image is that of the bytes of `text`, or else the code for Linux of the source text that they are;
+/// `second` has the bytes of that file.
 pub fn answer_list<'a>(
     alloc: Global,
-    bytes: &[u8],
+    text: &SourceText<'_>,
+    linux: bool,
     source: Option<&'a str>,
     second: &[u8],
     hints: bool,
     told: &mut String,
 ) -> Result<Answer<'a>, NoAnswer<'a>>
-    ensures done { IfOk result (HasListed (is_some source.entry) bytes.now) }
-    ensures refused { IfErr result (IsRefusalBy (RefusesBeside bytes.now second.now)) }
+    ensures done { IfOk result (HasListed linux (is_some source.entry) text.now.bytes.now) }
+    ensures refused { IfErr result
+        (IsRefusalBy (RefusesListing linux text.now.bytes.now second.now)) }
 {
-    let image = image_of(alloc, bytes)?;
+    let image = listed_image(alloc, text, linux, hints, told)?;
     list_image(alloc, &image, source, second, hints, told)
 }

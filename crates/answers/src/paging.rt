@@ -54,7 +54,7 @@ fn run_page<'a>(
     if wanted.is_none() {
         return Ok(None);
     }
-    match explained(alloc, text.bytes, report.log.iter())? {
+    match explained(alloc, text, report.log.iter())? {
         None => Err(AllocError),
         Some((checked, actions)) => {
             let actions = actions.as_slice();

@@ -1,13 +1,16 @@
 ghost use Rattle.std.specs.Prelude.{◌≡◌, ℕ, IfOk, IfErr, List, MatchResult};
-ghost use Rattle.program.specs.Trees.{Program};
+ghost use Rattle.words.specs.declared.version.ImageVersion.{ImageVersion as VersionOf};
+ghost use Rattle.program.specs.Trees.{Program, as_version};
+ghost use Rattle.commandline.specs.CommandLine.{version_by};
 ghost use Rattle.backend.specs.Refusals.{CodeFits};
 ghost use Rattle.compiler.specs.Accepts.{AcceptsText};
-ghost use Rattle.compiler.specs.Compiles.{IsCompiled};
+ghost use Rattle.compiler.specs.Compiles.{IsCompiledAs};
 ghost use Rattle.runner.specs.Schedules.{IsFollowed};
 ghost use Rattle.answers.specs.Replaying.{IsLeftSchedule, IsReplayOfText, IsRefusedReplay, IsNoRefusal};
 ghost use Rattle.answers.specs.declared.replaying.ReplayFault.TheVariants.{Refused};
 
-use compiler::compile;
+use crate::compiled::compile_by;
+use commandline::Exits;
 use isa::Image;
 use runner::{Report, ScheduleFault, Turn, follow};
 use scanner::Refusal;
@@ -43,7 +46,7 @@ pub fn follow_compiled(
     image: &Image,
     schedule: &[Turn],
 ) -> Result<Report, ReplayFault>
-    requires { (text : List ℕ) × IsCompiled text image.now }
+    requires { (version : VersionOf) × (text : List ℕ) × IsCompiledAs version text image.now }
     ensures { MatchResult result (λ report. IsFollowed image.now schedule.now report)
         (λ fault. IsLeftSchedule image.now schedule.now fault) }
 {
@@ -55,20 +58,27 @@ pub fn follow_compiled(
     }
 }
 
-/// Compiles a source text and runs its image by a schedule: at each of its turns a thread takes one step of the
-/// machine, local, shared or a piece of its futex call, or a thread that sleeps is woken from outside. Each turn is an
-/// entry of the log.
+/// Compiles a source text for this rule of exits and runs its image by a schedule: at each of its turns a thread takes
+/// one step of the machine, local, shared or a piece of its futex call, or a thread that sleeps is woken from outside.
+/// Each turn is an entry of the log.
 ///
 /// Some run of the text's program explains the report, as with `run_source`. The verdict is Limit where some thread can
 /// still move. A text that `compile` refuses has the same refusal; else the first turn of a thread that can't move, for
 /// a held bucket too, or that is to be woken and doesn't sleep, is refused. No step of a program's code may not be, so
 /// there is no other fault but want of memory.
-pub fn replay(alloc: Global, text: &[u8], schedule: &[Turn]) -> Result<Report, ReplayFault>
-    ensures report { IfOk result (λ report. IsReplayOfText text.now schedule.now report) }
-    ensures fault { IfErr result (λ fault. IsRefusedReplay text.now schedule.now fault) }
-    ensures only { (p : Program) → AcceptsText text.now p → CodeFits p
-        → IfErr result (λ fault. IsNoRefusal fault) }
+pub fn replay(
+    alloc: Global,
+    text: &[u8],
+    exits: Exits,
+    schedule: &[Turn],
+) -> Result<Report, ReplayFault>
+    ensures report { IfOk result
+        (λ report. IsReplayOfText (version_by exits) text.now schedule.now report) }
+    ensures fault { IfErr result
+        (λ fault. IsRefusedReplay (version_by exits) text.now schedule.now fault) }
+    ensures only { (p : Program) → AcceptsText text.now p
+        → CodeFits (as_version (version_by exits) p) → IfErr result (λ fault. IsNoRefusal fault) }
 {
-    let image = compile(alloc, text)?;
+    let image = compile_by(alloc, text, exits)?;
     follow_compiled(alloc, &image, schedule)
 }

@@ -1,6 +1,7 @@
 use crate::explained_run::ExplainedRun;
 use crate::hinting::SourceText;
 use crate::run_entries::explained;
+use commandline::Exits;
 use machine::Machine;
 use packed_log::LogReader;
 use program::Checked;
@@ -53,6 +54,16 @@ fn known_hints(
     Ok(told)
 }
 
+// How a command names a text beside its file.
+fn named(alloc: Global, text: &SourceText<'_>) -> Result<String, AllocError> {
+    let mut named = String::new(alloc);
+    if let Exits::Linux = text.exits {
+        named.push_str("--linux ")?;
+    }
+    named.push_str(text.file)?;
+    Ok(named)
+}
+
 /// The hints to the end of a run that was explained: nothing where all processes ended by their returns.
 ///
 /// # Errors
@@ -88,11 +99,12 @@ pub fn report_hints(
     if !is_told(report) {
         return Ok(String::new(alloc));
     }
-    match explained(alloc, text.bytes, report.log.iter())? {
+    match explained(alloc, text, report.log.iter())? {
         None => Ok(String::new(alloc)),
         Some((checked, actions)) => {
             let mut told = known_hints(alloc, text, &checked, report, actions.as_slice(), way)?;
-            append_way(&mut told, text.file, way)?;
+            let named = named(alloc, text)?;
+            append_way(&mut told, named.as_str(), way)?;
             Ok(told)
         }
     }

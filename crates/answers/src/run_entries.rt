@@ -1,5 +1,5 @@
+use crate::compiled::{compile_by, compile_checked_by};
 use crate::hinting::SourceText;
-use compiler::{compile, compile_checked};
 use log_text::read_log;
 use machine::{Entry, EventName};
 use packed_log::{LogReader, PackedLog};
@@ -14,10 +14,10 @@ use std::alloc::{AllocError, Global};
 /// is none of it.
 pub(crate) fn explained<'t>(
     alloc: Global,
-    text: &'t [u8],
+    text: &SourceText<'t>,
     log: LogReader<'_>,
 ) -> Result<Option<(Checked<'t>, Vec<Action>)>, AllocError> {
-    let Ok((checked, lowered)) = compile_checked(alloc, text) else {
+    let Ok((checked, lowered)) = compile_checked_by(alloc, text.bytes, text.exits) else {
         return Ok(None);
     };
     match explain_log_lowered(alloc, &checked, lowered, log) {
@@ -51,7 +51,7 @@ fn hints_behind(
     report: &Report,
     refused: Refused,
 ) -> Result<String, AllocError> {
-    match explained(alloc, text.bytes, report.log.iter())? {
+    match explained(alloc, text, report.log.iter())? {
         None => Ok(String::new(alloc)),
         Some((checked, actions)) => {
             let actions = actions.as_slice();
@@ -61,8 +61,8 @@ fn hints_behind(
 }
 
 // The report of a run of a text's image by a schedule, where it has one.
-fn followed(alloc: Global, text: &[u8], turns: &[Turn]) -> Option<Report> {
-    let Ok(image) = compile(alloc, text) else {
+fn followed(alloc: Global, text: &SourceText<'_>, turns: &[Turn]) -> Option<Report> {
+    let Ok(image) = compile_by(alloc, text.bytes, text.exits) else {
         return None;
     };
     match follow(alloc, &image, turns) {
@@ -87,7 +87,7 @@ pub fn schedule_entry_hints(
     let (Some(turn), Some(turns)) = (turns.get(before), turns.get(..before)) else {
         return Ok(String::new(alloc));
     };
-    match followed(alloc, text.bytes, turns) {
+    match followed(alloc, text, turns) {
         Some(report) => hints_behind(alloc, text, &report, wanted_by_turn(*turn)),
         None => Ok(String::new(alloc)),
     }
@@ -103,8 +103,8 @@ fn first_of(alloc: Global, log: &PackedLog, count: usize) -> Result<PackedLog, A
 }
 
 // The report of a run of a text's image by the threads and counts of a log, where it has one.
-fn followed_log(alloc: Global, text: &[u8], log: LogReader<'_>) -> Option<Report> {
-    let Ok(image) = compile(alloc, text) else {
+fn followed_log(alloc: Global, text: &SourceText<'_>, log: LogReader<'_>) -> Option<Report> {
+    let Ok(image) = compile_by(alloc, text.bytes, text.exits) else {
         return None;
     };
     match follow_log(alloc, &image, log) {
@@ -124,7 +124,7 @@ fn hints_at(
         return Ok(String::new(alloc));
     };
     let first = first_of(alloc, log, before)?;
-    match followed_log(alloc, text.bytes, first.iter()) {
+    match followed_log(alloc, text, first.iter()) {
         Some(report) => hints_behind(alloc, text, &report, wanted_by_entry(&entry)),
         None => Ok(String::new(alloc)),
     }

@@ -1,12 +1,13 @@
 ghost use Rattle.std.specs.Prelude.{◌≡◌, IfOk, IfErr};
-ghost use Rattle.compiler.specs.Accepts.{RefusesText};
+ghost use Rattle.compiler.specs.Accepts.{RefusesTextAs};
+ghost use Rattle.commandline.specs.CommandLine.{version_by};
 ghost use Rattle.runner.specs.Reports.{IsReport};
-ghost use Rattle.answers.specs.Asked.{IsReplayedAs, IsRunAs, log_beside, outside_by};
+ghost use Rattle.answers.specs.Asked.{IsReplayedAs, IsRunAs, IsRunBy, log_beside, outside_by};
 ghost use Rattle.answers.specs.Done.{HasExecuted, HasRun, RunsImage};
 ghost use Rattle.answers.specs.Failures.{IsLeftBy, IsRefusalBy};
 ghost use Rattle.answers.specs.Images.{UnassemblesAs};
 ghost use Rattle.answers.specs.Replaying.{IsReplayOfText};
-ghost use Rattle.answers.specs.Running.{IsRefusedRun, IsRunOfText};
+ghost use Rattle.answers.specs.Running.{IsRefusedRun};
 ghost use Rattle.answers.specs.LogLimits.{HasFewSteps};
 ghost use Rattle.answers.specs.SourceLog.{IsReplayOfLog};
 ghost use Rattle.answers.specs.Turns.{turns_in};
@@ -40,11 +41,12 @@ pub fn answer_run<'a, R: AllocGlobal + Threads + Wait + Sync>(
     page: Option<&'a str>,
     told: &mut String,
 ) -> Result<Answer<'a>, NoAnswer<'a>>
-    ensures done { IfOk result (HasRun (IsRunAs options.entry) options.entry.trace options.entry.log
-        page.entry text.now.bytes.now) }
-    ensures refused { IfErr result (IsRefusalBy (RefusesText text.now.bytes.now)) }
+    ensures done { IfOk result (HasRun (IsRunAs (version_by text.now.exits) options.entry)
+        options.entry.trace options.entry.log page.entry text.now.bytes.now) }
+    ensures refused { IfErr result
+        (IsRefusalBy (RefusesTextAs (version_by text.now.exits) text.now.bytes.now)) }
 {
-    let report = run_by(rt, text.bytes, options.steps, options.order)?;
+    let report = run_by(rt, text, options.steps, options.order)?;
     tell_run(rt.alloc(), told, text, &report, way_of(options));
     let kept = Kept {
         trace: options.trace,
@@ -66,44 +68,55 @@ fn way_of(options: RunOptions<'_>) -> Way<'_> {
 
 fn run_by<R: AllocGlobal + Threads + Wait + Sync>(
     rt: &R,
-    text: &[u8],
+    text: &SourceText<'_>,
     steps: u32,
     order: Order,
 ) -> Result<Report, RunSourceFault>
-    ensures report { IfOk result (λ report. IsRunOfText text.now (outside_by order) steps report) }
-    ensures fault { IfErr result (λ fault. IsRefusedRun text.now (outside_by order) steps fault) }
+    ensures report { IfOk result (λ report. IsRunBy (version_by text.now.exits) order steps
+        text.now.bytes.now report) }
+    ensures fault { IfErr result (λ fault. IsRefusedRun (version_by text.now.exits)
+        text.now.bytes.now (outside_by order) steps fault) }
 {
     match order {
         Order::Workers => {
             run_source(
                 rt,
                 rt.alloc(),
-                text,
+                text.bytes,
+                text.exits,
                 steps,
                 Calls::by_processors(rt),
                 &OpenGate,
             )
         },
-        Order::InOrder => run_in_order(rt.alloc(), text, steps, &OpenGate),
+        Order::InOrder => run_in_order(rt.alloc(), text.bytes, text.exits, steps, &OpenGate),
         Order::Seed {
             seed,
             strays,
             kills,
-        } => run_by_seed(rt.alloc(), text, steps, seed, strays, kills),
+        } => run_by_seed(
+            rt.alloc(),
+            text.bytes,
+            text.exits,
+            steps,
+            seed,
+            strays,
+            kills,
+        ),
     }
 }
 
-/// Runs the image that these bytes are, in this form.
+/// Runs the image that a file has in this form.
 pub fn answer_exec<'a, R: AllocGlobal + Threads + Wait + Sync>(
     rt: &R,
-    bytes: &[u8],
+    text: &SourceText<'_>,
     form: ImageForm,
     options: RunOptions<'a>,
 ) -> Result<Answer<'a>, NoAnswer<'a>>
-    ensures done { IfOk result (HasExecuted form options.entry bytes.now) }
-    ensures refused { IfErr result (IsLeftBy (λ e. ⊥) (UnassemblesAs form bytes.now)) }
+    ensures done { IfOk result (HasExecuted text.now.exits form options.entry text.now.bytes.now) }
+    ensures refused { IfErr result (IsLeftBy (λ e. ⊥) (UnassemblesAs form text.now.bytes.now)) }
 {
-    let formed = formed_image(rt.alloc(), bytes, form)?;
+    let formed = formed_image(rt.alloc(), text, form)?;
     exec_image(rt, &formed.image, options)
 }
 
@@ -162,9 +175,10 @@ pub fn answer_replay<'a>(
     page: Option<&'a str>,
     told: &mut String,
 ) -> Result<Answer<'a>, NoAnswer<'a>>
-    ensures done { IfOk result (HasRun (IsReplayedAs by.entry second.now) trace (log_beside by.entry)
-        page.entry text.now.bytes.now) }
-    ensures refused { IfErr result (IsRefusalBy (RefusesText text.now.bytes.now)) }
+    ensures done { IfOk result (HasRun (IsReplayedAs (version_by text.now.exits) by.entry second.now)
+        trace (log_beside by.entry) page.entry text.now.bytes.now) }
+    ensures refused { IfErr result
+        (IsRefusalBy (RefusesTextAs (version_by text.now.exits) text.now.bytes.now)) }
 {
     let report = replay_by(alloc, text, second, by, told)?;
     tell_run(alloc, told, text, &report, way_by(by));
@@ -189,8 +203,10 @@ fn replay_by<'a>(
     by: ReplayedBy<'a>,
     told: &mut String,
 ) -> Result<Report, NoAnswer<'a>>
-    ensures report { IfOk result (λ report. IsReplayedAs by.entry second.now text.now.bytes.now report) }
-    ensures refused { IfErr result (IsRefusalBy (RefusesText text.now.bytes.now)) }
+    ensures report { IfOk result (λ report. IsReplayedAs (version_by text.now.exits) by.entry
+        second.now text.now.bytes.now report) }
+    ensures refused { IfErr result
+        (IsRefusalBy (RefusesTextAs (version_by text.now.exits) text.now.bytes.now)) }
 {
     match by {
         ReplayedBy::Schedule { .. } => replay_schedule(alloc, text, second, told),
@@ -205,11 +221,14 @@ fn replay_schedule<'a>(
     schedule: &[u8],
     told: &mut String,
 ) -> Result<Report, NoAnswer<'a>>
-    ensures report { IfOk result (λ report. IsReplayOfText text.now.bytes.now (turns_in schedule.now) report) }
-    ensures refused { IfErr result (IsRefusalBy (RefusesText text.now.bytes.now)) }
+    ensures report { IfOk result
+        (λ report. IsReplayOfText (version_by text.now.exits) text.now.bytes.now
+        (turns_in schedule.now) report) }
+    ensures refused { IfErr result
+        (IsRefusalBy (RefusesTextAs (version_by text.now.exits) text.now.bytes.now)) }
 {
     let turns = schedule_of(alloc, schedule)?;
-    match replay(alloc, text.bytes, turns.as_slice()) {
+    match replay(alloc, text.bytes, text.exits, turns.as_slice()) {
         Ok(report) => Ok(report),
         Err(fault) => Err(told_turn(alloc, told, text, turns.as_slice(), fault)),
     }
@@ -223,14 +242,16 @@ fn replay_log<'a>(
     steps: u32,
     told: &mut String,
 ) -> Result<Report, NoAnswer<'a>>
-    ensures report { IfOk result (λ report. IsReplayOfLog text.now.bytes.now lines.now report
-        × HasFewSteps lines.now steps) }
-    ensures refused { IfErr result (IsRefusalBy (RefusesText text.now.bytes.now)) }
+    ensures report { IfOk result
+        (λ report. IsReplayOfLog (version_by text.now.exits) text.now.bytes.now
+        lines.now report × HasFewSteps lines.now steps) }
+    ensures refused { IfErr result
+        (IsRefusalBy (RefusesTextAs (version_by text.now.exits) text.now.bytes.now)) }
 {
     if lines.len() > log_bytes(steps) {
         return Err(NoAnswer::Failed(Failure::LogBytes(log_bytes(steps))));
     }
-    match replay_log_text(alloc, text.bytes, lines, steps) {
+    match replay_log_text(alloc, text.bytes, text.exits, lines, steps) {
         Ok(report) => Ok(report),
         Err(fault) => Err(told_entry(alloc, told, text, lines, fault)),
     }

@@ -2,7 +2,7 @@ ghost use Rattle.std.specs.Prelude.{◌≡◌, ◌++◌, IfOk, IfErr, List, OnOk
 ghost use Rattle.answers.specs.Answers.{put_of};
 ghost use Rattle.answers.specs.Failures.{HasNoMemory, IsLeftBy};
 ghost use Rattle.answers.specs.Images.{AreShown, HasSearched, SearchesImage, TellsSearch, UnassemblesAs, finds_run};
-ghost use Rattle.answers.specs.Images.{ending_lines, exit_line, found_put, is_whole, later_lines, none_fails};
+ghost use Rattle.answers.specs.Images.{ending_lines, exit_line, found_put, is_whole, later_lines, machine_line, none_fails};
 ghost use Rattle.answers.specs.Images.{none_sleeps};
 ghost use Rattle.answers.specs.Images.{schedule_put, schedule_text, search_lines, search_status, sleepers_line};
 ghost use Rattle.answers.specs.Images.{sleeping_lines, sleeping_put, sleeping_status, thread_word, turn_line};
@@ -17,7 +17,7 @@ use crate::showing::{found_run, picture_file, timeline_file};
 use crate::status::Status;
 use crate::telling::tell_bound;
 use assembler::Assembled;
-use commandline::{ImageForm, SearchFiles};
+use commandline::{Exits, ImageForm, SearchFiles};
 use image_lines::RunLines;
 use image_search::{Ending, ImageExploration, Sleeping, explore_image};
 use image_states::Outside;
@@ -51,19 +51,20 @@ pub fn answer_search<'a, P: Progress>(
     told: &mut String,
     progress: &mut P,
 ) -> Result<Answer<'a>, NoAnswer<'a>>
-    ensures done { IfOk result (HasSearched form outside states wanted.entry text.now.bytes.now) }
+    ensures done { IfOk result (HasSearched text.now.exits form outside states wanted.entry
+        text.now.bytes.now) }
     ensures refused { IfErr result (IsLeftBy (λ e. ⊥) (UnassemblesAs form text.now.bytes.now)) }
 {
-    let formed = formed_image(alloc, text.bytes, form)?;
+    let formed = formed_image(alloc, text, form)?;
     search_formed(
-        alloc, text.file, &formed, states, outside, wanted, told, progress,
+        alloc, text, &formed, states, outside, wanted, told, progress,
     )
 }
 
 // Searches an image, and tells what is found.
 fn search_formed<'a, P: Progress>(
     alloc: Global,
-    file: &str,
+    text: &SourceText<'_>,
     formed: &Assembled<'_>,
     states: u32,
     outside: Outside,
@@ -71,31 +72,32 @@ fn search_formed<'a, P: Progress>(
     told: &mut String,
     progress: &mut P,
 ) -> Result<Answer<'a>, NoAnswer<'a>>
-    ensures done { IfOk result (SearchesImage formed.now.image outside states wanted.entry) }
+    ensures done { IfOk result (SearchesImage text.now.exits formed.now.image outside states
+        wanted.entry) }
     ensures failed { IfErr result HasNoMemory }
 {
     let mut passed = Passed { progress };
     let found = explore_image(alloc, &formed.image, states, outside, &mut passed)?;
     tell_bound(told, &found);
-    found_answer(alloc, file, formed, &found, outside, wanted)
+    found_answer(alloc, text, formed, &found, outside, wanted)
 }
 
 // Tells what was found.
 fn found_answer<'a>(
     alloc: Global,
-    file: &str,
+    text: &SourceText<'_>,
     formed: &Assembled<'_>,
     found: &ImageExploration,
     outside: Outside,
     wanted: SearchFiles<'a>,
 ) -> Result<Answer<'a>, NoAnswer<'a>>
-    ensures told { IfOk result (TellsSearch outside wanted.entry found.now) }
+    ensures told { IfOk result (TellsSearch text.now.exits outside wanted.entry found.now) }
     ensures failed { IfErr result HasNoMemory }
 {
-    let run = found_run(alloc, file, formed, found)?;
+    let run = found_run(alloc, text.file, formed, found)?;
     let output = lines_of(alloc, &run, found, outside)?;
-    let account = Vec::from_slice(alloc, exit_line(outside).as_bytes())?;
-    let files = found_files(alloc, file, &run, found, wanted)?;
+    let account = Vec::from_slice(alloc, exit_line(text.exits, outside).as_bytes())?;
+    let files = found_files(alloc, text.file, &run, found, wanted)?;
     Ok(Answer {
         status: status_of_search(found),
         output,
@@ -126,9 +128,19 @@ fn found_files<'a>(
     })
 }
 
-// With kills, by whose rule a thread's exit wakes.
-fn exit_line(outside: Outside) -> &'static str
-    ensures { result.now ≡ exit_line outside }
+// With kills, that a thread's exit wakes by this machine's rule, where it does.
+fn exit_line(exits: Exits, outside: Outside) -> &'static str
+    ensures { result.now ≡ exit_line exits outside }
+{
+    match exits {
+        Exits::Machine => machine_line(outside),
+        Exits::Linux => "",
+    }
+}
+
+// The line that says so.
+fn machine_line(outside: Outside) -> &'static str
+    ensures { result.now ≡ machine_line outside }
 {
     if outside.kills > 0 {
         "by this machine's exit; Linux wakes less\n"
@@ -166,7 +178,8 @@ fn lines_of(
     found: &ImageExploration,
     outside: Outside,
 ) -> Result<Vec<u8>, AllocError>
-    ensures { IfOk result (λ v. (more : List ℕ) × (v.items ≡ search_lines outside found.now ++ more)) }
+    ensures { IfOk result
+        (λ v. (more : List ℕ) × (v.items ≡ search_lines outside found.now ++ more)) }
 {
     let mut lines = first_lines(alloc, found, outside)?;
     lines.extend_from_slice(text_of(run))?;

@@ -7,6 +7,7 @@ ghost use Rattle.backend.specs.Refusals.{CodeFits};
 ghost use Rattle.log_text.specs.Spelled.{IsLogText};
 ghost use Rattle.runner.specs.LogSchedules.{IsFollowedLog};
 ghost use Rattle.compiler.specs.Accepts.{AcceptsText};
+ghost use Rattle.commandline.specs.CommandLine.{version_by};
 ghost use Rattle.simulation.specs.ExplainedLog.{ExplainsEntries};
 ghost use Rattle.answers.specs.SourceLog.{FollowsNot, IsExplanationOfLog, IsOfLog, IsRefusedLog};
 ghost use Rattle.answers.specs.SourceLog.{IsReplayOfLog, IsUnfollowedLog, IsWantOfMemory, LinesOfRun};
@@ -14,10 +15,12 @@ ghost use Rattle.answers.specs.LogLimits.{HasFewSteps};
 ghost use Rattle.answers.specs.SourceLog.{ReadsNone, ReadsNot, StopsLog};
 ghost use Rattle.answers.specs.declared.source_log.SourceLogFault.TheVariants.{Refused, Memory};
 
+use crate::compiled::{compile_by, compile_checked_by};
 use crate::explained_run::ExplainedRun;
 use crate::log_limits::has_few_steps;
 use backend::Lowered;
-use compiler::{compile, compile_checked, text_laws};
+use commandline::Exits;
+use compiler::text_laws;
 use isa::Image;
 use log_text::{ReadLogFault, log_text_laws, read_log};
 use packed_log::{LogReader, PackedLog};
@@ -129,16 +132,19 @@ pub fn follow_entries(
 fn explain_lines<'a>(
     alloc: Global,
     text: &'a [u8],
+    exits: Exits,
     lines: &[u8],
     most: u32,
 ) -> Result<ExplainedRun<'a>, SourceLogFault>
-    ensures explained { IfOk result (λ run. IsExplanationOfLog text.now lines.now run) }
+    ensures explained { IfOk result
+        (λ run. IsExplanationOfLog (version_by exits) text.now lines.now run) }
     ensures short { IfOk result (λ run. HasFewSteps lines.now most) }
-    ensures fault { IfErr result (λ fault. IsRefusedLog text.now lines.now most fault) }
-    ensures only { (p : Program) → AcceptsText text.now p → CodeFits p
-        → IfErr result (λ fault. IsOfLog fault) }
+    ensures fault { IfErr result
+        (λ fault. IsRefusedLog (version_by exits) text.now lines.now most fault) }
+    ensures only { (p : Program) → AcceptsText text.now p
+        → CodeFits (as_version (version_by exits) p) → IfErr result (λ fault. IsOfLog fault) }
 {
-    let (checked, lowered) = compile_checked(alloc, text)?;
+    let (checked, lowered) = compile_checked_by(alloc, text, exits)?;
     let entries = entries_of(alloc, lines, most)?;
     let explained = explain_entries(alloc, &checked, lowered, entries.iter())?;
     let report = report_of(alloc, entries, explained.last)?;
@@ -149,10 +155,10 @@ fn explain_lines<'a>(
     })
 }
 
-/// Compiles a source text, and explains a log of its image, whose lines are given: whoever wrote them, they are tested
-/// and not trusted. The actions are the explanation of the run of the machine that the log is, and the report is that
-/// of the state that the log leads to; its verdict is Limit where some thread can still move. Each log of a run of the
-/// image of at most so many steps is explained, memory aside.
+/// Compiles a source text for this rule of exits, and explains a log of its image, whose lines are given: whoever wrote
+/// them, they are tested and not trusted. The actions are the explanation of the run of the machine that the log is,
+/// and the report is that of the state that the log leads to; its verdict is Limit where some thread can still move.
+/// Each log of a run of the image of at most so many steps is explained, memory aside.
 ///
 /// # Errors
 ///
@@ -162,24 +168,27 @@ fn explain_lines<'a>(
 pub fn explain_log_text<'a>(
     alloc: Global,
     text: &'a [u8],
+    exits: Exits,
     lines: &[u8],
     most: u32,
 ) -> Result<ExplainedRun<'a>, SourceLogFault>
-    ensures explained { IfOk result (λ run. IsExplanationOfLog text.now lines.now run) }
+    ensures explained { IfOk result
+        (λ run. IsExplanationOfLog (version_by exits) text.now lines.now run) }
     ensures short { IfOk result (λ run. HasFewSteps lines.now most) }
-    ensures fault { IfErr result (λ fault. IsRefusedLog text.now lines.now most fault) }
-    ensures only { (p : Program) → AcceptsText text.now p → CodeFits p
-        → IfErr result (λ fault. IsOfLog fault) }
-    ensures legal { LinesOfRun text.now lines.now most
+    ensures fault { IfErr result
+        (λ fault. IsRefusedLog (version_by exits) text.now lines.now most fault) }
+    ensures only { (p : Program) → AcceptsText text.now p
+        → CodeFits (as_version (version_by exits) p) → IfErr result (λ fault. IsOfLog fault) }
+    ensures legal { LinesOfRun (version_by exits) text.now lines.now most
         → IfErr result (λ fault. IsWantOfMemory fault) }
 {
     text_laws();
     log_text_laws();
-    explain_lines(alloc, text, lines, most)
+    explain_lines(alloc, text, exits, lines, most)
 }
 
-/// Compiles a source text, and runs its image by the threads and counts of a log whose lines are given, as
-/// `runner::follow_log` does: a run on real threads, again on one. The events of the log aren't compared.
+/// Compiles a source text for this rule of exits, and runs its image by the threads and counts of a log whose lines are
+/// given, as `runner::follow_log` does: a run on real threads, again on one. The events of the log aren't compared.
 ///
 /// Some run of the text's program explains the report. The verdict is Limit where some thread can still move.
 ///
@@ -190,16 +199,19 @@ pub fn explain_log_text<'a>(
 pub fn replay_log_text(
     alloc: Global,
     text: &[u8],
+    exits: Exits,
     lines: &[u8],
     most: u32,
 ) -> Result<Report, SourceLogFault>
-    ensures report { IfOk result (λ report. IsReplayOfLog text.now lines.now report) }
+    ensures report { IfOk result
+        (λ report. IsReplayOfLog (version_by exits) text.now lines.now report) }
     ensures short { IfOk result (λ report. HasFewSteps lines.now most) }
-    ensures fault { IfErr result (λ fault. IsUnfollowedLog text.now lines.now most fault) }
-    ensures only { (p : Program) → AcceptsText text.now p → CodeFits p
-        → IfErr result (λ fault. IsOfLog fault) }
+    ensures fault { IfErr result
+        (λ fault. IsUnfollowedLog (version_by exits) text.now lines.now most fault) }
+    ensures only { (p : Program) → AcceptsText text.now p
+        → CodeFits (as_version (version_by exits) p) → IfErr result (λ fault. IsOfLog fault) }
 {
-    let image = compile(alloc, text)?;
+    let image = compile_by(alloc, text, exits)?;
     let entries = entries_of(alloc, lines, most)?;
     follow_entries(alloc, &image, entries.iter())
 }

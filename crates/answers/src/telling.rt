@@ -20,6 +20,9 @@ use std::io::ErrorKind;
 const LINE: &str =
     "  a line has a thread, its local steps, and TURN 0 or a step's name and value\n";
 
+// What takes Linux's rule of exits.
+const SECOND: &str = "  --exits linux takes an image of version 2\n";
+
 // What takes a longer log.
 const LONGER: &str = "  --steps N takes a log of at most N steps\n";
 
@@ -41,6 +44,9 @@ pub fn tell_more(told: &mut String, left: NoAnswer<'_>) {
         }
         Failure::LogSteps(_) | Failure::LogBytes(_) => {
             let _appended = told.push_str(LONGER);
+        }
+        Failure::FirstVersion => {
+            let _appended = told.push_str(SECOND);
         }
         Failure::Read { reason, .. } | Failure::Write { reason, .. } => append_reason(told, reason),
         Failure::Memory => told.clear(),

@@ -7,6 +7,7 @@ use Rattle.commandline.specs.declared.options.ChartOptions.{ChartOptions}
 use Rattle.commandline.specs.CommandLine.{AsksForReplay, AsksForRun, IsExplainedBy, IsReplayedBy, ReadsOptions}
 use Rattle.commandline.specs.CommandLine.{ReadsVersion, ReadsWorkers}
 use Rattle.words.specs.declared.version.ImageVersion.{ImageVersion}
+use Rattle.commandline.specs.declared.options.Exits.{Exits}
 use Rattle.commandline.specs.declared.options.ExplainedBy.{ExplainedBy}
 use Rattle.commandline.specs.declared.options.ReplayedBy.{ReplayedBy}
 use Rattle.commandline.specs.declared.options.RunOptions.{RunOptions}
@@ -14,7 +15,7 @@ use Rattle.commandline.specs.declared.job.Job.{Job}
 use Rattle.commandline.specs.declared.job.Job.TheVariants.{Check, Compile, List as List', Run, Exec, Replay, Explain}
 use Rattle.commandline.specs.declared.job.Job.TheVariants.{Emit, Explore, Search, Follow, Assemble, Fmt}
 use Rattle.commandline.specs.declared.options.ImageForm.{ImageForm}
-use Rattle.commandline.specs.CommandLine.{IsFmtOf, ReadsForm, has_any, is_written, shows}
+use Rattle.commandline.specs.CommandLine.{IsFmtOf, ReadsExits, ReadsForm, has_any, is_written, of_source}
 use Rattle.commandline.proofs.NoSources.{clash, no_source}
 use Rattle.commandline.proofs.Numbers.{no_value}
 
@@ -33,52 +34,56 @@ no_compile rows (Compile file out workers version hints) (inr (inr (inr none))) 
 no_compile rows other missing h = h
 
 pub no_list : (rows : List Row) (job : Job) → first_of (codes "IMAGE") rows ≡ None → IsListOf rows job → ⊥
-no_list rows (List' image source hints) none h = no_value _ _ none h.0
+no_list rows (List' image linux source hints) none h = no_value _ _ none h.0
 no_list rows other none h = h
 
 pub no_run : (rows : List Row) (job : Job)
     → (first_of (codes "FILE") rows ≡ None) ⊎ ((o : RunOptions) → ReadsOptions rows o → ⊥) → AsksForRun rows job → ⊥
-no_run rows (Run file options page hints) (inl none) h = no_value _ _ none h.0
-no_run rows (Run file options page hints) (inr none) h = none options h.1
+no_run rows (Run file exits options page hints) (inl none) h = no_value _ _ none h.0
+no_run rows (Run file exits options page hints) (inr none) h = none options h.2
 no_run rows other missing h = h
 
 pub no_exec : (rows : List Row) (job : Job)
-    → (first_of (codes "IMAGE") rows ≡ None) ⊎ ((o : RunOptions) → ReadsOptions rows o → ⊥) → AsksForExec rows job
-    → ⊥
-no_exec rows (Exec image form options) (inl none) h = no_value _ _ none h.0
-no_exec rows (Exec image form options) (inr none) h = none options h.2
+    → (first_of (codes "IMAGE") rows ≡ None) ⊎ (((e : Exits) → ReadsExits rows e → ⊥)
+    ⊎ ((o : RunOptions) → ReadsOptions rows o → ⊥)) → AsksForExec rows job → ⊥
+no_exec rows (Exec image form exits options) (inl none) h = no_value _ _ none h.0
+no_exec rows (Exec image form exits options) (inr (inl none)) h = none exits h.2
+no_exec rows (Exec image form exits options) (inr (inr none)) h = none options h.3
 no_exec rows other missing h = h
 
 pub no_replay : (rows : List Row) (job : Job) → ReadsForm rows None
-    → (first_of (codes "FILE") rows ≡ None) ⊎ ((r : ReplayedBy) → IsReplayedBy rows r → ⊥) → AsksForReplay rows job
+    → (is_written (codes "exits") rows ≡ true)
+    ⊎ ((first_of (codes "FILE") rows ≡ None) ⊎ ((r : ReplayedBy) → IsReplayedBy rows r → ⊥)) → AsksForReplay rows job
     → ⊥
-no_replay rows (Replay file by trace page hints) source (inl none) h = no_value _ _ none h.0
-no_replay rows (Replay file by trace page hints) source (inr none) h = none by h.1
-no_replay rows (Follow file form by trace hints) source missing h = no_source rows form source h.1
+no_replay rows (Replay file exits by trace page hints) source (inl more) h = clash _ more h.7
+no_replay rows (Replay file exits by trace page hints) source (inr (inl none)) h = no_value _ _ none h.0
+no_replay rows (Replay file exits by trace page hints) source (inr (inr none)) h = none by h.2
+no_replay rows (Follow file form exits by trace hints) source missing h = no_source rows form source h.1
 no_replay rows other source missing h = h
 
 pub no_follow : (rows : List Row) (job : Job) (form : ImageForm) → ReadsForm rows (Some form)
-    → (is_written (codes "page") rows ≡ true)
-    ⊎ ((first_of (codes "FILE") rows ≡ None) ⊎ ((r : ReplayedBy) → IsReplayedBy rows r → ⊥)) → AsksForReplay rows job
-    → ⊥
-no_follow rows (Replay file by trace page hints) form image missing h = no_source rows form h.5 image
-no_follow rows (Follow file f by trace hints) form image (inl more) h = clash _ more h.4
-no_follow rows (Follow file f by trace hints) form image (inr (inl none)) h = no_value _ _ none h.0
-no_follow rows (Follow file f by trace hints) form image (inr (inr none)) h = none by h.2
+    → (has_any (codes "page" ∷ codes "linux" ∷ []) rows ≡ true)
+    ⊎ ((first_of (codes "FILE") rows ≡ None) ⊎ (((e : Exits) → ReadsExits rows e → ⊥)
+    ⊎ ((r : ReplayedBy) → IsReplayedBy rows r → ⊥))) → AsksForReplay rows job → ⊥
+no_follow rows (Replay file exits by trace page hints) form image missing h = no_source rows form h.6 image
+no_follow rows (Follow file f exits by trace hints) form image (inl more) h = clash _ more h.5
+no_follow rows (Follow file f exits by trace hints) form image (inr (inl none)) h = no_value _ _ none h.0
+no_follow rows (Follow file f exits by trace hints) form image (inr (inr (inl none))) h = none exits h.2
+no_follow rows (Follow file f exits by trace hints) form image (inr (inr (inr none))) h = none by h.3
 no_follow rows other form image missing h = h
 
 pub no_formed_replay : (rows : List Row) (job : Job) → ((f : Option ImageForm) → ReadsForm rows f → ⊥)
     → AsksForReplay rows job → ⊥
-no_formed_replay rows (Replay file by trace page hints) none h = none None h.5
-no_formed_replay rows (Follow file form by trace hints) none h = none (Some form) h.1
+no_formed_replay rows (Replay file exits by trace page hints) none h = none None h.6
+no_formed_replay rows (Follow file form exits by trace hints) none h = none (Some form) h.1
 no_formed_replay rows other none h = h
 
 pub no_explain : (rows : List Row) (job : Job)
     → (first_of (codes "FILE") rows ≡ None) ⊎ (((e : ExplainedBy) → IsExplainedBy rows e → ⊥)
     ⊎ ((c : Option ChartOptions) → ReadsChart rows c → ⊥)) → IsExplainOf rows job → ⊥
-no_explain rows (Explain file by chart timeline page places hints) (inl none) h = no_value _ _ none h.0
-no_explain rows (Explain file by chart timeline page places hints) (inr (inl none)) h = none by h.1
-no_explain rows (Explain file by chart timeline page places hints) (inr (inr none)) h = none chart h.2
+no_explain rows (Explain file exits by chart timeline page places hints) (inl none) h = no_value _ _ none h.0
+no_explain rows (Explain file exits by chart timeline page places hints) (inr (inl none)) h = none by h.2
+no_explain rows (Explain file exits by chart timeline page places hints) (inr (inr none)) h = none chart h.3
 no_explain rows other missing h = h
 
 pub no_emit : (rows : List Row) (job : Job)
@@ -88,37 +93,42 @@ no_emit rows (Emit file out hints) (inr none) h = no_value _ _ none h.1
 no_emit rows other missing h = h
 
 pub no_explore : (rows : List Row) (job : Job) → ReadsForm rows None
-    → (is_written (codes "schedule") rows ≡ true) ⊎ ((first_of (codes "FILE") rows ≡ None)
+    → (has_any (codes "schedule" ∷ codes "exits" ∷ []) rows ≡ true) ⊎ ((first_of (codes "FILE") rows ≡ None)
     ⊎ (((n : ℕ) → ReadsStates rows n → ⊥) ⊎ (((n : ℕ) → ReadsKills rows n → ⊥)
     ⊎ ((c : Option ChartOptions) → ReadsChart rows c → ⊥)))) → IsExploreOf rows job → ⊥
-no_explore rows (Explore file states strays kills chart timeline page places hints) source (inl more) h = clash _ more h.10
-no_explore rows (Explore file states strays kills chart timeline page places hints) source (inr (inl none)) h =
+no_explore rows (Explore file exits states strays kills chart timeline page places hints) source (inl more) h =
+    clash _ more h.11
+no_explore rows (Explore file exits states strays kills chart timeline page places hints) source (inr (inl none)) h =
     no_value _ _ none h.0
-no_explore rows (Explore file states strays kills chart timeline page places hints) source (inr (inr (inl none))) h =
-    none states h.1
-no_explore rows (Explore file states strays kills chart timeline page places hints) source (inr (inr (inr (inl none)))) h =
-    none kills h.3
-no_explore rows (Explore file states strays kills chart timeline page places hints) source (inr (inr (inr (inr none)))) h =
-    none chart h.4
-no_explore rows (Search file form states strays kills files hints) source missing h = no_source rows form source h.1
+no_explore rows (Explore file exits states strays kills chart timeline page places hints) source (inr (inr (inl none))) h =
+    none states h.2
+no_explore rows (Explore file exits states strays kills chart timeline page places hints) source (inr (inr (inr (inl none)))) h =
+    none kills h.4
+no_explore rows (Explore file exits states strays kills chart timeline page places hints) source (inr (inr (inr (inr none)))) h =
+    none chart h.5
+no_explore rows (Search file form exits states strays kills files hints) source missing h = no_source rows form source h.1
 no_explore rows other source missing h = h
 
 pub no_search : (rows : List Row) (job : Job) (form : ImageForm) → ReadsForm rows (Some form)
-    → (has_any shows rows ≡ true)
-    ⊎ ((first_of (codes "FILE") rows ≡ None) ⊎ (((n : ℕ) → ReadsStates rows n → ⊥)
-    ⊎ ((n : ℕ) → ReadsKills rows n → ⊥))) → IsExploreOf rows job → ⊥
-no_search rows (Explore file states strays kills chart timeline page places hints) form image missing h =
-    no_source rows form h.9 image
-no_search rows (Search file f states strays kills files hints) form image (inl more) h = clash _ more h.6
-no_search rows (Search file f states strays kills files hints) form image (inr (inl none)) h = no_value _ _ none h.0
-no_search rows (Search file f states strays kills files hints) form image (inr (inr (inl none))) h = none states h.2
-no_search rows (Search file f states strays kills files hints) form image (inr (inr (inr none))) h = none kills h.4
+    → (has_any of_source rows ≡ true)
+    ⊎ ((first_of (codes "FILE") rows ≡ None) ⊎ (((e : Exits) → ReadsExits rows e → ⊥)
+    ⊎ (((n : ℕ) → ReadsStates rows n → ⊥) ⊎ ((n : ℕ) → ReadsKills rows n → ⊥)))) → IsExploreOf rows job → ⊥
+no_search rows (Explore file exits states strays kills chart timeline page places hints) form image missing h =
+    no_source rows form h.10 image
+no_search rows (Search file f exits states strays kills files hints) form image (inl more) h = clash _ more h.7
+no_search rows (Search file f exits states strays kills files hints) form image (inr (inl none)) h =
+    no_value _ _ none h.0
+no_search rows (Search file f exits states strays kills files hints) form image (inr (inr (inl none))) h = none exits h.2
+no_search rows (Search file f exits states strays kills files hints) form image (inr (inr (inr (inl none)))) h =
+    none states h.3
+no_search rows (Search file f exits states strays kills files hints) form image (inr (inr (inr (inr none)))) h =
+    none kills h.5
 no_search rows other form image missing h = h
 
 pub no_formed_search : (rows : List Row) (job : Job) → ((f : Option ImageForm) → ReadsForm rows f → ⊥)
     → IsExploreOf rows job → ⊥
-no_formed_search rows (Explore file states strays kills chart timeline page places hints) none h = none None h.9
-no_formed_search rows (Search file form states strays kills files hints) none h = none (Some form) h.1
+no_formed_search rows (Explore file exits states strays kills chart timeline page places hints) none h = none None h.10
+no_formed_search rows (Search file form exits states strays kills files hints) none h = none (Some form) h.1
 no_formed_search rows other none h = h
 
 pub no_fmt : (rows : List Row) (job : Job) → first_of (codes "FILE") rows ≡ None → IsFmtOf rows job → ⊥

@@ -1,6 +1,6 @@
 -- The commands of the program, and which job the words of a command line ask for. How words are read as a command's
 -- arguments is the definition of the crate clap (`App`, `subcommand_of`).
-use Rattle.std.specs.Prelude.{◌≡◌, ◌<◌, ◌≤◌, ◌^◌, ℕ, Bool, true, false, List, [], ◌∷◌, Option, Some, None, ◌⊎◌, codes}
+use Rattle.std.specs.Prelude.{◌≡◌, ◌<◌, ◌≤◌, ◌^◌, ℕ, Bool, true, false, List, [], ◌∷◌, Option, Some, None, ◌⊎◌, codes, ⊤}
 use Rattle.std.specs.Option.{option_map_or}
 use Rattle.std.specs.Prelude.{find, option_and_then, option_map}
 use Rattle.std.specs.List.{list_any}
@@ -13,7 +13,7 @@ use Rattle.clap.specs.declared.builder.value_parser.ValueParser.TheVariants.{Uns
 use Rattle.clap.specs.declared.parser.matches.ValueSource.{ValueSource}
 use Rattle.clap.specs.declared.parser.matches.ValueSource.TheVariants.{CommandLine}
 use Rattle.words.specs.declared.version.ImageVersion.{ImageVersion}
-use Rattle.words.specs.declared.version.ImageVersion.TheVariants.{One, Two}
+use Rattle.words.specs.declared.version.ImageVersion.TheVariants.{One, Two, Linux}
 use Rattle.clap.specs.declared.builder.command.Command.{Command}
 use Rattle.clap.specs.declared.builder.command.Command.TheViews.{out-Command as fields_of}
 use Rattle.commandline.specs.declared.arguments.Argument.{Argument}
@@ -21,6 +21,8 @@ use Rattle.commandline.specs.declared.arguments.Kind.{Kind}
 use Rattle.commandline.specs.declared.arguments.Kind.TheVariants.{Positional, Optional, Flag, Valued, Number}
 use Rattle.commandline.specs.declared.arguments.Numbers.{Numbers}
 use Rattle.commandline.specs.declared.builder.Subcommand.{Subcommand}
+use Rattle.commandline.specs.declared.options.Exits.{Exits}
+use Rattle.commandline.specs.declared.options.Exits.TheVariants as exits
 use Rattle.commandline.specs.declared.options.Order.{Order}
 use Rattle.commandline.specs.declared.options.Order.TheVariants.{Workers, InOrder, Seed}
 use Rattle.commandline.specs.declared.options.ReplayedBy.{ReplayedBy}
@@ -143,34 +145,41 @@ emit_command =
 abbrev pub check_command : App
 check_command = with_rule (with_rule (new_app (codes "check")) (positional (codes "FILE"))) (flag (codes "hints"))
 
--- `list IMAGE [--source FILE] [--hints]`
+-- `list IMAGE [--linux] [--source FILE] [--hints]`
 abbrev pub list_command : App
 list_command =
-    with_rule (with_rule (with_rule (new_app (codes "list")) (positional (codes "IMAGE"))) (valued (codes "source")))
-    (flag (codes "hints"))
+    with_rule (with_rule (with_rule (with_rule (new_app (codes "list")) (positional (codes "IMAGE")))
+    (flag (codes "linux"))) (valued (codes "source"))) (flag (codes "hints"))
 
--- `run FILE [--steps N] [--in-order | --seed N [--strays N] [--kills N]] [--trace] [--log OUT] [--page OUT] [--hints]`
+-- `run FILE [--steps N] [--in-order | --seed N [--strays N] [--kills N]] [--trace] [--log OUT] [--page OUT] [--linux]
+-- [--hints]`
 abbrev pub run_command : App
 run_command =
-    with_rule (with_rule (with_run_options (with_rule (new_app (codes "run")) (positional (codes "FILE"))))
-    (valued (codes "page"))) (flag (codes "hints"))
+    with_rule (with_rule (with_rule (with_run_options (with_rule (new_app (codes "run")) (positional (codes "FILE"))))
+    (valued (codes "page"))) (flag (codes "linux"))) (flag (codes "hints"))
 
--- `exec IMAGE [--steps N] [--in-order | --seed N [--strays N] [--kills N]] [--trace] [--log OUT] [--assembly]`
+-- `exec IMAGE [--steps N] [--in-order | --seed N [--strays N] [--kills N]] [--trace] [--log OUT] [--assembly]
+-- [--exits RULE]`
 abbrev pub exec_command : App
 exec_command =
-    with_rule (with_run_options (with_rule (new_app (codes "exec")) (positional (codes "IMAGE")))) (flag (codes "assembly"))
+    with_rule (with_rule (with_run_options (with_rule (new_app (codes "exec")) (positional (codes "IMAGE"))))
+    (flag (codes "assembly"))) (valued (codes "exits"))
 
 -- `[--assembly | --image]`
 abbrev pub with_form : App → App
 with_form app = with_rule (with_rule app (flag (codes "assembly"))) (flag (codes "image"))
 
--- `replay FILE (SCHEDULE [--log OUT] | --log LOG [--steps N]) [--trace] [--page OUT] [--hints]`, or of an image
--- `replay FILE (SCHEDULE [--log OUT] | --log LOG [--steps N]) [--trace] (--assembly | --image) [--hints]`
+-- `[--linux] [--exits RULE]`, of which one command takes one or the other
+abbrev pub with_exits : App → App
+with_exits app = with_rule (with_rule app (flag (codes "linux"))) (valued (codes "exits"))
+
+-- `replay FILE (SCHEDULE [--log OUT] | --log LOG [--steps N]) [--trace] [--page OUT] [--linux] [--hints]`, or of an image
+-- `replay FILE (SCHEDULE [--log OUT] | --log LOG [--steps N]) [--trace] (--assembly | --image) [--exits RULE] [--hints]`
 abbrev pub replay_command : App
 replay_command =
-    with_rule (with_form (with_rule (with_rule (with_rule (with_rule (with_rule (with_rule (new_app (codes "replay"))
-    (positional (codes "FILE"))) (new_rule (codes "SCHEDULE"))) steps_option) (flag (codes "trace")))
-    (valued (codes "log"))) (valued (codes "page")))) (flag (codes "hints"))
+    with_rule (with_exits (with_form (with_rule (with_rule (with_rule (with_rule (with_rule (with_rule
+    (new_app (codes "replay")) (positional (codes "FILE"))) (new_rule (codes "SCHEDULE"))) steps_option)
+    (flag (codes "trace"))) (valued (codes "log"))) (valued (codes "page"))))) (flag (codes "hints"))
 
 -- `[--chart OUT [--from N] [--to N]]`
 abbrev pub with_chart_options : App → App
@@ -179,24 +188,24 @@ with_chart_options app =
     (action_option (codes "to"))
 
 -- `explain FILE [[--steps N] [--seed N [--strays N] [--kills N]] | --schedule SCHEDULE | --log LOG [--steps N]]
--- [--chart OUT [--from N] [--to N]] [--timeline OUT] [--page OUT] [--places] [--hints]`
+-- [--chart OUT [--from N] [--to N]] [--timeline OUT] [--page OUT] [--places] [--linux] [--hints]`
 abbrev pub explain_command : App
 explain_command =
-    with_rule (with_rule (with_rule (with_rule (with_chart_options (with_rule (with_rule (with_rule (with_rule
+    with_rule (with_rule (with_rule (with_rule (with_rule (with_chart_options (with_rule (with_rule (with_rule (with_rule
     (with_rule (with_rule (with_rule (new_app (codes "explain")) (positional (codes "FILE"))) steps_option) seed_option)
     strays_option) kills_option) (valued (codes "schedule"))) (valued (codes "log")))) (valued (codes "timeline")))
-    (valued (codes "page"))) (flag (codes "places"))) (flag (codes "hints"))
+    (valued (codes "page"))) (flag (codes "places"))) (flag (codes "linux"))) (flag (codes "hints"))
 
 -- `explore FILE [--states N] [--strays] [--kills N] [--chart OUT [--from N] [--to N]] [--timeline OUT] [--page OUT]
--- [--places] [--hints]`, or of an image
+-- [--places] [--linux] [--hints]`, or of an image
 -- `explore FILE [--states N] [--strays] [--kills N] (--assembly | --image) [--schedule OUT] [--chart OUT] [--timeline OUT]
--- [--hints]`
+-- [--exits RULE] [--hints]`
 abbrev pub explore_command : App
 explore_command =
-    with_rule (with_rule (with_form (with_rule (with_rule (with_rule (with_chart_options (with_rule (with_rule
+    with_rule (with_exits (with_rule (with_form (with_rule (with_rule (with_rule (with_chart_options (with_rule (with_rule
     (with_rule (with_rule (new_app (codes "explore")) (positional (codes "FILE"))) states_option)
     (flag (codes "strays"))) kills_option)) (valued (codes "timeline"))) (valued (codes "page"))) (flag (codes "places"))))
-    (valued (codes "schedule"))) (flag (codes "hints"))
+    (valued (codes "schedule")))) (flag (codes "hints"))
 
 -- `assemble FILE OUT [--hints]`
 abbrev pub assemble_command : App
@@ -283,6 +292,7 @@ ReadsWorkers rows workers = IsNumberOf (one_of (codes "workers") rows) 32 worker
 abbrev pub ReadsVersion : List Row → ImageVersion → Type 0
 ReadsVersion rows One = IsNumberOf (one_of (codes "image") rows) 32 1
 ReadsVersion rows Two = IsNumberOf (one_of (codes "image") rows) 32 2
+ReadsVersion rows Linux = ⊥
 
 -- the text that stands for `--seed` is this number
 abbrev pub ReadsSeed : List Row → ℕ → Type 0
@@ -349,9 +359,9 @@ ReadsOptions rows o =
     ReadsSteps rows o.steps × ReadsOrder rows o.order × ReadsFlag (codes "trace") rows o.trace
     × (first_of (codes "log") rows ≡ option_map (λ log. log.now) o.log)
 
--- how a run is shown that is of a source text alone
-abbrev pub shows : List Text
-shows = codes "from" ∷ codes "to" ∷ codes "page" ∷ codes "places" ∷ []
+-- what a search has that is of a source text alone
+abbrev pub of_source : List Text
+of_source = codes "from" ∷ codes "to" ∷ codes "page" ∷ codes "places" ∷ codes "linux" ∷ []
 
 -- the files that show what a search over an image found
 abbrev pub ReadsSearchFiles : List Row → SearchFiles → Type 0
@@ -372,6 +382,27 @@ ReadsForm rows (Some form.Image) =
 abbrev pub ReadsImageForm : List Row → ImageForm → Type 0
 ReadsImageForm rows form.Assembly = is_written (codes "assembly") rows ≡ true
 ReadsImageForm rows form.Image = is_written (codes "assembly") rows ≡ false
+
+-- by whose rule the exits of a source text's threads wake: where a flag stands by Linux's
+abbrev pub ReadsLinux : List Row → Exits → Type 0
+ReadsLinux rows exits.Machine = is_written (codes "linux") rows ≡ false
+ReadsLinux rows exits.Linux = is_written (codes "linux") rows ≡ true
+
+-- the rule of this name; where none is named the machine's
+abbrev pub IsExits : Option Text → Exits → Type 0
+IsExits None exits.Machine = ⊤
+IsExits None exits.Linux = ⊥
+IsExits (Some rule) exits.Machine = rule ≡ codes "machine"
+IsExits (Some rule) exits.Linux = rule ≡ codes "linux"
+
+-- by whose rule the exits of an image's threads wake: by the one that stands for `--exits`
+abbrev pub ReadsExits : List Row → Exits → Type 0
+ReadsExits rows e = IsExits (first_of (codes "exits") rows) e
+
+-- the version of the image that a source text is compiled to, by the rule of its exits
+abbrev pub version_by : Exits → ImageVersion
+version_by exits.Machine = Two
+version_by exits.Linux = Linux
 
 -- what a replay goes by: where a schedule stands, that one, its log is kept, and it has no limit of steps; else a log
 -- of at most so many
@@ -411,41 +442,43 @@ IsCompileOf rows (Compile file out workers version hints) =
     × ReadsWorkers rows workers × ReadsVersion rows version × ReadsFlag (codes "hints") rows hints
 IsCompileOf rows other = ⊥
 
--- a job of listing
+-- a job of listing an image, or a source text's code for Linux
 abbrev pub IsListOf : List Row → Job → Type 0
-IsListOf rows (List' image source hints) =
-    (first_of (codes "IMAGE") rows ≡ Some image.now)
+IsListOf rows (List' image linux source hints) =
+    (first_of (codes "IMAGE") rows ≡ Some image.now) × ReadsFlag (codes "linux") rows linux
     × (first_of (codes "source") rows ≡ option_map (λ file. file.now) source) × ReadsFlag (codes "hints") rows hints
 IsListOf rows other = ⊥
 
 -- a job of running a source text
 abbrev pub AsksForRun : List Row → Job → Type 0
-AsksForRun rows (Run file options page hints) =
-    (first_of (codes "FILE") rows ≡ Some file.now) × ReadsOptions rows options
+AsksForRun rows (Run file exits options page hints) =
+    (first_of (codes "FILE") rows ≡ Some file.now) × ReadsLinux rows exits × ReadsOptions rows options
     × (first_of (codes "page") rows ≡ option_map (λ out. out.now) page) × ReadsFlag (codes "hints") rows hints
 AsksForRun rows other = ⊥
 
 -- a job of running an image
 abbrev pub AsksForExec : List Row → Job → Type 0
-AsksForExec rows (Exec image form options) =
-    (first_of (codes "IMAGE") rows ≡ Some image.now) × ReadsImageForm rows form × ReadsOptions rows options
+AsksForExec rows (Exec image form exits options) =
+    (first_of (codes "IMAGE") rows ≡ Some image.now) × ReadsImageForm rows form × ReadsExits rows exits
+    × ReadsOptions rows options
 AsksForExec rows other = ⊥
 
 -- a job of running again: a source text, or an image
 abbrev pub AsksForReplay : List Row → Job → Type 0
-AsksForReplay rows (Replay file by trace page hints) =
-    (first_of (codes "FILE") rows ≡ Some file.now) × IsReplayedBy rows by × ReadsFlag (codes "trace") rows trace
-    × (first_of (codes "page") rows ≡ option_map (λ out. out.now) page) × ReadsFlag (codes "hints") rows hints
-    × ReadsForm rows None
-AsksForReplay rows (Follow file form by trace hints) =
-    (first_of (codes "FILE") rows ≡ Some file.now) × ReadsForm rows (Some form) × IsReplayedBy rows by
-    × ReadsFlag (codes "trace") rows trace × (is_written (codes "page") rows ≡ false) × ReadsFlag (codes "hints") rows hints
+AsksForReplay rows (Replay file exits by trace page hints) =
+    (first_of (codes "FILE") rows ≡ Some file.now) × ReadsLinux rows exits × IsReplayedBy rows by
+    × ReadsFlag (codes "trace") rows trace × (first_of (codes "page") rows ≡ option_map (λ out. out.now) page)
+    × ReadsFlag (codes "hints") rows hints × ReadsForm rows None × (is_written (codes "exits") rows ≡ false)
+AsksForReplay rows (Follow file form exits by trace hints) =
+    (first_of (codes "FILE") rows ≡ Some file.now) × ReadsForm rows (Some form) × ReadsExits rows exits
+    × IsReplayedBy rows by × ReadsFlag (codes "trace") rows trace
+    × (has_any (codes "page" ∷ codes "linux" ∷ []) rows ≡ false) × ReadsFlag (codes "hints") rows hints
 AsksForReplay rows other = ⊥
 
 -- a job of explaining
 abbrev pub IsExplainOf : List Row → Job → Type 0
-IsExplainOf rows (Explain file by chart timeline page places hints) =
-    (first_of (codes "FILE") rows ≡ Some file.now) × IsExplainedBy rows by × ReadsChart rows chart
+IsExplainOf rows (Explain file exits by chart timeline page places hints) =
+    (first_of (codes "FILE") rows ≡ Some file.now) × ReadsLinux rows exits × IsExplainedBy rows by × ReadsChart rows chart
     × (first_of (codes "timeline") rows ≡ option_map (λ out. out.now) timeline)
     × (first_of (codes "page") rows ≡ option_map (λ out. out.now) page) × ReadsFlag (codes "places") rows places
     × ReadsFlag (codes "hints") rows hints
@@ -460,16 +493,17 @@ IsEmitOf rows other = ⊥
 
 -- a job of searching all runs, or all schedules of an image
 abbrev pub IsExploreOf : List Row → Job → Type 0
-IsExploreOf rows (Explore file states strays kills chart timeline page places hints) =
-    (first_of (codes "FILE") rows ≡ Some file.now) × ReadsStates rows states × ReadsFlag (codes "strays") rows strays
-    × ReadsKills rows kills × ReadsChart rows chart
+IsExploreOf rows (Explore file exits states strays kills chart timeline page places hints) =
+    (first_of (codes "FILE") rows ≡ Some file.now) × ReadsLinux rows exits × ReadsStates rows states
+    × ReadsFlag (codes "strays") rows strays × ReadsKills rows kills × ReadsChart rows chart
     × (first_of (codes "timeline") rows ≡ option_map (λ out. out.now) timeline)
     × (first_of (codes "page") rows ≡ option_map (λ out. out.now) page) × ReadsFlag (codes "places") rows places
-    × ReadsFlag (codes "hints") rows hints × ReadsForm rows None × (is_written (codes "schedule") rows ≡ false)
-IsExploreOf rows (Search file form states strays kills files hints) =
-    (first_of (codes "FILE") rows ≡ Some file.now) × ReadsForm rows (Some form) × ReadsStates rows states
-    × ReadsFlag (codes "strays") rows strays × ReadsKills rows kills × ReadsSearchFiles rows files
-    × (has_any shows rows ≡ false) × ReadsFlag (codes "hints") rows hints
+    × ReadsFlag (codes "hints") rows hints × ReadsForm rows None
+    × (has_any (codes "schedule" ∷ codes "exits" ∷ []) rows ≡ false)
+IsExploreOf rows (Search file form exits states strays kills files hints) =
+    (first_of (codes "FILE") rows ≡ Some file.now) × ReadsForm rows (Some form) × ReadsExits rows exits
+    × ReadsStates rows states × ReadsFlag (codes "strays") rows strays × ReadsKills rows kills
+    × ReadsSearchFiles rows files × (has_any of_source rows ≡ false) × ReadsFlag (codes "hints") rows hints
 IsExploreOf rows other = ⊥
 
 -- a job of assembling

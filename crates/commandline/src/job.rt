@@ -9,10 +9,13 @@ ghost use Rattle.commandline.specs.declared.job.Job.{Job as JobOf};
 
 use crate::builder::command;
 use crate::fault::WordsFault;
-use crate::options::{ChartOptions, ExplainedBy, ImageForm, ReplayedBy, RunOptions, SearchFiles};
+use crate::options::{
+    ChartOptions, Exits, ExplainedBy, ImageForm, ReplayedBy, RunOptions, SearchFiles,
+};
 use crate::refusing::refusal_of;
 use crate::sources::{
-    explained_by, form_of, image_form_of, replayed_by, search_files_of, shows_source,
+    exits_of, explained_by, form_of, image_form_of, linux_of, replayed_by, replays_source,
+    search_files_of, searches_image, searches_source,
 };
 use crate::values::{
     chart_of, is_written, kills_of, options_of, states_of, version_of, workers_of,
@@ -44,10 +47,12 @@ pub enum Job<'a> {
         /// Whether hints stand behind a refusal of the source text.
         hints: bool,
     },
-    /// Print the instructions of an image.
+    /// Print the instructions of an image, or those of a source text's code for Linux.
     List {
-        /// The name of the image's file.
+        /// The name of the file of the image or the source text.
         image: &'a str,
+        /// Whether it is a source text.
+        linux: bool,
         /// The name of the file of the source text whose image it is, where its lines stand between the instructions.
         source: Option<&'a str>,
         /// Whether hints stand behind a refusal of the source text.
@@ -57,6 +62,8 @@ pub enum Job<'a> {
     Run {
         /// The name of the source text's file.
         file: &'a str,
+        /// By whose rule the exits of its threads wake.
+        exits: Exits,
         /// How it goes.
         options: RunOptions<'a>,
         /// The name of the page's file, where one is wanted.
@@ -70,6 +77,8 @@ pub enum Job<'a> {
         image: &'a str,
         /// Which of the two it is.
         form: ImageForm,
+        /// By whose rule the exits of its threads wake.
+        exits: Exits,
         /// How it goes.
         options: RunOptions<'a>,
     },
@@ -78,6 +87,8 @@ pub enum Job<'a> {
     Replay {
         /// The name of the source text's file.
         file: &'a str,
+        /// By whose rule the exits of its threads wake.
+        exits: Exits,
         /// What it goes by.
         by: ReplayedBy<'a>,
         /// Whether the log is shown.
@@ -91,6 +102,8 @@ pub enum Job<'a> {
     Explain {
         /// The name of the source text's file.
         file: &'a str,
+        /// By whose rule the exits of its threads wake.
+        exits: Exits,
         /// Which run it is.
         by: ExplainedBy<'a>,
         /// The picture of it, where one is wanted.
@@ -118,6 +131,8 @@ pub enum Job<'a> {
     Explore {
         /// The name of the source text's file.
         file: &'a str,
+        /// By whose rule the exits of its image's threads wake.
+        exits: Exits,
         /// The most states that are kept.
         states: u32,
         /// Whether the runs with stray wakes are searched too.
@@ -142,6 +157,8 @@ pub enum Job<'a> {
         file: &'a str,
         /// Which of the two it is.
         form: ImageForm,
+        /// By whose rule the exits of its threads wake.
+        exits: Exits,
         /// The most states that are kept.
         states: u32,
         /// Whether the schedules with stray wakes are searched too.
@@ -159,6 +176,8 @@ pub enum Job<'a> {
         file: &'a str,
         /// Which of the two it is.
         form: ImageForm,
+        /// By whose rule the exits of its threads wake.
+        exits: Exits,
         /// What it goes by.
         by: ReplayedBy<'a>,
         /// Whether the log is shown.
@@ -287,10 +306,12 @@ fn list_of<'a>(matches: &ArgMatches<'a>) -> Option<Job<'a>>
         → ⊥ }
 {
     let image = matches.get_str("IMAGE")?;
+    let linux = matches.get_flag("linux");
     let source = matches.get_str("source");
     let hints = matches.get_flag("hints");
     Some(Job::List {
         image,
+        linux,
         source,
         hints,
     })
@@ -302,11 +323,13 @@ fn run_of<'a>(matches: &ArgMatches<'a>) -> Option<Job<'a>>
         → ⊥ }
 {
     let file = matches.get_str("FILE")?;
+    let exits = linux_of(matches);
     let options = options_of(matches)?;
     let page = matches.get_str("page");
     let hints = matches.get_flag("hints");
     Some(Job::Run {
         file,
+        exits,
         options,
         page,
         hints,
@@ -320,10 +343,12 @@ fn exec_of<'a>(matches: &ArgMatches<'a>) -> Option<Job<'a>>
 {
     let image = matches.get_str("IMAGE")?;
     let form = image_form_of(matches);
+    let exits = exits_of(matches)?;
     let options = options_of(matches)?;
     Some(Job::Exec {
         image,
         form,
+        exits,
         options,
     })
 }
@@ -346,13 +371,18 @@ fn replayed_of<'a>(matches: &ArgMatches<'a>) -> Option<Job<'a>>
     ensures none { result ≡ None → (job : JobOf)
         → AsksForReplay (rows_of (found_of matches.now)) job → ⊥ }
 {
+    if is_written(matches, "exits") {
+        return None;
+    }
     let file = matches.get_str("FILE")?;
+    let exits = linux_of(matches);
     let by = replayed_by(matches)?;
     let trace = matches.get_flag("trace");
     let page = matches.get_str("page");
     let hints = matches.get_flag("hints");
     Some(Job::Replay {
         file,
+        exits,
         by,
         trace,
         page,
@@ -367,16 +397,18 @@ fn follow_of<'a>(matches: &ArgMatches<'a>, form: ImageForm) -> Option<Job<'a>>
     ensures none { result ≡ None → (job : JobOf)
         → AsksForReplay (rows_of (found_of matches.now)) job → ⊥ }
 {
-    if is_written(matches, "page") {
+    if replays_source(matches) {
         return None;
     }
     let file = matches.get_str("FILE")?;
+    let exits = exits_of(matches)?;
     let by = replayed_by(matches)?;
     let trace = matches.get_flag("trace");
     let hints = matches.get_flag("hints");
     Some(Job::Follow {
         file,
         form,
+        exits,
         by,
         trace,
         hints,
@@ -389,6 +421,7 @@ fn explain_of<'a>(matches: &ArgMatches<'a>) -> Option<Job<'a>>
         → ⊥ }
 {
     let file = matches.get_str("FILE")?;
+    let exits = linux_of(matches);
     let by = explained_by(matches)?;
     let chart = chart_of(matches)?;
     let timeline = matches.get_str("timeline");
@@ -397,6 +430,7 @@ fn explain_of<'a>(matches: &ArgMatches<'a>) -> Option<Job<'a>>
     let hints = matches.get_flag("hints");
     Some(Job::Explain {
         file,
+        exits,
         by,
         chart,
         timeline,
@@ -435,10 +469,11 @@ fn explored_of<'a>(matches: &ArgMatches<'a>) -> Option<Job<'a>>
     ensures none { result ≡ None → (job : JobOf) → IsExploreOf (rows_of (found_of matches.now)) job
         → ⊥ }
 {
-    if is_written(matches, "schedule") {
+    if searches_image(matches) {
         return None;
     }
     let file = matches.get_str("FILE")?;
+    let exits = linux_of(matches);
     let states = states_of(matches)?;
     let strays = matches.get_flag("strays");
     let kills = kills_of(matches)?;
@@ -449,6 +484,7 @@ fn explored_of<'a>(matches: &ArgMatches<'a>) -> Option<Job<'a>>
     let hints = matches.get_flag("hints");
     Some(Job::Explore {
         file,
+        exits,
         states,
         strays,
         kills,
@@ -467,10 +503,11 @@ fn search_of<'a>(matches: &ArgMatches<'a>, form: ImageForm) -> Option<Job<'a>>
     ensures none { result ≡ None → (job : JobOf) → IsExploreOf (rows_of (found_of matches.now)) job
         → ⊥ }
 {
-    if shows_source(matches) {
+    if searches_source(matches) {
         return None;
     }
     let file = matches.get_str("FILE")?;
+    let exits = exits_of(matches)?;
     let states = states_of(matches)?;
     let strays = matches.get_flag("strays");
     let kills = kills_of(matches)?;
@@ -479,6 +516,7 @@ fn search_of<'a>(matches: &ArgMatches<'a>, form: ImageForm) -> Option<Job<'a>>
     Some(Job::Search {
         file,
         form,
+        exits,
         states,
         strays,
         kills,

@@ -14,5 +14,5 @@ mod values;
 pub use fault::WordsFault;
 pub use job::{Job, line};
 pub use options::{
-    ChartOptions, ExplainedBy, ImageForm, Order, ReplayedBy, RunOptions, SearchFiles,
+    ChartOptions, Exits, ExplainedBy, ImageForm, Order, ReplayedBy, RunOptions, SearchFiles,
 };

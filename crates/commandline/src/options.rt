@@ -1,3 +1,8 @@
+ghost use Rattle.std.specs.Prelude.{◌≡◌};
+ghost use Rattle.commandline.specs.CommandLine.{version_by};
+
+use words::ImageVersion;
+
 // The most workers that compile a text, as `codegen_workers` has it: this crate stands on none of the compiler.
 pub(crate) const MOST_WORKERS: u32 = 64;
 
@@ -110,4 +115,25 @@ pub enum ImageForm {
     Assembly,
     /// As its own bytes.
     Image,
+}
+
+/// By whose rule the exit of a thread wakes others.
+#[derive(Clone, Copy)]
+pub enum Exits {
+    /// This machine's own rule.
+    Machine,
+    /// Linux's rule, which wakes fewer. A source text is compiled for it: its locks are given up so that none is missed.
+    Linux,
+}
+
+impl Exits {
+    /// The version of the image that a source text is compiled to.
+    pub fn version(self) -> ImageVersion
+        ensures { result ≡ version_by self }
+    {
+        match self {
+            Exits::Machine => ImageVersion::Two,
+            Exits::Linux => ImageVersion::Linux,
+        }
+    }
 }

@@ -1,5 +1,5 @@
 use crate::builder::Subcommand;
-use crate::sources::explained_by;
+use crate::sources::{exits_of, explained_by};
 use crate::tables::{EXEC, EXPLAIN, EXPLORE, REPLAY, RUN};
 use crate::values::is_written;
 use clap::error::ErrorKind;
@@ -22,6 +22,15 @@ const STEPS_BY_SCHEDULE: &str = "the argument '--steps <N>' cannot be used with 
 
 // What is said of a file that is to be in two forms.
 const TWO_FORMS: &str = "the argument '--assembly' cannot be used with '--image'";
+
+// What is said of an image that is to be of a source text.
+const LINUX_OF_IMAGE: &str = "the argument '--linux' cannot be used with '--assembly' or '--image'";
+
+// What is said of a rule of exits that is none, or that a source text is to have.
+const NO_RULE: &str = "the value of '--exits <RULE>' is machine or linux";
+
+const EXITS_OF_SOURCE: &str =
+    "the argument '--exits <RULE>' cannot be used without '--assembly' or '--image'";
 
 // What is said of pictures of an image's runs.
 const PAGE_OF_IMAGE: &str =
@@ -73,7 +82,8 @@ fn refused(name: &str) -> (Subcommand<'static>, &'static str) {
 // Why the arguments of the command of a name ask for no job.
 fn reason(name: &str, matches: &ArgMatches<'_>) -> (ErrorKind, &'static str) {
     match name {
-        "run" | "exec" => no_order(matches),
+        "run" => no_order(matches),
+        "exec" => no_run_of_image(matches),
         "replay" => no_replay(matches),
         "explore" => no_search(matches),
         _ => no_explanation(matches),
@@ -86,9 +96,31 @@ fn no_replay(matches: &ArgMatches<'_>) -> (ErrorKind, &'static str) {
     let is_image = is_written(matches, "image");
     if is_assembly && is_image {
         (ErrorKind::ArgumentConflict, TWO_FORMS)
-    } else if (is_assembly || is_image) && is_written(matches, "page") {
+    } else if is_assembly || is_image {
+        no_follow(matches)
+    } else if is_written(matches, "exits") {
+        (ErrorKind::MissingRequiredArgument, EXITS_OF_SOURCE)
+    } else {
+        no_source(matches)
+    }
+}
+
+// Why those of an image do.
+fn no_follow(matches: &ArgMatches<'_>) -> (ErrorKind, &'static str) {
+    if is_written(matches, "page") {
         (ErrorKind::ArgumentConflict, PAGE_OF_IMAGE)
-    } else if is_written(matches, "SCHEDULE") {
+    } else if is_written(matches, "linux") {
+        (ErrorKind::ArgumentConflict, LINUX_OF_IMAGE)
+    } else if exits_of(matches).is_none() {
+        (ErrorKind::ValueValidation, NO_RULE)
+    } else {
+        no_source(matches)
+    }
+}
+
+// Why the arguments of a replay name nothing that it goes by.
+fn no_source(matches: &ArgMatches<'_>) -> (ErrorKind, &'static str) {
+    if is_written(matches, "SCHEDULE") {
         (ErrorKind::ArgumentConflict, STEPS_BY_SCHEDULE)
     } else {
         (ErrorKind::MissingRequiredArgument, NO_SCHEDULE)
@@ -102,11 +134,33 @@ fn no_search(matches: &ArgMatches<'_>) -> (ErrorKind, &'static str) {
     if is_assembly && is_image {
         (ErrorKind::ArgumentConflict, TWO_FORMS)
     } else if is_assembly || is_image {
-        (ErrorKind::ArgumentConflict, PICTURE_OF_IMAGE)
+        no_search_of_image(matches)
     } else if is_written(matches, "schedule") {
         (ErrorKind::MissingRequiredArgument, SCHEDULE_OF_SOURCE)
+    } else if is_written(matches, "exits") {
+        (ErrorKind::MissingRequiredArgument, EXITS_OF_SOURCE)
     } else {
         no_chart(matches)
+    }
+}
+
+// Why those of an image do.
+fn no_search_of_image(matches: &ArgMatches<'_>) -> (ErrorKind, &'static str) {
+    if is_written(matches, "linux") {
+        (ErrorKind::ArgumentConflict, LINUX_OF_IMAGE)
+    } else if exits_of(matches).is_none() {
+        (ErrorKind::ValueValidation, NO_RULE)
+    } else {
+        (ErrorKind::ArgumentConflict, PICTURE_OF_IMAGE)
+    }
+}
+
+// Why the arguments of `exec` ask for nothing.
+fn no_run_of_image(matches: &ArgMatches<'_>) -> (ErrorKind, &'static str) {
+    if exits_of(matches).is_none() {
+        (ErrorKind::ValueValidation, NO_RULE)
+    } else {
+        no_order(matches)
     }
 }
 

@@ -1,14 +1,15 @@
 ghost use Rattle.std.specs.Prelude.{IfSome, None, Option as OptionOf, Some, [], ◌∷◌, codes, true, false, ◌≡◌};
 ghost use Rattle.clap.specs.Words.{first_of, found_of};
 ghost use Rattle.clap.specs.Walk.{rows_of};
-ghost use Rattle.commandline.specs.CommandLine.{IsExplainedBy, IsReplayedBy, ReadsForm, ReadsImageForm, has_any, shows};
-ghost use Rattle.commandline.specs.CommandLine.{ReadsSearchFiles};
+ghost use Rattle.commandline.specs.CommandLine.{IsExplainedBy, IsReplayedBy, ReadsForm, ReadsImageForm, has_any, of_source};
+ghost use Rattle.commandline.specs.CommandLine.{IsExits, ReadsExits, ReadsLinux, ReadsSearchFiles};
 ghost use Rattle.commandline.specs.CommandLine.{is_written as stands};
+ghost use Rattle.commandline.specs.declared.options.Exits.{Exits as ExitsOf};
 ghost use Rattle.commandline.specs.declared.options.ExplainedBy.{ExplainedBy as Explained};
 ghost use Rattle.commandline.specs.declared.options.ImageForm.{ImageForm as FormOf};
 ghost use Rattle.commandline.specs.declared.options.ReplayedBy.{ReplayedBy as Replayed};
 
-use crate::options::{ExplainedBy, ImageForm, ReplayedBy, SearchFiles};
+use crate::options::{Exits, ExplainedBy, ImageForm, ReplayedBy, SearchFiles};
 use crate::values::{is_written, kills_of, names_outside, seed_of, steps_of, strays_of};
 use clap::ArgMatches;
 
@@ -78,14 +79,66 @@ pub fn image_form_of(matches: &ArgMatches<'_>) -> ImageForm
     }
 }
 
-/// Whether the words say how a run is shown that is of a source text alone.
-pub fn shows_source(matches: &ArgMatches<'_>) -> bool
-    ensures { result ≡ has_any shows (rows_of (found_of matches.now)) }
+/// Whether the words have what a search has that is of a source text alone.
+pub fn searches_source(matches: &ArgMatches<'_>) -> bool
+    ensures { result ≡ has_any of_source (rows_of (found_of matches.now)) }
 {
     is_written(matches, "from")
         || is_written(matches, "to")
         || is_written(matches, "page")
         || is_written(matches, "places")
+        || is_written(matches, "linux")
+}
+
+/// Whether the words have what a search has that is of an image alone.
+pub fn searches_image(matches: &ArgMatches<'_>) -> bool
+    ensures { result
+        ≡ has_any (codes "schedule" ∷ codes "exits" ∷ []) (rows_of (found_of matches.now)) }
+{
+    is_written(matches, "schedule") || is_written(matches, "exits")
+}
+
+/// Whether the words have what a replay has that is of a source text alone.
+pub fn replays_source(matches: &ArgMatches<'_>) -> bool
+    ensures { result
+        ≡ has_any (codes "page" ∷ codes "linux" ∷ []) (rows_of (found_of matches.now)) }
+{
+    is_written(matches, "page") || is_written(matches, "linux")
+}
+
+/// By whose rule the exits of a source text's threads wake, as a flag says.
+pub fn linux_of(matches: &ArgMatches<'_>) -> Exits
+    ensures { ReadsLinux (rows_of (found_of matches.now)) result }
+{
+    if is_written(matches, "linux") {
+        Exits::Linux
+    } else {
+        Exits::Machine
+    }
+}
+
+/// By whose rule the exits of an image's threads wake: this machine's, where none is named.
+pub fn exits_of(matches: &ArgMatches<'_>) -> Option<Exits>
+    ensures exits { IfSome result (ReadsExits (rows_of (found_of matches.now))) }
+    ensures none { result ≡ None → (e : ExitsOf)
+        → ReadsExits (rows_of (found_of matches.now)) e → ⊥ }
+{
+    match matches.get_str("exits") {
+        Some(rule) => exits_named(rule),
+        None => Some(Exits::Machine),
+    }
+}
+
+// The rule of this name.
+fn exits_named(rule: &str) -> Option<Exits>
+    ensures exits { IfSome result (IsExits (Some rule.now)) }
+    ensures none { result ≡ None → (e : ExitsOf) → IsExits (Some rule.now) e → ⊥ }
+{
+    match rule {
+        "machine" => Some(Exits::Machine),
+        "linux" => Some(Exits::Linux),
+        _ => None,
+    }
 }
 
 /// The files that show what a search over an image found.

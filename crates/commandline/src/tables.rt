@@ -17,12 +17,6 @@ const ANY_FILE: Argument = Argument {
     help: "The source text; with a flag the assembly text or the image",
 };
 
-const IMAGE: Argument = Argument {
-    name: "IMAGE",
-    kind: Kind::Positional,
-    help: "The image",
-};
-
 const HINTS: Argument = Argument {
     name: "hints",
     kind: Kind::Flag,
@@ -186,7 +180,16 @@ const LIST: Subcommand = Subcommand {
     name: "list",
     about: "Prints the instructions of an image",
     arguments: &[
-        IMAGE,
+        Argument {
+            name: "IMAGE",
+            kind: Kind::Positional,
+            help: "The image; with a flag a source text",
+        },
+        Argument {
+            name: "linux",
+            kind: Kind::Flag,
+            help: "IMAGE is a source text, whose code for Linux's rule of exits is listed",
+        },
         Argument {
             name: "source",
             kind: Kind::Valued("FILE"),
@@ -215,6 +218,20 @@ const IS_IMAGE: Argument = Argument {
     help: "FILE is an image",
 };
 
+// That a source text is run by Linux's rule of exits.
+const LINUX: Argument = Argument {
+    name: "linux",
+    kind: Kind::Flag,
+    help: "Compiles FILE for Linux's rule of exits, and goes by it",
+};
+
+// By which rule the exits of an image's threads wake.
+const EXITS: Argument = Argument {
+    name: "exits",
+    kind: Kind::Valued("RULE"),
+    help: "Beside --assembly or --image: whose rule of exits holds, machine or linux",
+};
+
 // Where the log of a run is written.
 const RUN_LOG: Argument = Argument {
     name: "log",
@@ -227,7 +244,7 @@ pub(crate) const RUN: Subcommand = Subcommand {
     name: "run",
     about: "Runs a source text and prints its output",
     arguments: &[
-        FILE, STEPS, IN_ORDER, SEED, STRAYS, KILLS, TRACE, RUN_LOG, PAGE, HINTS,
+        FILE, STEPS, IN_ORDER, SEED, STRAYS, KILLS, TRACE, RUN_LOG, PAGE, LINUX, HINTS,
     ],
 };
 
@@ -253,6 +270,11 @@ pub(crate) const EXEC: Subcommand = Subcommand {
             kind: Kind::Flag,
             help: "IMAGE is an assembly text",
         },
+        Argument {
+            name: "exits",
+            kind: Kind::Valued("RULE"),
+            help: "Whose rule of exits holds: machine or linux",
+        },
     ],
 };
 
@@ -277,6 +299,8 @@ pub(crate) const REPLAY: Subcommand = Subcommand {
         PAGE,
         ASSEMBLY,
         IS_IMAGE,
+        LINUX,
+        EXITS,
         HINTS,
     ],
 };
@@ -311,6 +335,7 @@ pub(crate) const EXPLAIN: Subcommand = Subcommand {
         TIMELINE,
         PAGE,
         PLACES,
+        LINUX,
         HINTS,
     ],
 };
@@ -371,6 +396,8 @@ pub(crate) const EXPLORE: Subcommand = Subcommand {
             kind: Kind::Valued("OUT"),
             help: "Beside --assembly or --image, where a schedule of what is found is written",
         },
+        LINUX,
+        EXITS,
         HINTS,
     ],
 };

@@ -1,12 +1,14 @@
 -- How the program ends, by what it told.
 use Rattle.std.proofs.Common.{◌≡◌, ◌++◌, ◌⊎◌, ℕ, Bool, true, false, List, [], Result, Ok, Err, IfOk, IfErr, inl, inr, refl, codes}
-use Rattle.std.proofs.Common.{◌∙◌, Bor, is_some, sym, subst}
+use Rattle.std.proofs.Common.{◌∙◌, Bor, ap, is_some, sym, subst}
 use Rattle.std.specs.Prelude.{bytes_eq}
 use Rattle.commandline.specs.CommandLine.{AsksFor}
 use Rattle.commandline.specs.declared.job.Job.{Job}
 use Rattle.commandline.specs.declared.job.Job.TheVariants.{Check, Compile, List as ListImage, Run, Exec, Replay, Explain, Emit, Explore}
 use Rattle.commandline.specs.declared.job.Job.TheVariants.{Assemble, Fmt, Follow, Search}
 use Rattle.commandline.proofs.Workers.{compiling_workers}
+use Rattle.commandline.specs.declared.options.Exits.{Exits}
+use Rattle.answers.proofs.Told.{ok_so, refused_so}
 use Rattle.log_text.specs.LogLines.{line_feed}
 use Rattle.assembler.specs.Refusals.{refusal_text as assembly_refusal_text}
 use Rattle.assembler.specs.declared.refusal.AssemblyRefusal.{AssemblyRefusal}
@@ -15,7 +17,7 @@ use Rattle.scanner.specs.declared.refusal.Refusal.{Refusal}
 use Rattle.runner.specs.declared.report.Verdict.{Verdict}
 use Rattle.runner.specs.declared.report.Verdict.TheVariants as verdict
 use Rattle.answers.specs.Answers.{IsTold, IsToldOrMemory, status_of_verdict}
-use Rattle.mesamon.specs.Asked.{HasWorkers, asks_for_hints}
+use Rattle.mesamon.specs.Asked.{HasWorkers, asks_for_hints, exits_of}
 use Rattle.mesamon.specs.Commands.{Devices, EndsSo, FinishesSo, HasAnswered, HasDone, HasDoneSome, IsNoCommand, IsToldFailed}
 use Rattle.mesamon.specs.Commands.{IsToldLeft, RefusesJob, RefusesSome, UnassemblesJob, UnassemblesSome}
 use Rattle.image_search.specs.declared.ending.Ending.{Ending}
@@ -38,6 +40,16 @@ pub done_as : {E : Type 0} (r : Result Answer E) (job same : Job) (bytes second 
     → IfOk r (HasDone same bytes second) → IfOk r (HasDone job bytes second)
 done_as r job same bytes second is h = subst (λ (j : Job). IfOk r (HasDone j bytes second)) (sym is) h
 
+-- the same where it is known of the rule of exits that a text has, which is the job's
+pub done_by : {E : Type 0} (r : Result Answer E) (job same : Job) (bytes second : List ℕ) (e : Exits)
+    (Holds : Exits → Answer → Type 0) → job ≡ same → e ≡ exits_of job
+    → ((a : Answer) → Holds (exits_of same) a → HasDone same bytes second a) → IfOk r (Holds e)
+    → IfOk r (HasDone job bytes second)
+done_by r job same bytes second e Holds is by on h =
+    done_as r job same bytes second is
+    (ok_so r (Holds (exits_of same)) (HasDone same bytes second) on
+    (subst (λ (x : Exits). IfOk r (Holds x)) (by ∙ ap exits_of is) h))
+
 is_left : (n : NoAnswer) (job : Job) (bytes second : List ℕ) → IsRefusalBy (RefusesJob job bytes second) n
     → IsLeftBy (RefusesJob job bytes second) (UnassemblesJob job bytes) n
 is_left (left.Refused e) job bytes second h = h
@@ -57,6 +69,15 @@ pub refused_as : {T : Type 0} (r : Result T NoAnswer) (job same : Job) (bytes se
 refused_as r job same bytes second is h =
     subst (λ (j : Job). IfErr r (IsLeftBy (RefusesJob j bytes second) (UnassemblesJob j bytes))) (sym is)
     (all_left r same bytes second h)
+
+pub refused_by : {T : Type 0} (r : Result T NoAnswer) (job same : Job) (bytes second : List ℕ) (e : Exits)
+    (Refuses : Exits → Refusal → Type 0) → job ≡ same → e ≡ exits_of job
+    → ((x : Refusal) → Refuses (exits_of same) x → RefusesJob same bytes second x) → IfErr r (IsRefusalBy (Refuses e))
+    → IfErr r (IsLeftBy (RefusesJob job bytes second) (UnassemblesJob job bytes))
+refused_by r job same bytes second e Refuses is by on h =
+    refused_as r job same bytes second is
+    (refused_so r (Refuses (exits_of same)) (RefusesJob same bytes second) on
+    (subst (λ (x : Exits). IfErr r (IsRefusalBy (Refuses x))) (by ∙ ap exits_of is) h))
 
 -- the same of an assembly text: no source text is refused
 unassembled : (n : NoAnswer) (U : AssemblyRefusal → Type 0) (job : Job) (bytes second : List ℕ)
@@ -85,15 +106,15 @@ pub has_workers : (ws : List (List ℕ)) (job : Job) → AsksFor ws job → HasW
 has_workers ws (Check file hints) asks = tt
 has_workers ws (Compile file out workers version hints) asks =
     compiling_workers ws (Compile file out workers version hints) file out workers version hints asks refl
-has_workers ws (ListImage image source hints) asks = tt
-has_workers ws (Run file options page hints) asks = tt
-has_workers ws (Exec image form options) asks = tt
-has_workers ws (Replay file by trace page hints) asks = tt
-has_workers ws (Explain file by chart timeline page places hints) asks = tt
+has_workers ws (ListImage image linux source hints) asks = tt
+has_workers ws (Run file exits options page hints) asks = tt
+has_workers ws (Exec image form exits options) asks = tt
+has_workers ws (Replay file exits by trace page hints) asks = tt
+has_workers ws (Explain file exits by chart timeline page places hints) asks = tt
 has_workers ws (Emit file out hints) asks = tt
-has_workers ws (Explore file states strays kills chart timeline page places hints) asks = tt
-has_workers ws (Search file form states strays kills files hints) asks = tt
-has_workers ws (Follow file form by trace hints) asks = tt
+has_workers ws (Explore file exits states strays kills chart timeline page places hints) asks = tt
+has_workers ws (Search file form exits states strays kills files hints) asks = tt
+has_workers ws (Follow file form exits by trace hints) asks = tt
 has_workers ws (Assemble file out hints) asks = tt
 has_workers ws (Fmt file check hints) asks = tt
 
@@ -143,20 +164,20 @@ end_as s t is h = subst IsEnd (sym is) h
 ends : (job : Job) (bytes second : List ℕ) (a : Answer) → HasDone job bytes second a → IsEnd a.status
 ends (Check file hints) bytes second a h = end_as a.status Done h.tells.ended tt
 ends (Compile file out workers version hints) bytes second a h = end_as a.status Done h.tells.ended tt
-ends (ListImage image source hints) bytes second a h = end_as a.status Done h.tells.ended tt
-ends (Run file options page hints) bytes second a h = end_as a.status _ h.tells.ended (verdict_end h.report.verdict)
-ends (Exec image form options) bytes second a h = end_as a.status _ h.runs.tells.ended (verdict_end h.runs.report.verdict)
-ends (Replay file by trace page hints) bytes second a h = end_as a.status _ h.tells.ended (verdict_end h.report.verdict)
-ends (Explain file by chart timeline page places hints) bytes second a h =
+ends (ListImage image linux source hints) bytes second a h = end_as a.status Done h.tells.ended tt
+ends (Run file exits options page hints) bytes second a h = end_as a.status _ h.tells.ended (verdict_end h.report.verdict)
+ends (Exec image form exits options) bytes second a h = end_as a.status _ h.runs.tells.ended (verdict_end h.runs.report.verdict)
+ends (Replay file exits by trace page hints) bytes second a h = end_as a.status _ h.tells.ended (verdict_end h.report.verdict)
+ends (Explain file exits by chart timeline page places hints) bytes second a h =
     end_as a.status _ h.tells.ended (verdict_end h.explained_run.report.verdict)
 ends (Emit file out hints) bytes second a h = end_as a.status Done h.tells.1.ended tt
-ends (Explore file states strays kills chart timeline page places hints) bytes second a h =
+ends (Explore file exits states strays kills chart timeline page places hints) bytes second a h =
     let e = h.explored_text.exploration in
     end_as a.status _ h.tells.ended (found_end (is_some e.stuck) (is_failed e) e.complete)
-ends (Search file form states strays kills files hints) bytes second a h =
+ends (Search file form exits states strays kills files hints) bytes second a h =
     let e = h.searches.exploration in
     end_as a.status _ h.searches.tells.ended (search_end e.sleeping e.ending)
-ends (Follow file form by trace hints) bytes second a h =
+ends (Follow file form exits by trace hints) bytes second a h =
     end_as a.status _ h.follows.tells.ended (verdict_end h.follows.report.verdict)
 ends (Fmt file check hints) bytes second a h =
     end_as a.status _ h.tells.ended (layout_end check (bytes_eq h.laid bytes))

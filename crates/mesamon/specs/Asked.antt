@@ -7,6 +7,8 @@ use Rattle.commandline.specs.declared.options.ExplainedBy.TheVariants.{Order, Se
 use Rattle.commandline.specs.declared.job.Job.{Job}
 use Rattle.commandline.specs.declared.job.Job.TheVariants.{Check, Compile, List as ListImage, Run, Exec, Replay, Explain, Emit, Explore}
 use Rattle.commandline.specs.declared.job.Job.TheVariants.{Assemble, Fmt, Follow, Search}
+use Rattle.commandline.specs.declared.options.Exits.{Exits}
+use Rattle.commandline.specs.declared.options.Exits.TheVariants as rule
 use Rattle.commandline.specs.declared.options.ImageForm.{ImageForm}
 use Rattle.commandline.specs.declared.options.ImageForm.TheVariants as form
 use Rattle.commandline.specs.declared.options.ReplayedBy.{ReplayedBy}
@@ -19,17 +21,33 @@ use Rattle.answers.specs.LogLimits.{log_bytes}
 abbrev pub asks_for_hints : Job → Bool
 asks_for_hints (Check file hints) = hints
 asks_for_hints (Compile file out workers version hints) = hints
-asks_for_hints (ListImage image source hints) = hints
-asks_for_hints (Run file options page hints) = hints
-asks_for_hints (Exec image form options) = false
-asks_for_hints (Replay file by trace page hints) = hints
-asks_for_hints (Explain file by chart timeline page places hints) = hints
+asks_for_hints (ListImage image linux source hints) = hints
+asks_for_hints (Run file exits options page hints) = hints
+asks_for_hints (Exec image form exits options) = false
+asks_for_hints (Replay file exits by trace page hints) = hints
+asks_for_hints (Explain file exits by chart timeline page places hints) = hints
 asks_for_hints (Emit file out hints) = hints
-asks_for_hints (Explore file states strays kills chart timeline page places hints) = hints
-asks_for_hints (Search file form states strays kills files hints) = hints
-asks_for_hints (Follow file form by trace hints) = hints
+asks_for_hints (Explore file exits states strays kills chart timeline page places hints) = hints
+asks_for_hints (Search file form exits states strays kills files hints) = hints
+asks_for_hints (Follow file form exits by trace hints) = hints
 asks_for_hints (Assemble file out hints) = hints
 asks_for_hints (Fmt file check hints) = hints
+
+-- by whose rule the exits of the threads wake that a job runs: where it runs none, by this machine's
+abbrev pub exits_of : Job → Exits
+exits_of (Check file hints) = rule.Machine
+exits_of (Compile file out workers version hints) = rule.Machine
+exits_of (ListImage image linux source hints) = rule.Machine
+exits_of (Run file exits options page hints) = exits
+exits_of (Exec image form exits options) = exits
+exits_of (Replay file exits by trace page hints) = exits
+exits_of (Explain file exits by chart timeline page places hints) = exits
+exits_of (Emit file out hints) = rule.Machine
+exits_of (Explore file exits states strays kills chart timeline page places hints) = exits
+exits_of (Search file form exits states strays kills files hints) = exits
+exits_of (Follow file form exits by trace hints) = exits
+exits_of (Assemble file out hints) = rule.Machine
+exits_of (Fmt file check hints) = rule.Machine
 
 -- how many bytes are read, at most, of a text, a schedule or an image
 abbrev pub most_read : ℕ
@@ -52,17 +70,17 @@ read_of_explained (Schedule name) = Some most_read
 read_of_explained (Log name steps) = Some (log_bytes steps + 1)
 
 abbrev pub read_second : Job → Option ℕ
-read_second (ListImage image source hints) = read_of_source source
-read_second (Replay file by trace page hints) = read_of_replay by
-read_second (Explain file by chart timeline page places hints) = read_of_explained by
+read_second (ListImage image linux source hints) = read_of_source source
+read_second (Replay file exits by trace page hints) = read_of_replay by
+read_second (Explain file exits by chart timeline page places hints) = read_of_explained by
 read_second (Check file hints) = None
 read_second (Compile file out workers version hints) = None
-read_second (Run file options page hints) = None
-read_second (Exec image form options) = None
+read_second (Run file exits options page hints) = None
+read_second (Exec image form exits options) = None
 read_second (Emit file out hints) = None
-read_second (Explore file states strays kills chart timeline page places hints) = None
-read_second (Search file form states strays kills files hints) = None
-read_second (Follow file form by trace hints) = read_of_replay by
+read_second (Explore file exits states strays kills chart timeline page places hints) = None
+read_second (Search file form exits states strays kills files hints) = None
+read_second (Follow file form exits by trace hints) = read_of_replay by
 read_second (Assemble file out hints) = None
 read_second (Fmt file check hints) = None
 
@@ -81,15 +99,15 @@ most_formed form.Image = most_read
 abbrev pub first_most : Job → ℕ
 first_most (Check file hints) = most_read
 first_most (Compile file out workers version hints) = most_read
-first_most (ListImage image source hints) = most_read
-first_most (Run file options page hints) = most_read
-first_most (Exec image form options) = most_formed form
-first_most (Replay file by trace page hints) = most_read
-first_most (Explain file by chart timeline page places hints) = most_read
+first_most (ListImage image linux source hints) = most_read
+first_most (Run file exits options page hints) = most_read
+first_most (Exec image form exits options) = most_formed form
+first_most (Replay file exits by trace page hints) = most_read
+first_most (Explain file exits by chart timeline page places hints) = most_read
 first_most (Emit file out hints) = most_read
-first_most (Explore file states strays kills chart timeline page places hints) = most_read
-first_most (Search file form states strays kills files hints) = most_formed form
-first_most (Follow file form by trace hints) = most_formed form
+first_most (Explore file exits states strays kills chart timeline page places hints) = most_read
+first_most (Search file form exits states strays kills files hints) = most_formed form
+first_most (Follow file form exits by trace hints) = most_formed form
 first_most (Assemble file out hints) = 2 ^ 62
 first_most (Fmt file check hints) = most_read
 

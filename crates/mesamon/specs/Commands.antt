@@ -7,7 +7,7 @@ use Rattle.assembler.specs.Listings.{RefusesText as RefusesAssembly}
 use Rattle.assembler.specs.Refusals.{refusal_text as assembly_refusal_text}
 use Rattle.assembler.specs.declared.refusal.AssemblyRefusal.{AssemblyRefusal}
 use Rattle.log_text.specs.LogLines.{line_feed}
-use Rattle.commandline.specs.CommandLine.{AsksFor, command_line}
+use Rattle.commandline.specs.CommandLine.{AsksFor, command_line, version_by}
 use Rattle.commandline.specs.declared.job.Job.{Job}
 use Rattle.commandline.specs.declared.job.Job.TheVariants.{Check, Compile, List as ListImage, Run, Exec, Replay, Explain, Emit, Explore}
 use Rattle.commandline.specs.declared.job.Job.TheVariants.{Assemble, Fmt, Follow, Search}
@@ -23,7 +23,7 @@ use Rattle.devices.specs.declared.counted.Counted.{Counted}
 use Rattle.answers.specs.Answers.{ArePut, HasMetFailure, IsTold, IsToldOrMemory}
 use Rattle.answers.specs.Asked.{IsReplayedAs, IsRunAs, log_beside}
 use Rattle.answers.specs.Done.{HasAssembled, HasChecked, HasCompiled, HasEmitted, HasExecuted, HasExplained, HasListed, HasRun}
-use Rattle.answers.specs.Done.{RefusesBeside}
+use Rattle.answers.specs.Done.{RefusesListing}
 use Rattle.mesamon.specs.Asked.{AreRead, asks_for_hints}
 use Rattle.answers.specs.Exploring.{HasExplored}
 use Rattle.answers.specs.Formatting.{HasLaidOut}
@@ -36,18 +36,20 @@ use Rattle.mesamon.specs.Overwriting.{overwrites}
 abbrev pub HasDone : Job → (bytes second : List ℕ) → Answer → Type 0
 HasDone (Check file hints) bytes second a = HasChecked bytes a
 HasDone (Compile file out workers version hints) bytes second a = HasCompiled version out bytes a
-HasDone (ListImage image source hints) bytes second a = HasListed (is_some source) bytes a
-HasDone (Run file options page hints) bytes second a = HasRun (IsRunAs options) options.trace options.log page bytes a
-HasDone (Exec image form options) bytes second a = HasExecuted form options bytes a
-HasDone (Replay file by trace page hints) bytes second a = HasRun (IsReplayedAs by second) trace (log_beside by) page bytes a
-HasDone (Explain file by chart timeline page places hints) bytes second a =
-    HasExplained by second places chart timeline page bytes a
+HasDone (ListImage image linux source hints) bytes second a = HasListed linux (is_some source) bytes a
+HasDone (Run file exits options page hints) bytes second a =
+    HasRun (IsRunAs (version_by exits) options) options.trace options.log page bytes a
+HasDone (Exec image form exits options) bytes second a = HasExecuted exits form options bytes a
+HasDone (Replay file exits by trace page hints) bytes second a =
+    HasRun (IsReplayedAs (version_by exits) by second) trace (log_beside by) page bytes a
+HasDone (Explain file exits by chart timeline page places hints) bytes second a =
+    HasExplained (version_by exits) by second places chart timeline page bytes a
 HasDone (Emit file out hints) bytes second a = HasEmitted out bytes a
-HasDone (Explore file states strays kills chart timeline page places hints) bytes second a =
-    HasExplored (record { strays = strays; kills = kills }) states places chart timeline page bytes a
-HasDone (Search file form states strays kills files hints) bytes second a =
-    HasSearched form (record { strays = strays; kills = kills }) states files bytes a
-HasDone (Follow file form by trace hints) bytes second a = HasFollowed form by trace bytes second a
+HasDone (Explore file exits states strays kills chart timeline page places hints) bytes second a =
+    HasExplored (version_by exits) (record { strays = strays; kills = kills }) states places chart timeline page bytes a
+HasDone (Search file form exits states strays kills files hints) bytes second a =
+    HasSearched exits form (record { strays = strays; kills = kills }) states files bytes a
+HasDone (Follow file form exits by trace hints) bytes second a = HasFollowed exits form by trace bytes second a
 HasDone (Assemble file out hints) bytes second a = HasAssembled out bytes a
 HasDone (Fmt file check hints) bytes second a = HasLaidOut check bytes a
 
@@ -55,15 +57,17 @@ HasDone (Fmt file check hints) bytes second a = HasLaidOut check bytes a
 abbrev pub RefusesJob : Job → (bytes second : List ℕ) → Refusal → Type 0
 RefusesJob (Check file hints) bytes second e = RefusesProgram bytes e
 RefusesJob (Compile file out workers version hints) bytes second e = RefusesTextAs version bytes e
-RefusesJob (ListImage image source hints) bytes second e = RefusesBeside bytes second e
-RefusesJob (Exec image form options) bytes second e = ⊥
-RefusesJob (Run file options page hints) bytes second e = RefusesText bytes e
-RefusesJob (Replay file by trace page hints) bytes second e = RefusesText bytes e
-RefusesJob (Explain file by chart timeline page places hints) bytes second e = RefusesText bytes e
+RefusesJob (ListImage image linux source hints) bytes second e = RefusesListing linux bytes second e
+RefusesJob (Exec image form exits options) bytes second e = ⊥
+RefusesJob (Run file exits options page hints) bytes second e = RefusesTextAs (version_by exits) bytes e
+RefusesJob (Replay file exits by trace page hints) bytes second e = RefusesTextAs (version_by exits) bytes e
+RefusesJob (Explain file exits by chart timeline page places hints) bytes second e =
+    RefusesTextAs (version_by exits) bytes e
 RefusesJob (Emit file out hints) bytes second e = RefusesText bytes e
-RefusesJob (Explore file states strays kills chart timeline page places hints) bytes second e = RefusesText bytes e
-RefusesJob (Search file form states strays kills files hints) bytes second e = ⊥
-RefusesJob (Follow file form by trace hints) bytes second e = ⊥
+RefusesJob (Explore file exits states strays kills chart timeline page places hints) bytes second e =
+    RefusesTextAs (version_by exits) bytes e
+RefusesJob (Search file form exits states strays kills files hints) bytes second e = ⊥
+RefusesJob (Follow file form exits by trace hints) bytes second e = ⊥
 RefusesJob (Assemble file out hints) bytes second e = ⊥
 RefusesJob (Fmt file check hints) bytes second e = RefusesUnit bytes e
 
@@ -71,15 +75,15 @@ RefusesJob (Fmt file check hints) bytes second e = RefusesUnit bytes e
 abbrev pub UnassemblesJob : Job → (bytes : List ℕ) → AssemblyRefusal → Type 0
 UnassemblesJob (Check file hints) bytes e = ⊥
 UnassemblesJob (Compile file out workers version hints) bytes e = ⊥
-UnassemblesJob (ListImage image source hints) bytes e = ⊥
-UnassemblesJob (Exec image form options) bytes e = UnassemblesAs form bytes e
-UnassemblesJob (Run file options page hints) bytes e = ⊥
-UnassemblesJob (Replay file by trace page hints) bytes e = ⊥
-UnassemblesJob (Explain file by chart timeline page places hints) bytes e = ⊥
+UnassemblesJob (ListImage image linux source hints) bytes e = ⊥
+UnassemblesJob (Exec image form exits options) bytes e = UnassemblesAs form bytes e
+UnassemblesJob (Run file exits options page hints) bytes e = ⊥
+UnassemblesJob (Replay file exits by trace page hints) bytes e = ⊥
+UnassemblesJob (Explain file exits by chart timeline page places hints) bytes e = ⊥
 UnassemblesJob (Emit file out hints) bytes e = ⊥
-UnassemblesJob (Explore file states strays kills chart timeline page places hints) bytes e = ⊥
-UnassemblesJob (Search file form states strays kills files hints) bytes e = UnassemblesAs form bytes e
-UnassemblesJob (Follow file form by trace hints) bytes e = UnassemblesAs form bytes e
+UnassemblesJob (Explore file exits states strays kills chart timeline page places hints) bytes e = ⊥
+UnassemblesJob (Search file form exits states strays kills files hints) bytes e = UnassemblesAs form bytes e
+UnassemblesJob (Follow file form exits by trace hints) bytes e = UnassemblesAs form bytes e
 UnassemblesJob (Assemble file out hints) bytes e = RefusesAssembly bytes e
 UnassemblesJob (Fmt file check hints) bytes e = ⊥
 

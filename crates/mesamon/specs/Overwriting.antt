@@ -40,17 +40,17 @@ replay_overwrites file (ByLog log steps) page = is_twice (Some file) (Some log) 
 
 abbrev pub overwrites : Job → Bool
 overwrites (Check file hints) = false
-overwrites (ListImage image source hints) = false
+overwrites (ListImage image linux source hints) = false
 overwrites (Compile file out workers version hints) = is_twice (Some file) None (Some out) None
 overwrites (Emit file out hints) = is_twice (Some file) None (Some out) None
-overwrites (Run file options page hints) = is_twice (Some file) None options.log page
-overwrites (Search file form states strays kills files hints) =
+overwrites (Run file exits options page hints) = is_twice (Some file) None options.log page
+overwrites (Search file form exits states strays kills files hints) =
     draws_over (Some file) None files.chart files.timeline files.schedule
-overwrites (Follow file form by trace hints) = replay_overwrites file by None
+overwrites (Follow file form exits by trace hints) = replay_overwrites file by None
 overwrites (Assemble file out hints) = is_twice (Some file) None (Some out) None
 overwrites (Fmt file check hints) = false
-overwrites (Exec image form options) = is_twice (Some image) None options.log None
-overwrites (Replay file by trace page hints) = replay_overwrites file by page
-overwrites (Explain file by chart timeline page places hints) = draws_over (Some file) (read_by by) (out_of chart) timeline page
-overwrites (Explore file states strays kills chart timeline page places hints) =
+overwrites (Exec image form exits options) = is_twice (Some image) None options.log None
+overwrites (Replay file exits by trace page hints) = replay_overwrites file by page
+overwrites (Explain file exits by chart timeline page places hints) = draws_over (Some file) (read_by by) (out_of chart) timeline page
+overwrites (Explore file exits states strays kills chart timeline page places hints) =
     draws_over (Some file) None (out_of chart) timeline page

@@ -1,6 +1,6 @@
 ghost use Rattle.std.specs.Prelude.{◌≡◌, ◌^◌, if◌then◌else◌, IfOk, IfErr, IfSome};
 ghost use Rattle.devices.specs.Files.{IsOfFile};
-ghost use Rattle.mesamon.specs.Asked.{HasWorkers, asks_for_hints, first_most, most_formed, most_of, most_read};
+ghost use Rattle.mesamon.specs.Asked.{HasWorkers, asks_for_hints, exits_of, first_most, most_formed, most_of, most_read};
 ghost use Rattle.mesamon.specs.Asked.{read_of_explained, read_of_replay, read_of_source, read_second};
 ghost use Rattle.mesamon.specs.Commands.{HasDone, HasDoneSome, RefusesJob, RefusesSome};
 ghost use Rattle.mesamon.specs.Commands.{UnassemblesJob, UnassemblesSome};
@@ -12,7 +12,7 @@ use answers::{
     answer_emit, answer_exec, answer_explain, answer_explore, answer_fmt, answer_follow,
     answer_list, answer_replay, answer_run, answer_search, log_bytes, tell_refused,
 };
-use commandline::{ExplainedBy, ImageForm, Job, ReplayedBy};
+use commandline::{Exits, ExplainedBy, ImageForm, Job, ReplayedBy};
 use image_states::Outside as ImageOutside;
 use source_search::{Outside, Progress};
 use std::rt::Files;
@@ -37,6 +37,27 @@ pub fn asks_for_hints(job: &Job<'_>) -> bool
         | Job::Assemble { hints, .. }
         | Job::Fmt { hints, .. } => hints,
         Job::Exec { .. } => false,
+    }
+}
+
+// By whose rule the exits of the threads wake that a job runs.
+fn exits_of(job: Job<'_>) -> Exits
+    ensures { result ≡ exits_of job.entry }
+{
+    match job {
+        Job::Run { exits, .. }
+        | Job::Exec { exits, .. }
+        | Job::Replay { exits, .. }
+        | Job::Explain { exits, .. }
+        | Job::Explore { exits, .. }
+        | Job::Search { exits, .. }
+        | Job::Follow { exits, .. } => exits,
+        Job::Check { .. }
+        | Job::Compile { .. }
+        | Job::List { .. }
+        | Job::Emit { .. }
+        | Job::Assemble { .. }
+        | Job::Fmt { .. } => Exits::Machine,
     }
 }
 
@@ -175,7 +196,8 @@ fn second_bytes<'a, R: Files + AllocGlobal>(
     rt: &R,
     second: Second<'a>,
 ) -> Result<Vec<u8>, Failure<'a>>
-    ensures { IfOk result (λ v. IfSome (most_of second.entry) (λ most. IsOfFile R.File.remaining most v.items)) }
+    ensures { IfOk result
+        (λ v. IfSome (most_of second.entry) (λ most. IsOfFile R.File.remaining most v.items)) }
 {
     match second {
         Second::None => Ok(Vec::new(rt.alloc())),
@@ -211,8 +233,9 @@ pub fn do_job<'a, R: Files + AllocGlobal + Threads + Wait + Sync, P: Progress>(
 /// # Errors
 ///
 /// The refusal of the text that the job is about, or of the source text beside an image. Else the failure: bytes that are
-/// no image, or the image of another text; an entry of the schedule or of the log, or a line of the log, that is refused;
-/// a fault of the run of an image; or want of memory.
+/// no image, the image of another text, or one of the first version that is to be run by Linux's rule of exits; an
+/// entry of the schedule or of the log, or a line of the log, that is refused; a fault of the run of an image; or want
+/// of memory.
 pub fn answer_job<'a, R: AllocGlobal + Threads + Wait + Sync, P: Progress>(
     rt: &R,
     job: Job<'a>,
@@ -229,6 +252,7 @@ pub fn answer_job<'a, R: AllocGlobal + Threads + Wait + Sync, P: Progress>(
     let text = SourceText {
         file: file_of(job),
         bytes,
+        exits: exits_of(job),
         hints: asks_for_hints(&job) && !is_of_image(job),
     };
     let done = answer_of(rt, job, &text, second, told, progress);
@@ -247,7 +271,8 @@ fn answer_of<'a, R: AllocGlobal + Threads + Wait + Sync, P: Progress>(
     told: &mut String,
     progress: &mut P,
 ) -> Result<Answer<'a>, NoAnswer<'a>>
-    requires { HasWorkers job }
+    requires workers { HasWorkers job }
+    requires exits { text.now.exits ≡ exits_of job }
     ensures done { IfOk result (HasDone job.entry text.now.bytes.now second.now) }
     ensures refused { IfErr result (IsLeftBy (RefusesJob job.entry text.now.bytes.now second.now)
         (UnassemblesJob job.entry text.now.bytes.now)) }
@@ -261,11 +286,14 @@ fn answer_of<'a, R: AllocGlobal + Threads + Wait + Sync, P: Progress>(
             version,
             ..
         } => answer_compile(rt, text, out, version, workers),
-        Job::List { source, hints, .. } => {
-            answer_list(alloc, text.bytes, source, second, hints, told)
-        }
+        Job::List {
+            linux,
+            source,
+            hints,
+            ..
+        } => answer_list(alloc, text, linux, source, second, hints, told),
         Job::Run { options, page, .. } => answer_run(rt, text, options, page, told),
-        Job::Exec { form, options, .. } => answer_exec(rt, text.bytes, form, options),
+        Job::Exec { form, options, .. } => answer_exec(rt, text, form, options),
         Job::Replay {
             by,
             trace,

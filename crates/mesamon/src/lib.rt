@@ -13,7 +13,7 @@ pub use answers::{
     replay, replay_log_text, run_by_seed, run_in_order, run_source,
 };
 pub use commandline::{
-    ChartOptions, ExplainedBy, ImageForm, Job, Order, ReplayedBy, RunOptions, SearchFiles,
+    ChartOptions, Exits, ExplainedBy, ImageForm, Job, Order, ReplayedBy, RunOptions, SearchFiles,
     WordsFault, line,
 };
 pub use commands::perform_with_hints;

@@ -69,6 +69,11 @@ fn text_of<'a>(job: Job<'a>) -> Option<&'a str> {
         | Job::Explain { file, .. }
         | Job::Emit { file, .. }
         | Job::Explore { file, .. } => Some(file),
+        Job::List {
+            image,
+            linux: true,
+            ..
+        } => Some(image),
         Job::List { source, .. } => source,
         _ => None,
     }

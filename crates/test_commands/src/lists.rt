@@ -10,6 +10,7 @@ use crate::lists::failure::Failure;
 use crate::lists::logs::{Outside, show_logs};
 use crate::lists::runs::{show_actions, show_actions_as_one};
 use crate::lists::seeds::show_seeds;
+use mesamon::Exits;
 use std::io;
 
 /// Prints what comes of a row of one line, or why nothing does; false where this line is none.
@@ -21,7 +22,8 @@ pub fn take_line(rt: &HostRuntime, line: &str) -> io::Result<bool> {
         "logs" => show_logs(rt, row, Outside::Nothing),
         "strays" => show_logs(rt, row, Outside::Strays),
         "kills" => show_logs(rt, row, Outside::Kills),
-        "seeds" => show_seeds(rt, row),
+        "seeds" => show_seeds(rt, row, Exits::Machine),
+        "seeds-linux" => show_seeds(rt, row, Exits::Linux),
         _ => return Ok(false),
     };
     show_failure(rt, shown)?;

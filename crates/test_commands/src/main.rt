@@ -39,6 +39,7 @@
 //! seeds COUNT STEPS STRAYS KILLS | TEXT
 //!                             the runs by the seeds from 1 to COUNT, of so many steps at most, with about one wake from
 //!                             outside in so many entries, or none where that is 0, and with so many kills at most
+//! seeds-linux ..              the same by Linux's rule of exits
 //! workers COUNT | TEXT        so many runs of the program on real workers
 //! ```
 //!

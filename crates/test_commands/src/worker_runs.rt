@@ -1,6 +1,6 @@
 use crate::lists::failure::Failure;
 use log_text::append_log;
-use mesamon::{Calls, ExplainedRun, explain_log_text, run_source};
+use mesamon::{Calls, Exits, ExplainedRun, explain_log_text, run_source};
 use runner::Report;
 use source_states::accepts;
 use std::alloc::Global;
@@ -49,8 +49,17 @@ fn is_explained<R: AllocGlobal + Threads + Wait + Sync>(
     rt: &R,
     text: &[u8],
 ) -> Result<bool, Failure> {
-    match run_source(rt, rt.alloc(), text, STEPS, Calls::PutOff, &OpenGate) {
-        Ok(report) => is_report_explained(rt.alloc(), text, &report),
+    let alloc = rt.alloc();
+    match run_source(
+        rt,
+        alloc,
+        text,
+        Exits::Machine,
+        STEPS,
+        Calls::PutOff,
+        &OpenGate,
+    ) {
+        Ok(report) => is_report_explained(alloc, text, &report),
         Err(_) => Ok(false),
     }
 }
@@ -60,7 +69,7 @@ fn is_explained<R: AllocGlobal + Threads + Wait + Sync>(
 fn is_report_explained(alloc: Global, text: &[u8], report: &Report) -> Result<bool, Failure> {
     let mut lines = String::new(alloc);
     append_log(&mut lines, report.log.iter())?;
-    match explain_log_text(alloc, text, lines.as_bytes(), STEPS) {
+    match explain_log_text(alloc, text, Exits::Machine, lines.as_bytes(), STEPS) {
         Ok(run) => prints_the_same(alloc, &run, report),
         Err(_) => Ok(false),
     }

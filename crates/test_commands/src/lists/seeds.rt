@@ -1,5 +1,5 @@
 use crate::lists::failure::Failure;
-use mesamon::{ExplainSourceFault, ExplainedRun, explain_by_seed};
+use mesamon::{Exits, ExplainSourceFault, ExplainedRun, explain_by_seed};
 use source_states::{Action, ActionKind, accepts};
 use std::alloc::Global;
 
@@ -38,12 +38,13 @@ struct SeedTally {
     most_kills: u32,
 }
 
-/// Prints what comes of the runs, in the orders of the seeds from 1, of the program whose text stands in the row.
-pub fn show_seeds(rt: &HostRuntime, row: &str) -> Result<(), Failure> {
+/// Prints what comes of the runs, in the orders of the seeds from 1 and by this rule of exits, of the program whose text
+/// stands in the row.
+pub fn show_seeds(rt: &HostRuntime, row: &str, exits: Exits) -> Result<(), Failure> {
     let row = row_of(row)?;
     let mut tally = SeedTally::default();
     for before in 0..row.count {
-        take_run(rt.alloc(), row, u64::from(before) + 1, &mut tally)?;
+        take_run(rt.alloc(), row, exits, u64::from(before) + 1, &mut tally)?;
     }
     let count = row.count;
     let explained = tally.explained;
@@ -56,11 +57,13 @@ pub fn show_seeds(rt: &HostRuntime, row: &str) -> Result<(), Failure> {
 fn take_run(
     alloc: Global,
     row: SeedRow<'_>,
+    exits: Exits,
     seed: u64,
     tally: &mut SeedTally,
 ) -> Result<(), Failure> {
     let text = row.text.as_bytes();
-    let run = match explain_by_seed(alloc, text, row.steps, seed, Some(row.strays), row.kills) {
+    let strays = Some(row.strays);
+    let run = match explain_by_seed(alloc, text, exits, row.steps, seed, strays, row.kills) {
         Ok(run) => run,
         Err(ExplainSourceFault::Refused(refusal)) => return Err(Failure::Text(refusal)),
         Err(ExplainSourceFault::Memory) => return Err(Failure::Memory),

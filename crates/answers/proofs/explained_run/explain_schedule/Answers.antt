@@ -1,6 +1,7 @@
 use Rattle.std.proofs.Common.{◌<◌, ◌^◌, List, subst, sym}
 use Rattle.machine.specs.declared.event.Entry.{Entry}
 use Rattle.program.specs.Names.{said_by}
+use Rattle.commandline.specs.CommandLine.{version_by}
 use Rattle.runner.specs.Logs.{cost}
 use Rattle.answers.proofs.Replays.{followed_few, replay_explained}
 use Rattle.answers.proofs.RunsExplained.{of_code, of_own_version}
@@ -13,15 +14,16 @@ explain_run-requires-clause-few c =
 
 pub explain_run-requires-clause-own : goal.explain_run-requires-clause-own
 explain_run-requires-clause-own c =
-    of_own_version (said_by c.in_ok-checked.checked) c.in_ok-checked.lowered c.in_ok-checked.ensures.compiled.code
+    of_own_version (version_by c.args.exits) (said_by c.in_ok-checked.checked) c.in_ok-checked.lowered
+    c.in_ok-checked.ensures.compiled.code
 
 pub returns-clause-explained : goal.returns-clause-explained
 returns-clause-explained c =
     let read = c.in_ok-checked.ensures.compiled in
     record {
       accepts = read.accepts;
-      run = replay_explained c.args.text.now c.in_ok-checked.lowered.image c.args.schedule.now
+      run = replay_explained (version_by c.args.exits) c.args.text.now c.in_ok-checked.lowered.image c.args.schedule.now
           c.in_ok-report.report read.compiled c.in_ok-report.ensures;
-      explained = of_code (said_by c.in_ok-checked.checked) c.in_ok-checked.lowered.image _ _ _ read.code.image
-          c.iter.ensures c.in-Ok.ensures;
+      explained = of_code (version_by c.args.exits) (said_by c.in_ok-checked.checked) c.in_ok-checked.lowered.image _ _ _
+          read.code.image c.iter.ensures c.in-Ok.ensures;
     }

@@ -1,4 +1,5 @@
-use Rattle.compiler.specs.Accepts.{RefusesText}
+use Rattle.commandline.specs.CommandLine.{version_by}
+use Rattle.compiler.specs.Accepts.{RefusesTextAs}
 use Rattle.answers.proofs.Refusing.{left_by, refused_by}
 use Rattle.answers.proofs.Told.{no_memory, ok_so}
 use Rattle.answers.proofs.exploring.answer_explore.Goals as goal
@@ -6,7 +7,8 @@ use Rattle.answers.proofs.exploring.answer_explore.Goals as goal
 pub returns-in_err-explored-clause-refused : goal.returns-in_err-explored-clause-refused
 returns-in_err-explored-clause-refused g c =
     left_by _ _ _ c.from_residual.ensures
-    (λ n gives. refused_by (RefusesText c.args.text.now.bytes.now) c.in_err-explored.field-0.0 n c.in_err-explored.ensures gives)
+    (λ n gives. refused_by (RefusesTextAs (version_by c.args.text.now.exits) c.args.text.now.bytes.now)
+    c.in_err-explored.field-0.0 n c.in_err-explored.ensures gives)
 
 pub returns-clause-done : goal.returns-clause-done
 returns-clause-done g c =

@@ -1,4 +1,3 @@
-use Rattle.answers.proofs.Refusing.{left_as}
 use Rattle.answers.proofs.Told.{lefts_so, ok_so}
 use Rattle.answers.proofs.following.answer_follow.Goals as goal
 

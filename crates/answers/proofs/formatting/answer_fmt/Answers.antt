@@ -1,8 +1,6 @@
-use Rattle.std.proofs.Common.{Bool, subst}
 use Rattle.source_layout.specs.Laid.{RefusesUnit}
-use Rattle.answers.specs.Formatting.{TellsLayout}
 use Rattle.answers.proofs.Refusing.{left_by, refused_by}
-use Rattle.answers.proofs.Told.{no_memory, ok_so}
+use Rattle.answers.proofs.Told.{no_memory}
 use Rattle.answers.proofs.formatting.answer_fmt.Goals as goal
 
 pub returns-in_err-laid-clause-refused : goal.returns-in_err-laid-clause-refused

@@ -1,3 +1,4 @@
+use Rattle.commandline.specs.CommandLine.{version_by}
 use Rattle.answers.proofs.LegalLogs.{legal_answer}
 use Rattle.answers.proofs.source_log.explain_log_text.Goals as goal
 
@@ -15,5 +16,5 @@ returns-clause-only c = c.explain_lines.ensures.only
 
 pub returns-clause-legal : goal.returns-clause-legal
 returns-clause-legal c run =
-    legal_answer c.args.text.now c.args.lines.now c.text_laws.ensures.one_program c.log_text_laws.ensures.once
-    c.log_text_laws.ensures.good c.args.most run c.explain_lines.result c.explain_lines.ensures.fault c.explain_lines.ensures.only
+    legal_answer (version_by c.args.exits) c.args.text.now c.args.lines.now c.text_laws.ensures.one_program
+    c.log_text_laws.ensures.once c.log_text_laws.ensures.good c.args.most run c.explain_lines.result c.explain_lines.ensures.fault c.explain_lines.ensures.only

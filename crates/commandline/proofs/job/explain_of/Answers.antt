@@ -27,6 +27,7 @@ returns-clause-job c =
     let places = one_text-rows found (codes "places") in
     let hints = one_text-rows found (codes "hints") in (
       search rules,
+      c.linux_of-exits.ensures,
       c.in_ok-by.ensures.by,
       c.in_ok-chart.ensures.chart,
       sym timeline ∙ sym c.get_str-timeline.ensures,

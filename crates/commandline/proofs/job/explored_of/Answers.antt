@@ -35,6 +35,7 @@ returns-clause-job c =
     let places = one_text-rows found (codes "places") in
     let hints = one_text-rows found (codes "hints") in (
       search rules,
+      c.linux_of-exits.ensures,
       c.in_ok-states.ensures.number,
       (search rules, search rules),
       c.in_ok-kills.ensures.number,

@@ -10,10 +10,15 @@ returns-in_err-file-clause-none c =
     let file = first_value-rows (found_of c.args.matches.now) (codes "FILE") in
     λ _ job. no_follow (rows_of (found_of c.args.matches.now)) job c.args.form c.requires (inr (inl (search rules)))
 
+pub returns-in_err-exits-clause-none : goal.returns-in_err-exits-clause-none
+returns-in_err-exits-clause-none c = λ _ job.
+    no_follow (rows_of (found_of c.args.matches.now)) job c.args.form c.requires
+    (inr (inr (inl (c.in_err-exits.ensures.none refl))))
+
 pub returns-in_err-by-clause-none : goal.returns-in_err-by-clause-none
 returns-in_err-by-clause-none c = λ _ job.
     no_follow (rows_of (found_of c.args.matches.now)) job c.args.form c.requires
-    (inr (inr (c.in_err-by.ensures.none refl)))
+    (inr (inr (inr (c.in_err-by.ensures.none refl))))
 
 pub returns-clause-job : goal.returns-clause-job
 returns-clause-job c =
@@ -23,6 +28,7 @@ returns-clause-job c =
     let hints = one_text-rows found (codes "hints") in (
       search rules,
       c.requires,
+      c.in_ok-exits.ensures.exits,
       c.in_ok-by.ensures.by,
       (search rules, search rules),
       search rules,

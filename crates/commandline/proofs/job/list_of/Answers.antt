@@ -14,6 +14,7 @@ pub returns-clause-job : goal.returns-clause-job
 returns-clause-job c =
     let found = found_of c.args.matches.now in
     let image = first_value-rows found (codes "IMAGE") in
+    let linux = one_text-rows found (codes "linux") in
     let source = first_value-rows found (codes "source") in
     let hints = one_text-rows found (codes "hints") in
-    (search rules, sym source ∙ sym c.get_str-source.ensures, (search rules, search rules))
+    (search rules, (search rules, search rules), sym source ∙ sym c.get_str-source.ensures, (search rules, search rules))

@@ -8,11 +8,11 @@ use Rattle.commandline.proofs.job.replayed_of.Goals as goal
 pub returns-in_err-file-clause-none : goal.returns-in_err-file-clause-none
 returns-in_err-file-clause-none c =
     let file = first_value-rows (found_of c.args.matches.now) (codes "FILE") in
-    λ _ job. no_replay (rows_of (found_of c.args.matches.now)) job c.requires (inl (search rules))
+    λ _ job. no_replay (rows_of (found_of c.args.matches.now)) job c.requires (inr (inl (search rules)))
 
 pub returns-in_err-by-clause-none : goal.returns-in_err-by-clause-none
 returns-in_err-by-clause-none c = λ _ job.
-    no_replay (rows_of (found_of c.args.matches.now)) job c.requires (inr (c.in_err-by.ensures.none refl))
+    no_replay (rows_of (found_of c.args.matches.now)) job c.requires (inr (inr (c.in_err-by.ensures.none refl)))
 
 pub returns-clause-job : goal.returns-clause-job
 returns-clause-job c =
@@ -22,9 +22,11 @@ returns-clause-job c =
     let page = first_value-rows found (codes "page") in
     let hints = one_text-rows found (codes "hints") in (
       search rules,
+      c.linux_of-exits.ensures,
       c.in_ok-by.ensures.by,
       (search rules, search rules),
       sym page ∙ sym c.get_str-page.ensures,
       (search rules, search rules),
       c.requires,
+      search rules,
     )

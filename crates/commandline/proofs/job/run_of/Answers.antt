@@ -21,6 +21,7 @@ returns-clause-job c =
     let page = first_value-rows found (codes "page") in
     let hints = one_text-rows found (codes "hints") in (
       search rules,
+      c.linux_of-exits.ensures,
       c.in_ok-options.ensures.options,
       sym page ∙ sym c.get_str-page.ensures,
       (search rules, search rules),

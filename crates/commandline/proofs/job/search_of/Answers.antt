@@ -10,15 +10,20 @@ returns-in_err-file-clause-none c =
     let file = first_value-rows (found_of c.args.matches.now) (codes "FILE") in
     λ _ job. no_search (rows_of (found_of c.args.matches.now)) job c.args.form c.requires (inr (inl (search rules)))
 
+pub returns-in_err-exits-clause-none : goal.returns-in_err-exits-clause-none
+returns-in_err-exits-clause-none c = λ _ job.
+    no_search (rows_of (found_of c.args.matches.now)) job c.args.form c.requires
+    (inr (inr (inl (c.in_err-exits.ensures.none refl))))
+
 pub returns-in_err-states-clause-none : goal.returns-in_err-states-clause-none
 returns-in_err-states-clause-none c = λ _ job.
     no_search (rows_of (found_of c.args.matches.now)) job c.args.form c.requires
-    (inr (inr (inl (c.in_err-states.ensures.none refl))))
+    (inr (inr (inr (inl (c.in_err-states.ensures.none refl)))))
 
 pub returns-in_err-kills-clause-none : goal.returns-in_err-kills-clause-none
 returns-in_err-kills-clause-none c = λ _ job.
     no_search (rows_of (found_of c.args.matches.now)) job c.args.form c.requires
-    (inr (inr (inr (c.in_err-kills.ensures.none refl))))
+    (inr (inr (inr (inr (c.in_err-kills.ensures.none refl)))))
 
 pub returns-clause-job : goal.returns-clause-job
 returns-clause-job c =
@@ -28,6 +33,7 @@ returns-clause-job c =
     let hints = one_text-rows found (codes "hints") in (
       search rules,
       c.requires,
+      c.in_ok-exits.ensures.exits,
       c.in_ok-states.ensures.number,
       (search rules, search rules),
       c.in_ok-kills.ensures.number,
