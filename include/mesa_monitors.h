@@ -124,8 +124,8 @@ struct mesa_process {
     struct mesa_robust robust;
     _Atomic uint32_t id;
     _Atomic uint32_t claim;
+    _Atomic uint32_t result;
     _Atomic uint32_t outcome;
-    int32_t result;
     uint32_t thread;
     mesa_body *body;
     int32_t arguments[MESA_MOST_ARGUMENTS];
@@ -404,7 +404,7 @@ static inline _Noreturn void mesa_begin(struct mesa_process *self)
     self->robust.lock_offset = offsetof(struct mesa_monitor, lock) - offsetof(struct mesa_monitor, link);
     if (mesa_call(SYS_set_robust_list, (long)&self->robust, sizeof self->robust, 0, 0, 0, 0) != 0)
         mesa_stop("no robust list\n", 15);
-    self->result = self->body(self, self->arguments);
+    atomic_store(&self->result, (uint32_t)self->body(self, self->arguments));
     mesa_finish(self, MESA_ENDED);
 }
 
@@ -459,8 +459,9 @@ static inline bool mesa_join(struct mesa_process *self, int32_t handle, int32_t 
     if (atomic_load(&child->outcome) != MESA_ENDED)
         return false;
     MESA_POINT(self, MESA_JOIN_TAKES);
+    uint32_t taken = atomic_load(&child->result);
     if (result != NULL)
-        *result = child->result;
+        *result = (int32_t)taken;
     return true;
 }
 
