@@ -26,6 +26,8 @@ pub mod Scheduling
 pub mod Locally
 pub mod Once
 pub mod OneLog
+pub mod OneBySeed
 pub mod Drawn
+pub mod Seeding
 pub mod Reporting
 pub mod Turning

@@ -49,7 +49,7 @@ turns_of : (p : Program) (k : PieceConcrete) (t n : ℕ) (e : Option Event) (x :
 turns_of p k t n e x = record { goes = x.goes; turn = x.turn; whole = x.whole }
 
 -- a thread has one next entry
-next_once : (p : Program) (k : PieceConcrete) (t m n : ℕ) (e f : Option Event) → IsNextEntry p k t m e
+pub next_once : (p : Program) (k : PieceConcrete) (t m n : ℕ) (e f : Option Event) → IsNextEntry p k t m e
     → IsNextEntry p k t n f → (m ≡ n) × (e ≡ f)
 next_once p k t m n e f x y =
     let same = stop_once p k t m n x.origin x.here y.origin y.here x.stands (turns_of p k t m e x) y.stands
@@ -64,7 +64,7 @@ ended_or_not : (r : Result (PieceConcrete × Option Event) StepFault) (q : Piece
 ended_or_not r q f done fails = absurd (cc (sym done ∙ fails))
 
 -- who makes it within the limit isn't stopped
-not_stopped : (p : Program) (limit : ℕ) (log : List Entry) (k : PieceConcrete) (t n : ℕ) (e : Option Event)
+pub not_stopped : (p : Program) (limit : ℕ) (log : List Entry) (k : PieceConcrete) (t n : ℕ) (e : Option Event)
     → IsNextEntry p k t n e → cost log + (n + event_cost e) ≤ limit → IsStopped p limit log k t → ⊥
 not_stopped p limit log k t n e next within (inl past) =
     let same = next_once p k t n past.count e past.event next past.entry in
@@ -134,7 +134,7 @@ one_due p limit log k last e f x y within within' =
     (subst (λ (t : ℕ). IsNextEntry p k t f.local f.event) (sym thread) y.next) in
     λ i. record { thread = thread i; local = same.0 i; event = same.1 i }
 
-first_within : (limit : ℕ) (log es : List Entry) (e : Entry) → cost (log ++ e ∷ es) ≤ limit → IsWithin limit log e
+pub first_within : (limit : ℕ) (log es : List Entry) (e : Entry) → cost (log ++ e ∷ es) ≤ limit → IsWithin limit log e
 first_within limit log es e within =
     let f : Entry → ℕ = λ x. x.local + event_cost x.event in
     let all : cost (log ++ e ∷ es) ≡ cost log + cost (e ∷ es) = sum_by-append f log (e ∷ es) in

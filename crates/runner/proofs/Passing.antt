@@ -29,7 +29,7 @@ use Rattle.runner.specs.declared.fault.RunFault.TheVariants.{CannotMove as Canno
 use Rattle.runner.specs.Views.{PieceView, LogState}
 use Rattle.runner.specs.Logs.{Ends, EntersOwn, event_cost, cost}
 use Rattle.runner.specs.Entries.{entry_end, Takes, TakesKill, TakesOutside, RefusesEntry}
-use Rattle.runner.specs.Reports.{IsHeldUp, IsStopped}
+use Rattle.runner.specs.Reports.{IsHeldUp, IsStopped, PassesLimit}
 use Rattle.runner.specs.Rounds.{AllPast, IsPast, step_cost}
 use Rattle.runner.proofs.Handing.{costs_so, refused_by, refused_end, up}
 use Rattle.runner.proofs.Growing.{cost_more, ends}
@@ -264,6 +264,26 @@ passes p limit h t a refused goes turn whole =
       may_be = ended_so (entry_end p h.concrete t a.here) refused.2 refused.3 refused.4;
       past = omega (arith, past, costs);
     }
+
+-- and its next entry would pass it now
+pub passes_limit : (p : Program) (limit : ℕ) (h : LogState) (t : ℕ) (a : PieceView) → RefusesEntry p limit h t a Limit
+    → local_after p a.thread a.count a.origin ≡ Some a.here → a.count ≤ 256
+    → (a.count < 256 → local_step p a.thread a.here ≡ None) → PassesLimit p limit h.log h.concrete t
+passes_limit p limit h t a refused goes turn whole = record {
+  count = a.count;
+  event = refused.3;
+  entry = record {
+    origin = a.origin;
+    here = a.here;
+    concrete = refused.2;
+    stands = refused.0.1;
+    goes = ap (λ u. local_after p u a.count a.origin) (sym refused.0.0) ∙ goes;
+    turn = turn;
+    whole = λ few. ap (λ u. local_step p u a.here) (sym refused.0.0) ∙ whole few;
+    gives = refused.4;
+  };
+  past = refused.5;
+}
 
 -- one that a held bucket is in the way of is held up
 pub holds_up : (p : Program) (limit : ℕ) (h : LogState) (t : ℕ) (a : PieceView) → RefusesEntry p limit h t a CannotMove'

@@ -12,6 +12,7 @@ pub mod Orders
 pub mod Walks
 pub mod Waits
 pub mod Rounds
+pub mod Seeds
 pub mod LogRuns
 pub mod Schedules
 pub mod LogSchedules

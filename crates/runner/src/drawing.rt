@@ -1,15 +1,21 @@
 ghost use Rattle.words.specs.Limits.{most_threads};
-ghost use Rattle.std.specs.Prelude.{suc, ◌≡◌, ◌≢◌, ◌+◌, ◌<◌, ◌≤◌, ◌⊎◌, length, slice_get, true, false, Some, None};
-ghost use Rattle.std.specs.Prelude.{is_some, IfErr, IfOk, IfSome, MatchBool, MatchOption, OnOk};
+ghost use Rattle.std.specs.Prelude.{suc, ◌≡◌, ◌≢◌, ◌+◌, ◌<◌, ◌≤◌, ◌⊎◌, ◌++◌, [], ◌∷◌, length, slice_get, true, false};
+ghost use Rattle.std.specs.Prelude.{if◌then◌else◌, Some, None};
+ghost use Rattle.std.specs.Prelude.{is_some, IfErr, IfNone, IfOk, IfSome, MatchBool, MatchOption, OnOk};
 ghost use Rattle.std.specs.List.{All, Contains};
+ghost use Rattle.rand_core.specs.Stream.{Stream};
 ghost use Rattle.machine.specs.States.{thread_of};
 ghost use Rattle.machine.specs.ConcreteSteps.{can_move};
 ghost use Rattle.machine.specs.Views.{concrete};
 ghost use Rattle.piece_machine.specs.PieceDetermined.{IsFit};
-ghost use Rattle.runner.specs.Logs.{cost, kills_in};
+ghost use Rattle.runner.specs.Logs.{Runs, cost, kills_in, opening};
 ghost use Rattle.runner.specs.Reports.{CanFail};
 ghost use Rattle.runner.specs.Rounds.{AllPast, AllStopped, Idle, IsAsleep, IsDrawn, IsPickable, IsUnrefused, MayBeDrawn};
 ghost use Rattle.runner.specs.Rounds.{NobodyPassed, NoneLeft, left};
+ghost use Rattle.runner.specs.Seeds.{EndsBehind, HasDrawn, IsOver, IsPassedOver, MakesDrawn, begun_at, behind, drawn_at};
+ghost use Rattle.runner.specs.Seeds.{is_alive, is_asleep, is_living, is_mover, kill_due, living_drawn, living_of, marked};
+ghost use Rattle.runner.specs.Seeds.{moment_of, movers_of, next_of, numbers_from, outside_by, picked, sleeper_drawn};
+ghost use Rattle.runner.specs.Seeds.{sleepers_of, stray_due};
 ghost use Rattle.runner.specs.Views.{log_state};
 
 use crate::fault::RunFault;
@@ -66,13 +72,17 @@ impl Outside {
     /// What comes from outside where these are asked for. Where there may be kills, the generator's next number says how
     /// often they come.
     pub fn new(strays: Option<u32>, kills: u32, generator: &mut SplitMix64) -> Outside
-        ensures { (result.strays ≡ strays) × (result.kills ≡ kills) }
+        ensures value { (result.strays ≡ strays) × (result.kills ≡ kills) }
+        ensures begun { (result, numbers_from generator.new) ≡ outside_by strays kills (numbers_from generator.old) }
     {
-        let doublings = if kills == 0 {
-            0
-        } else {
-            1 + (generator.next_u64() % MOST_DOUBLINGS) as u32
-        };
+        if kills == 0 {
+            return Outside {
+                strays,
+                kills,
+                doublings: 0,
+            };
+        }
+        let doublings = 1 + (next_number(generator) % MOST_DOUBLINGS) as u32;
         Outside {
             strays,
             kills,
@@ -95,6 +105,8 @@ pub fn run_drawn<J: RunName>(
     requires strays { is_some outside.strays ≡ J.outside.strays }
     requires kills { outside.kills ≡ J.outside.kills }
     ensures ok { OnOk result (Idle J.program J.limit (log_state shared.new)) }
+    ensures ends { OnOk result (EndsBehind J.program outside J.limit
+        (begun_at (log_state shared.old) (numbers_from generator.old)) shared.new.log) }
     ensures err { IfErr result (λ fault. CanFail J.program J.outside J.limit fault) }
 {
     let mut refused = [false; PLACES + 1];
@@ -143,6 +155,13 @@ fn make_next<J: RunName>(
         × (cost shared.new.log ≤ J.limit)) }
     ensures none { IfOk result (λ made. made ≡ false
         → Idle J.program J.limit (log_state shared.new)) }
+    ensures drawn { OnOk result (HasDrawn J.program outside J.limit
+        (moment_of (log_state shared.old) (numbers_from generator.old) refused.old passed.old)
+        (moment_of (log_state shared.new) (numbers_from generator.new) refused.new passed.new)) }
+    ensures over { IfOk result (λ made. made ≡ false → IsOver outside J.limit
+        (moment_of (log_state shared.new) (numbers_from generator.new) refused.new passed.new)) }
+    ensures legal { IfOk result (λ made. made ≡ false
+        → Runs J.program (opening J.program) shared.new.log (log_state shared.new).concrete) }
     ensures err { IfErr result (λ fault. CanFail J.program J.outside J.limit fault) }
 {
     let mut skipped = false;
@@ -190,6 +209,11 @@ fn make_drawn<J: RunName>(
     ensures none { IfOk result (λ made. made ≡ false → (log_state shared.new ≡ log_state shared.old)
         × AllStopped J.program J.limit (log_state shared.new) passed.new
         × (left passed.new < left passed.old)) }
+    ensures makes { IfOk result (λ made. made ≡ true → (refused.new ≡ refused.old)
+        × MakesDrawn J.program J.limit (log_state shared.old) drawn (log_state shared.new)) }
+    ensures passes { IfOk result (λ made. made ≡ false → (before after : Stream) → IsPassedOver J.program J.limit
+        (moment_of (log_state shared.old) before refused.old passed.old) drawn
+        (moment_of (log_state shared.new) after refused.new passed.new)) }
     ensures err { IfErr result (λ fault. CanFail J.program J.outside J.limit fault) }
 {
     match drawn {
@@ -227,6 +251,10 @@ fn draw_entry<J: RunName>(
     requires kills { outside.kills ≡ J.outside.kills }
     ensures drawn { MatchOption result (NoneLeft (log_state shared.now).concrete.concrete refused.now passed.now)
         (λ drawn. MayBeDrawn J.outside J.limit (log_state shared.now) refused.now passed.now drawn) }
+    ensures draws { (result, numbers_from generator.new) ≡ drawn_at outside J.limit
+        (moment_of (log_state shared.now) (numbers_from generator.old) refused.now passed.now) }
+    ensures still { IfNone result (numbers_from generator.new ≡ numbers_from generator.old) }
+    ensures legal { Runs J.program (opening J.program) shared.now.log (log_state shared.now).concrete }
     ensures kept { IsFit J.program (log_state shared.now).concrete }
 {
     let Lists { movers, others } = lists;
@@ -250,10 +278,15 @@ fn draw_sleeper<J: RunName>(
     generator: &mut SplitMix64,
     strays: Option<u32>,
 ) -> Option<u32>
-    ensures { IfSome result (λ t. (is_some strays ≡ true) × IsAsleep (log_state shared.now).concrete.concrete t
+    ensures may { IfSome result (λ t. (is_some strays ≡ true) × IsAsleep (log_state shared.now).concrete.concrete t
         × (cost shared.now.log < J.limit)) }
+    ensures drawn { (result, numbers_from generator.new)
+        ≡ sleeper_drawn strays J.limit (log_state shared.now) (numbers_from generator.old) }
 {
-    if !is_due(strays, generator) || !shared.has_step_left() {
+    if !is_due(strays, generator) {
+        return None;
+    }
+    if !shared.has_step_left() {
         return None;
     }
     list_sleepers(sleepers, shared.machine());
@@ -273,13 +306,18 @@ fn draw_living<J: RunName>(
     outside: Outside,
 ) -> Option<u32>
     requires room { length refused.now ≡ suc most_threads }
-    ensures { IfSome result (λ t. (kills_in shared.now.log < outside.kills)
+    ensures may { IfSome result (λ t. (kills_in shared.now.log < outside.kills)
         × IsUnrefused (log_state shared.now).concrete.concrete refused.now t × (cost shared.now.log < J.limit)) }
+    ensures drawn { (result, numbers_from generator.new)
+        ≡ living_drawn outside J.limit (log_state shared.now) (marked refused.now) (numbers_from generator.old) }
 {
     if shared.kills() >= outside.kills {
         return None;
     }
-    if generator.next_u64().trailing_zeros() < outside.doublings || !shared.has_step_left() {
+    if !is_kill_due(outside.doublings, generator) {
+        return None;
+    }
+    if !shared.has_step_left() {
         return None;
     }
     list_living(living, shared.machine(), refused);
@@ -292,20 +330,43 @@ fn draw_living<J: RunName>(
 // Whether a wake from outside is due: where the generator's next number is a multiple of that which `strays` has. No
 // number is drawn where it has none, or 0.
 fn is_due(strays: Option<u32>, generator: &mut SplitMix64) -> bool
-    ensures { result ≡ true → is_some strays ≡ true }
+    ensures may { result ≡ true → is_some strays ≡ true }
+    ensures due { result ≡ (stray_due strays (numbers_from generator.old)).0 }
+    ensures rest { numbers_from generator.new ≡ (stray_due strays (numbers_from generator.old)).1 }
 {
-    match strays {
-        None | Some(0) => false,
-        Some(n) => generator.next_u64() % u64::from(n) == 0,
+    let Some(n) = strays else {
+        return false;
+    };
+    if n == 0 {
+        return false;
     }
+    next_number(generator) % u64::from(n) == 0
+}
+
+// Whether a kill is due: where the generator's next number is a multiple of 2 to the power of so many doublings.
+fn is_kill_due(doublings: u32, generator: &mut SplitMix64) -> bool
+    ensures due { result ≡ kill_due doublings (next_of (numbers_from generator.old)) }
+    ensures rest { numbers_from generator.new ≡ behind (numbers_from generator.old) }
+{
+    doublings <= next_number(generator).trailing_zeros()
+}
+
+// The generator's next number, as one of those that follow from its state.
+#[inline(always)]
+fn next_number(generator: &mut SplitMix64) -> u64
+    ensures number { result ≡ next_of (numbers_from generator.old) }
+    ensures rest { numbers_from generator.new ≡ behind (numbers_from generator.old) }
+{
+    generator.next_u64()
 }
 
 // The thread that the generator's next number picks: of these, that at the number modulo how many they are.
 fn pick(threads: &[u32], generator: &mut SplitMix64) -> u32
     requires some { 0 < length threads.now }
-    ensures { Contains threads.now result }
+    ensures among { Contains threads.now result }
+    ensures drawn { (Some result, numbers_from generator.new) ≡ picked threads.now (numbers_from generator.old) }
 {
-    let place = generator.next_u64() % threads.len() as u64;
+    let place = next_number(generator) % threads.len() as u64;
     threads[place as usize]
 }
 
@@ -320,6 +381,7 @@ fn list_movers(
     requires room { (length refused.now ≡ suc most_threads) × (length passed.now ≡ suc most_threads) }
     ensures drawn { All (IsDrawn (concrete machine.now) refused.now passed.now) movers.new.items }
     ensures none { length movers.new.items ≡ 0 → NoneLeft (concrete machine.now) refused.now passed.now }
+    ensures all { movers.new.items ≡ movers_of (concrete machine.now) (marked refused.now) (marked passed.now) }
 {
     movers.clear();
     let mut from = 1;
@@ -346,6 +408,8 @@ fn add_pickable(
     ensures none { length movers.new.items ≡ 0 → (length movers.old.items ≡ 0)
         × (can_move (concrete machine.now) t ≡ true
         → (slice_get refused.now t ≡ Some true) ⊎ (slice_get passed.now t ≡ Some true)) }
+    ensures items { movers.new.items ≡ movers.old.items
+        ++ (if is_mover (concrete machine.now) (marked refused.now) (marked passed.now) t then t ∷ [] else []) }
 {
     if !is_pickable(machine, refused, passed, t) {
         return;
@@ -357,16 +421,18 @@ fn add_pickable(
 fn is_pickable(machine: &Machine, refused: &[bool], passed: &[bool], t: u32) -> bool
     requires room { (length refused.now ≡ suc most_threads) × (length passed.now ≡ suc most_threads) }
     requires thread { t ≤ most_threads }
-    ensures { MatchBool result (IsPickable (concrete machine.now) refused.now passed.now t)
+    ensures tells { MatchBool result (IsPickable (concrete machine.now) refused.now passed.now t)
         (can_move (concrete machine.now) t ≡ true
         → (slice_get refused.now t ≡ Some true) ⊎ (slice_get passed.now t ≡ Some true)) }
+    ensures value { result ≡ is_mover (concrete machine.now) (marked refused.now) (marked passed.now) t }
 {
     machine.can_move(t) && !refused[t as usize] && !passed[t as usize]
 }
 
 // Lists the threads that sleep, by rising number.
 fn list_sleepers(sleepers: &mut ArrayVec<u32, PLACES>, machine: &Machine)
-    ensures { All (IsAsleep (concrete machine.now)) sleepers.new.items }
+    ensures asleep { All (IsAsleep (concrete machine.now)) sleepers.new.items }
+    ensures all { sleepers.new.items ≡ sleepers_of (concrete machine.now) }
 {
     sleepers.clear();
     for before in 0..machine.threads() {
@@ -380,6 +446,8 @@ fn add_sleeper(sleepers: &mut ArrayVec<u32, PLACES>, machine: &Machine, t: u32)
     ensures asleep { All (IsAsleep (concrete machine.now)) sleepers.old.items
         → All (IsAsleep (concrete machine.now)) sleepers.new.items }
     ensures few { length sleepers.new.items ≤ length sleepers.old.items + 1 }
+    ensures items { sleepers.new.items ≡ sleepers.old.items
+        ++ (if is_asleep (concrete machine.now) t then t ∷ [] else []) }
 {
     if machine.asleep(t).is_some() {
         sleepers.push(t);
@@ -389,7 +457,8 @@ fn add_sleeper(sleepers: &mut ArrayVec<u32, PLACES>, machine: &Machine, t: u32)
 // Lists the threads that live, which aren't dying yet nor ended, and weren't refused, by rising number.
 fn list_living(living: &mut ArrayVec<u32, PLACES>, machine: &Machine, refused: &[bool])
     requires room { length refused.now ≡ suc most_threads }
-    ensures { All (IsUnrefused (concrete machine.now) refused.now) living.new.items }
+    ensures living { All (IsUnrefused (concrete machine.now) refused.now) living.new.items }
+    ensures all { living.new.items ≡ living_of (concrete machine.now) (marked refused.now) }
 {
     living.clear();
     for before in 0..machine.threads() {
@@ -405,6 +474,8 @@ fn add_living(living: &mut ArrayVec<u32, PLACES>, machine: &Machine, refused: &[
     ensures living { All (IsUnrefused (concrete machine.now) refused.now) living.old.items
         → All (IsUnrefused (concrete machine.now) refused.now) living.new.items }
     ensures few { length living.new.items ≤ length living.old.items + 1 }
+    ensures items { living.new.items ≡ living.old.items
+        ++ (if is_living (concrete machine.now) (marked refused.now) t then t ∷ [] else []) }
 {
     if lives(machine, t) && !refused[t as usize] {
         living.push(t);
@@ -413,7 +484,8 @@ fn add_living(living: &mut ArrayVec<u32, PLACES>, machine: &Machine, refused: &[
 
 // Whether thread `t` was made and isn't dying: a kill of it changes it.
 fn lives(machine: &Machine, t: u32) -> bool
-    ensures { result ≡ true → thread_of (concrete machine.now) t ≢ None }
+    ensures made { result ≡ true → thread_of (concrete machine.now) t ≢ None }
+    ensures value { result ≡ is_alive (thread_of (concrete machine.now) t) }
 {
     machine.is_made(t) && !machine.local(t).is_dying()
 }

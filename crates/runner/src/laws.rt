@@ -1,5 +1,6 @@
 ghost use Rattle.runner.specs.LogRuns.{StepsSo, LogsSo, RunsSo, MeetsSo, LocallySo};
 ghost use Rattle.runner.specs.Orders.{OneLogSo};
+ghost use Rattle.runner.specs.Seeds.{OneLogBySeedSo};
 
 /// A legal log is a run of the machine: its own steps, one by one, lead where the log leads, and each run of the
 /// machine itself is that of a log. And where a run meets a step that may not be, so does a run of the machine,
@@ -15,4 +16,9 @@ pub fn logs_are_machine_runs()
 /// All reports of one program and one limit whose logs are in order have one log.
 pub fn orders_give_one_log()
     ensures { OneLogSo }
+{}
+
+/// All runs of one program by one seed, with one limit, `strays` and `kills`, have one log.
+pub fn seeds_give_one_log()
+    ensures { OneLogBySeedSo }
 {}

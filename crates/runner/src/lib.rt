@@ -27,7 +27,7 @@ mod stepping;
 mod thread_bits;
 
 pub use fault::RunFault;
-pub use laws::{logs_are_machine_runs, orders_give_one_log};
+pub use laws::{logs_are_machine_runs, orders_give_one_log, seeds_give_one_log};
 pub use log_schedule::{FollowLogFault, follow_log};
 pub use naming::RunName;
 pub use next::{After, Next};

@@ -8,6 +8,7 @@ ghost use Rattle.runner.specs.Logs.{cost};
 ghost use Rattle.runner.specs.Orders.{GoesOn, HasBegun, HasGoneAlone, HasMade};
 ghost use Rattle.runner.specs.Reports.{CanFail, IsStopped};
 ghost use Rattle.runner.specs.Rounds.{AllPast, AreTried, HasTurned, Idle, IsTurn};
+ghost use Rattle.runner.specs.Seeds.{MarksIf};
 ghost use Rattle.runner.specs.Views.{log_state};
 ghost use Rattle.runner.specs.Waits.{AllWait, IsNextAround};
 
@@ -262,6 +263,9 @@ pub(crate) fn make_entry<J: RunName, G: Gate>(
     ensures none { IfOk result (λ made. made ≡ false → (log_state shared.new ≡ log_state shared.old)
         × (can_move (log_state shared.new).concrete.concrete t ≡ true
         → IsStopped J.program J.limit shared.new.log (log_state shared.new).concrete t)) }
+    ensures same { IfOk result (λ made. made ≡ true → refused.new ≡ refused.old) }
+    ensures marks { IfOk result (λ made. made ≡ false → MarksIf J.program J.limit
+        (log_state shared.old) t refused.old refused.new) }
     ensures err { IfErr result (λ fault. CanFail J.program J.outside J.limit fault) }
 {
     if !shared.machine().can_move(t) {
@@ -303,6 +307,9 @@ fn attempt_entry<J: RunName, G: Gate, C>(
         → IsStopped J.program J.limit shared.new.log (log_state shared.new).concrete t)) }
     ensures tried { IfOk (came result told.new) (λ a. TriedSo J.program (log_state shared.old).concrete t a
         (log_state shared.new).concrete) }
+    ensures same { IfOk (came result told.new) (λ a. is_made a ≡ true → refused.new ≡ refused.old) }
+    ensures marks { IfOk (came result told.new) (λ a. is_made a ≡ false → MarksIf J.program J.limit
+        (log_state shared.old) t refused.old refused.new) }
     ensures err { IfErr (came result told.new) (λ fault. CanFail J.program J.outside J.limit fault) }
 {
     if !shared.has_room() {
@@ -341,6 +348,9 @@ fn tell_entry<J: RunName, G: Gate>(
         → IsStopped J.program J.limit shared.new.log (log_state shared.new).concrete t)) }
     ensures tried { IfOk told.new (λ a. TriedSo J.program (log_state shared.old).concrete t a
         (log_state shared.new).concrete) }
+    ensures same { IfOk told.new (λ a. is_made a ≡ true → refused.new ≡ refused.old) }
+    ensures marks { IfOk told.new (λ a. is_made a ≡ false → MarksIf J.program J.limit
+        (log_state shared.old) t refused.old refused.new) }
     ensures err { IfErr told.new (λ fault. CanFail J.program J.outside J.limit fault) }
 {
     *told = try_entry(shared, refused, image, share, gate, t, piece);
@@ -371,6 +381,9 @@ fn try_entry<J: RunName, G: Gate>(
         → IsStopped J.program J.limit shared.new.log (log_state shared.new).concrete t)) }
     ensures tried { IfOk result (λ a. TriedSo J.program (log_state shared.old).concrete t a
         (log_state shared.new).concrete) }
+    ensures same { IfOk result (λ a. is_made a ≡ true → refused.new ≡ refused.old) }
+    ensures marks { IfOk result (λ a. is_made a ≡ false → MarksIf J.program J.limit
+        (log_state shared.old) t refused.old refused.new) }
     ensures err { IfErr result (λ fault. CanFail J.program J.outside J.limit fault) }
 {
     if refused[t as usize] {

@@ -1,6 +1,7 @@
 ghost use Rattle.std.specs.Prelude.{◌≡◌, is_some, IfOk, IfErr};
 ghost use Rattle.runner.specs.Logs.{outside_of};
 ghost use Rattle.runner.specs.Reports.{IsReport, CanFail};
+ghost use Rattle.runner.specs.Seeds.{IsBySeed};
 
 use crate::drawing::{Outside, run_drawn};
 use crate::fault::RunFault;
@@ -48,6 +49,7 @@ pub fn run_by_seed(
     kills: u32,
 ) -> Result<Report, RunFault>
     ensures ok { IfOk result (λ report. IsReport image.now (outside_of (is_some strays) kills) limit report) }
+    ensures seeded { IfOk result (λ report. IsBySeed image.now strays kills limit seed report.log.items) }
     ensures err { IfErr result (λ fault. CanFail image.now (outside_of (is_some strays) kills) limit fault) }
 {
     run_as::<Brand>(
@@ -76,6 +78,7 @@ fn run_as<J: RunName>(
     requires limit { limit ≡ J.limit }
     requires blank { (blank.name ≡ J.name) × (blank.parts ≡ J.parts) × (J.parts ≡ 1024) }
     ensures ok { IfOk result (λ report. IsReport J.program J.outside J.limit report) }
+    ensures seeded { IfOk result (λ report. IsBySeed J.program strays kills J.limit seed report.log.items) }
     ensures err { IfErr result (λ fault. CanFail J.program J.outside J.limit fault) }
 {
     let Ok(mut shared) = Shared::<J>::new(alloc, image, limit, blank) else {

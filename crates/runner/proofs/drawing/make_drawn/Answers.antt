@@ -1,11 +1,13 @@
-use Rattle.std.proofs.Common.{◌≡◌, ◌∙◌, true, ap, sym, subst, arith}
+use Rattle.std.proofs.Common.{◌≡◌, ◌∙◌, true, ap, refl, slice_set, sym, subst, arith}
 use Rattle.machine.specs.ConcreteSteps.{can_move}
 use Rattle.runner.specs.declared.drawing.Drawn.{Drawn}
 use Rattle.runner.specs.declared.drawing.Drawn.TheVariants.{Living, Mover}
 use Rattle.runner.specs.Rounds.{AllStopped, MayBeDrawn}
+use Rattle.runner.specs.Seeds.{IsPassedOver, MakesDrawn, moment_of}
 use Rattle.runner.specs.Views.{LogState, log_state}
 use Rattle.runner.proofs.Drawn.{one_fewer, one_stopped}
 use Rattle.runner.proofs.Passing.{kill_past, wake_past}
+use Rattle.runner.proofs.Seeding.{marked_one, stops_so}
 use Rattle.runner.proofs.drawing.make_drawn.Goals as goal
 
 pub make_entry-requires-clause-thread : goal.make_entry-requires-clause-thread
@@ -48,3 +50,45 @@ returns-in_ok-kill-in-Living-clause-past g c =
     c.args.refused.now c.args.passed.now d) c.in-Living.is c.requires.drawn in
     kill_past g.J.RunName.program g.J.RunName.limit (log_state c.args.shared.now) (log_state c.kill.new.self)
     c.in-Living.t c.args.refused.now c.requires.kept c.in_ok-kill-in-Living.ensures.ok drawn.1.1 c.requires.past
+
+pub returns-then-not-made-clause-passes : goal.returns-then-not-made-clause-passes
+returns-then-not-made-clause-passes g c =
+    let p = g.J.RunName.program in
+    let limit = g.J.RunName.limit in
+    let t = c.in-Mover.t in
+    let h = log_state c.args.shared.now in
+    let refused = c.args.refused.now in
+    let passed = c.args.passed.now in
+    let drawn : MayBeDrawn g.J.RunName.outside limit h refused passed (Mover t) =
+    subst (λ (d : Drawn). MayBeDrawn g.J.RunName.outside limit h refused passed d) c.in-Mover.is c.requires.drawn in
+    λ is before after.
+    let e = c.in_ok-made-in-Mover.ensures in
+    let stops = stops_so p limit h t refused c.make_entry.new.refused (omega (arith, drawn.2))
+    (e.marks is drawn.0.0 drawn.0.1) in
+    subst (λ (d : Drawn). IsPassedOver p limit (moment_of h before refused passed) d
+    (moment_of (log_state c.make_entry.new.shared) after c.make_entry.new.refused (slice_set passed t true))) (sym c.in-Mover.is)
+    (stops, (e.none is).0, marked_one passed t (omega (arith, drawn.2)))
+
+-- the entry that was drawn was made
+pub returns-else-not-made-clause-makes : goal.returns-else-not-made-clause-makes
+returns-else-not-made-clause-makes g c =
+    let e = c.in_ok-made-in-Mover.ensures in
+    λ is. (
+      e.same is,
+      subst (λ (d : Drawn). MakesDrawn g.J.RunName.program g.J.RunName.limit (log_state c.args.shared.now) d
+          (log_state c.make_entry.new.shared)) (sym c.in-Mover.is) (e.entry is, (e.made is).1),
+    )
+
+pub returns-in_ok-stray-in-Sleeper-clause-makes : goal.returns-in_ok-stray-in-Sleeper-clause-makes
+returns-in_ok-stray-in-Sleeper-clause-makes g c = λ is. (
+  refl,
+  subst (λ (d : Drawn). MakesDrawn g.J.RunName.program g.J.RunName.limit (log_state c.args.shared.now) d
+      (log_state c.stray.new.self)) (sym c.in-Sleeper.is) c.in_ok-stray-in-Sleeper.ensures.ok,
+)
+
+pub returns-in_ok-kill-in-Living-clause-makes : goal.returns-in_ok-kill-in-Living-clause-makes
+returns-in_ok-kill-in-Living-clause-makes g c = λ is. (
+  refl,
+  subst (λ (d : Drawn). MakesDrawn g.J.RunName.program g.J.RunName.limit (log_state c.args.shared.now) d
+      (log_state c.kill.new.self)) (sym c.in-Living.is) c.in_ok-kill-in-Living.ensures.ok,
+)

@@ -1,4 +1,4 @@
-use Rattle.std.proofs.Common.{◌≡◌, ◌∙◌, ℕ, Some, true, false, slice_set, ap, refl, sym, slice_get, subst, arith}
+use Rattle.std.proofs.Common.{◌≡◌, ◌∙◌, ℕ, Some, true, false, slice_set, ap, inl, inr, refl, sym, slice_get, subst, arith}
 use Rattle.std.proofs.lemmas.Option.{slice_get-get_or}
 use Rattle.locals.specs.Steps.{local_after}
 use Rattle.runner.specs.declared.fault.RunFault.{RunFault}
@@ -7,7 +7,7 @@ use Rattle.runner.specs.Entries.{RefusesEntry}
 use Rattle.runner.specs.Rounds.{AllPast}
 use Rattle.runner.proofs.Growing.{enters, entry}
 use Rattle.runner.proofs.Ordering.{taken_next}
-use Rattle.runner.proofs.Passing.{all_past, one_past, passes, stops}
+use Rattle.runner.proofs.Passing.{all_past, holds_up, one_past, passes, passes_limit, stops}
 use Rattle.runner.proofs.rounds.try_entry.Goals as goal
 
 pub returns-then-refused-t-clause-none : goal.returns-then-refused-t-clause-none
@@ -66,3 +66,28 @@ returns-in-Ok-clause-tried g c =
       enters p (log_state c.args.shared.now).concrete (log_state c.enter.new.self).concrete c.args.t a.count a.origin a.here
           takes.event takes.stands.1 takes.moves goes takes.gives,
     )
+
+-- whom the limit stops is marked, and whom a held bucket does isn't
+pub returns-then-refused-t-clause-marks : goal.returns-then-refused-t-clause-marks
+returns-then-refused-t-clause-marks g c = λ none moves free.
+    let was : slice_get c.args.refused.now c.args.t ≡ Some true =
+    slice_get-get_or c.args.refused.now c.args.t false (omega arith) ∙ ap Some c.if-refused-t.true in
+    absurd cc
+
+pub returns-in-Err-Limit-clause-marks : goal.returns-in-Err-Limit-clause-marks
+returns-in-Err-Limit-clause-marks g c = λ none moves free.
+    let p = g.J.RunName.program in
+    let limit = g.J.RunName.limit in
+    let r = c.go_on.ensures in
+    let refused = subst (λ (f : RunFault). RefusesEntry p limit (log_state c.args.shared.now) c.args.t c.go_on.new.self f)
+    c.in-Err-Limit.field-0-is c.in-Err-Limit.ensures.err.2 in
+    inl (passes_limit p limit (log_state c.args.shared.now) c.args.t c.go_on.new.self refused r.reached r.within r.whole, refl)
+
+pub returns-in-Err-CannotMove-clause-marks : goal.returns-in-Err-CannotMove-clause-marks
+returns-in-Err-CannotMove-clause-marks g c = λ none moves free.
+    let p = g.J.RunName.program in
+    let limit = g.J.RunName.limit in
+    let r = c.go_on.ensures in
+    let refused = subst (λ (f : RunFault). RefusesEntry p limit (log_state c.args.shared.now) c.args.t c.go_on.new.self f)
+    c.in-Err-CannotMove.field-0-is c.in-Err-CannotMove.ensures.err.2 in
+    inr (holds_up p limit (log_state c.args.shared.now) c.args.t c.go_on.new.self refused moves r.reached r.within r.whole, refl)
