@@ -9,7 +9,7 @@ use Rattle.proof_image_liveness.specs.Sleeping.{AreAsleep}
 use Rattle.image_states.specs.Packed.{kept_of, thread_at, local_in}
 use Rattle.image_states.specs.declared.packed.Packed.{Packed as PackedOf}
 use Rattle.image_search.specs.declared.kept.KeptStates.{KeptStates as KeptOf}
-use Rattle.image_search.specs.Kept.{IsSound, states_of}
+use Rattle.image_search.specs.Kept.{IsApartIn, IsSound, states_of}
 use Rattle.image_search.specs.Living.{HoldsAt, IsClosed, IsStill, OwnLeads, SleepsAt, flagged}
 use Rattle.image_search.proofs.Flagging.{holds_still, one_at, packed_at}
 
@@ -41,23 +41,26 @@ flagged_at (false ∷ flags) (x ∷ rs) r (k, less, e) =
 -- where each flagged state is closed
 pub are_asleep : (p : Program) (t : ℕ) (kept : KeptOf) (flags : List Bool)
     → ((i : ℕ) → slice_get flags i ≡ Some true → HoldsAt p kept i (IsClosed p t kept flags))
-    → AreAsleep p t (flagged flags (states_of p kept))
+    → AreAsleep p kept.parts.alone t (flagged flags (states_of p kept))
 are_asleep p t kept flags closed = record {
   sleeps = λ r is. let at = flagged_at flags (states_of p kept) r is in (closed at.0 at.1 r at.2).sleeps;
   closed = λ r is u woken s step.
       let at = flagged_at flags (states_of p kept) r is in
       (closed at.0 at.1 r at.2).leads u (flagged flags (states_of p kept)) (flagged_in flags (states_of p kept)) woken s
       step;
+  apart = λ f r is. let at = flagged_at flags (states_of p kept) r is in (closed at.0 at.1 r at.2).apart f;
 }
 
 -- a thread past those that were made takes no step
 pub closed_of : (p : Program) (t : ℕ) (a kept : KeptOf) (flags : List Bool) (place count : ℕ) → IsSound a → IsStill a kept
     → HoldsAt p a place (λ (r : Kept). r.state.made ≡ count)
     → ((u : ℕ) → u < count → HoldsAt p kept place (OwnLeads p kept flags (suc u)))
-    → HoldsAt p kept place (SleepsAt t) → HoldsAt p kept place (IsClosed p t kept flags)
-closed_of p t a kept flags place count sound still made leads sleeps r at = record {
+    → HoldsAt p kept place (SleepsAt t) → HoldsAt p kept place (IsApartIn p kept.parts.alone)
+    → HoldsAt p kept place (IsClosed p t kept flags)
+closed_of p t a kept flags place count sound still made leads sleeps apart r at = record {
   sleeps = sleeps r at;
   leads = λ u. by_thread u;
+  apart = apart r at;
 }
   where
     x : (x : PackedOf) × (slice_get kept.states.items place ≡ Some x)

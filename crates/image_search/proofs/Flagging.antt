@@ -18,7 +18,8 @@ use Rattle.image_states.specs.declared.packed.Packed.{Packed as PackedOf}
 use Rattle.image_states.specs.declared.parts.Parts.{Parts as PartsOf}
 use Rattle.image_states.proofs.Growing.{grown_none, grown_twice, same_key}
 use Rattle.image_search.specs.declared.kept.KeptStates.{KeptStates as KeptOf}
-use Rattle.image_search.specs.Kept.{IsSound, states_in, states_of}
+use Rattle.proof_pieces.specs.WholeCalls.{IsWholeStep}
+use Rattle.image_search.specs.Kept.{IsApartIn, IsSound, states_in, states_of}
 use Rattle.image_search.specs.Living.{AllWakened, AreFlagged, AreKnown, CanGo, HoldsAt, IsClosed, IsFlagged, IsMade, IsStill}
 use Rattle.image_search.specs.Living.{LeadsAt, LivesAt, OwnLeads}
 use Rattle.image_search.proofs.Keeping.{contains_at, sound_still, state_at, states_still}
@@ -58,7 +59,7 @@ own_leads p kept flags place u x found here done all =
     by_reach lives are s (done woken s step))
   where
     by_reach : (lives : List Kept) → AreFlagged p kept flags lives → (s : State) → Reaches p kept.parts found s x.killed
-        → (m : ℕ) × IsCovered p lives m s x.killed
+        → (m : ℕ) × IsCovered p kept.parts.alone lives m s x.killed
     by_reach lives are s reach =
         let f = All-contains (λ (next : NextOf). IsFlagged kept flags next.state) found reach.next all reach.found in
         reach.covers lives (subst (Contains lives) (same_key p kept.parts f.state reach.next.state f.same)
@@ -83,12 +84,14 @@ few_of p kept x made = record {
 
 pub leads_at : (p : Program) (kept : KeptOf) (flags : List Bool) (place u : ℕ) (x : PackedOf)
     → slice_get kept.states.items place ≡ Some x → IsMade p x → HoldsAt p kept place (OwnLeads p kept flags u)
-    → HoldsAt p kept place (CanGo p u) → HoldsAt p kept place (LeadsAt p kept flags)
-leads_at p kept flags place u x here made leads can r at lives are = record {
+    → HoldsAt p kept place (CanGo p u) → HoldsAt p kept place (IsApartIn p kept.parts.alone)
+    → HoldsAt p kept place (LeadsAt p kept flags)
+leads_at p kept flags place u x here made leads can apart r at lives are = record {
   thread = u;
   can = (can r at).can;
   whole = (can r at).whole;
   few = subst (λ (q : Kept). IsFew q.state) (one_at p kept place x here r at) (few_of p kept x made);
+  apart = apart r at;
   leads = leads r at lives are;
 }
 
@@ -97,7 +100,7 @@ pub known_still : (p : Program) (t : ℕ) (a b : KeptOf) (flags : List Bool) →
     → AreKnown p t a flags → AreKnown p t b flags
 known_still p t a b flags sound still known = record {
   lives = known.lives;
-  live = known.live;
+  live = subst (λ (alone : Bool). AreLive p alone t known.lives) (sym still.parts.alone) known.live;
   flagged = subst (λ rs. (i : ℕ) (r : Kept) → slice_get flags i ≡ Some true → slice_get rs i ≡ Some r
       → Contains known.lives r) (sym (states_same p a b sound still)) known.flagged;
 }
@@ -147,11 +150,13 @@ known_none p t kept flags none = record {
 }
 
 -- a live state of a list is wakened
-wakened_in : (p : Program) (t : ℕ) (lives : List Kept) → AreLive p t lives → (r : Kept) → Contains lives r → IsWakened p t r
-wakened_in p t [] live r (k, less, e) = absurd (omega (arith, less))
-wakened_in p t (x ∷ lives) live r (zero, less, e) =
-    subst (IsWakened p t) e (record { behind = lives; lives = live.1; live = live.0 })
-wakened_in p t (x ∷ lives) live r (suc k, less, e) = wakened_in p t lives live.1 r (k, omega (arith, less), e)
+wakened_in : (p : Program) (alone : Bool) (t : ℕ) (lives : List Kept) → AreLive p alone t lives → (r : Kept)
+    → Contains lives r → IsWakened p alone t r
+wakened_in p alone t [] live r (k, less, e) = absurd (omega (arith, less))
+wakened_in p alone t (x ∷ lives) live r (zero, less, e) =
+    subst (IsWakened p alone t) e (record { behind = lives; lives = live.1; live = live.0 })
+wakened_in p alone t (x ∷ lives) live r (suc k, less, e) =
+    wakened_in p alone t lives live.1 r (k, omega (arith, less), e)
 
 get_at : {X : Type 0} (xs : List X) (i : ℕ) (d : X) → i < length xs → slice_get xs i ≡ Some (slice_index_or xs i d)
 get_at [] i d less = absurd (omega (arith, less))
@@ -162,7 +167,7 @@ get_at (x ∷ xs) (suc i) d less = get_at xs i d (omega (arith, less))
 pub all_wakened : (p : Program) (t : ℕ) (kept : KeptOf) (flags : List Bool) → AreKnown p t kept flags
     → length kept.states.items ≤ length flags → All (λ flag. flag ≡ true) flags → AllWakened p t kept
 all_wakened p t kept flags known long all r (k, less, e) a slept =
-    wakened_in p t known.lives known.live r (known.flagged k r
+    wakened_in p kept.parts.alone t known.lives known.live r (known.flagged k r
     (get_at flags k true within ∙ ap (λ b. Some b) (all k true within))
     (get_at (states_of p kept) k r less ∙ ap (λ q. Some q) e))
   where
@@ -183,20 +188,20 @@ packed_in p parts r (x ∷ xs) (suc k) less e =
 pub are_wakened : (p : Program) (kept : KeptOf) (count : ℕ) → All (IsMade p) kept.states.items
     → All (λ x. length x.places.items ≤ count) kept.states.items
     → ((k : ℕ) → k < count → AllWakened p (suc k) kept)
-    → (r : Kept) → Contains (states_of p kept) r → AreWakened p r
+    → (r : Kept) → Contains (states_of p kept) r → AreWakened p kept.parts.alone r
 are_wakened p kept count made within all r is = by_packed (packed_in p kept.parts r kept.states.items is.0 is.1 is.2)
   where
     by_thread : (x : PackedOf) → length x.places.items ≤ count → kept_of p kept.parts x ≡ r → (t a : ℕ)
-        → r.state.asleep t ≡ Some a → IsWakened p t r
+        → r.state.asleep t ≡ Some a → IsWakened p kept.parts.alone t r
     by_thread x few same t a slept = at t
         (asleep_few x.places.items t a (subst (λ (q : Kept). q.state.asleep t ≡ Some a) (sym same) slept)) slept
       where
-        at : (u : ℕ) → u < suc (length x.places.items) → r.state.asleep u ≡ Some a → IsWakened p u r
+        at : (u : ℕ) → u < suc (length x.places.items) → r.state.asleep u ≡ Some a → IsWakened p kept.parts.alone u r
         at zero less slept = absurd (let none : None ≡ Some a =
             ap (λ (q : Kept). q.state.asleep 0) same ∙ slept in cc)
         at (suc k) less slept = all k (omega (arith, less, few)) r is a slept
 
-    by_packed : (x : PackedOf) × Contains kept.states.items x × (kept_of p kept.parts x ≡ r) → AreWakened p r
+    by_packed : (x : PackedOf) × Contains kept.states.items x × (kept_of p kept.parts x ≡ r) → AreWakened p kept.parts.alone r
     by_packed (x, there, same) = record {
       few = subst (λ (q : Kept). IsFew q.state) same
           (few_of p kept x (All-contains (IsMade p) kept.states.items x made there));
@@ -233,11 +238,11 @@ made_still p a b still made = subst (λ (v : Vec PackedOf Global). All (IsMade p
 
 pub leads_of : (p : Program) (a kept : KeptOf) (flags : List Bool) (place u : ℕ) → All (IsMade p) a.states.items
     → IsStill a kept → HoldsAt p kept place (OwnLeads p kept flags u) → HoldsAt p kept place (CanGo p u)
-    → HoldsAt p kept place (LeadsAt p kept flags)
-leads_of p a kept flags place u made still leads can r at =
+    → HoldsAt p kept place (IsApartIn p kept.parts.alone) → HoldsAt p kept place (LeadsAt p kept flags)
+leads_of p a kept flags place u made still leads can apart r at =
     let x = packed_at p kept.parts kept.states.items place r at in
     leads_at p kept flags place u x.0 x.1 (All-contains (IsMade p) kept.states.items x.0
-    (made_still p a kept still made) (contains_at kept.states.items place x.0 x.1)) leads can r at
+    (made_still p a kept still made) (contains_at kept.states.items place x.0 x.1)) leads can apart r at
 
 -- what holds of a state with fewer parts holds of it with more
 pub holds_still : (p : Program) (a b : KeptOf) (place : ℕ) (Holds : Kept → Type 0) → IsSound a → IsStill a b
@@ -251,23 +256,36 @@ flagged_before p a b flags lives sound still are =
     subst (λ rs. (i : ℕ) (r : Kept) → slice_get flags i ≡ Some true → slice_get rs i ≡ Some r → Contains lives r)
     (states_same p a b sound still) are
 
+-- what leads to what is covered does so of more parts
+alone_still : (p : Program) (a b : KeptOf) → IsStill a b → (u : ℕ) (r : Kept) (lives : List Kept)
+    → ((woken : List ℕ) (s : State) → IsWholeStep p r.state u woken s
+    → (m : ℕ) × IsCovered p a.parts.alone lives m s r.killed)
+    → (woken : List ℕ) (s : State) → IsWholeStep p r.state u woken s
+    → (m : ℕ) × IsCovered p b.parts.alone lives m s r.killed
+alone_still p a b still u r lives h woken s step =
+    subst (λ (alone : Bool). (m : ℕ) × IsCovered p alone lives m s r.killed) (sym still.parts.alone) (h woken s step)
+
 pub leads_still : (p : Program) (a b : KeptOf) (flags : List Bool) (place u : ℕ) → IsSound a → IsStill a b
     → HoldsAt p a place (OwnLeads p a flags u) → HoldsAt p b place (OwnLeads p b flags u)
 leads_still p a b flags place u sound still h = holds_still p a b place (OwnLeads p b flags u) sound still
-    (λ r at lives are. h r at lives (flagged_before p a b flags lives sound still are))
+    (λ r at lives are. alone_still p a b still u r lives (h r at lives (flagged_before p a b flags lives sound still are)))
 
 pub closed_still : (p : Program) (a b : KeptOf) (flags : List Bool) (place t : ℕ) → IsSound a → IsStill a b
     → HoldsAt p a place (IsClosed p t a flags) → HoldsAt p b place (IsClosed p t b flags)
 closed_still p a b flags place t sound still h = holds_still p a b place (IsClosed p t b flags) sound still
     (λ r at. record {
       sleeps = (h r at).sleeps;
-      leads = λ u lives are. (h r at).leads u lives (flagged_before p a b flags lives sound still are);
+      leads = λ u lives are. alone_still p a b still u r lives
+          ((h r at).leads u lives (flagged_before p a b flags lives sound still are));
+      apart = subst (λ (alone : Bool). IsApartIn p alone r) (sym still.parts.alone) (h r at).apart;
     })
 
 pub wakened_still : (p : Program) (a b : KeptOf) (t : ℕ) → IsSound a → IsStill a b → AllWakened p t a → AllWakened p t b
 wakened_still p a b t sound still h =
-    subst (λ rs. (r : Kept) → Contains rs r → (c : ℕ) → r.state.asleep t ≡ Some c → IsWakened p t r)
-    (sym (states_same p a b sound still)) h
+    subst (λ rs. (r : Kept) → Contains rs r → (c : ℕ) → r.state.asleep t ≡ Some c → IsWakened p b.parts.alone t r)
+    (sym (states_same p a b sound still))
+    (subst (λ (alone : Bool). (r : Kept) → Contains (states_of p a) r → (c : ℕ) → r.state.asleep t ≡ Some c
+    → IsWakened p alone t r) (sym still.parts.alone) h)
 
 -- as many are kept
 pub same_count : (a b : KeptOf) → IsStill a b → length b.states.items ≡ length a.states.items

@@ -13,6 +13,7 @@ use Rattle.machine.specs.States.{State, state_of, thread_of}
 use Rattle.machine.specs.Views.{IsWellFormed, View, concrete}
 use Rattle.proof_image_search.specs.Searching.{Kept}
 use Rattle.proof_image_search.proofs.Ahead.{Ahead, AheadAt, AllAhead, ahead, one_more}
+use Rattle.proof_image_search.proofs.Further.{itself_further}
 use Rattle.proof_image_search.proofs.Closing.{Reached}
 use Rattle.image_states.specs.Packed.{asleep_at, kept_of, place_of, thread_at, unpacked, local_in}
 use Rattle.image_states.proofs.Covering.{last_step, runs_code}
@@ -91,10 +92,12 @@ module _ (p : Program) (kept : KeptOf) (place : ℕ) (v : View) (well : IsWellFo
 
   -- it is one of some states
   pub reached : (rs : List Kept) → Contains rs (kept_of p kept.parts there.packed)
-      → Reached p rs (state_of (concrete v)) there.packed.killed
+      → Reached p kept.parts.alone rs (state_of (concrete v)) there.packed.killed
   reached rs has = record {
     here = thread_at kept.parts.locals.items there.packed.parts.items;
+    words = (state_of (concrete v)).word;
     output = [];
-    all = all;
+    all = itself_further p kept.parts.alone (state_of (concrete v))
+        (thread_at kept.parts.locals.items there.packed.parts.items) all;
     is = subst (λ (q : State). Contains rs (record { state = q; killed = there.packed.killed })) same has;
   }

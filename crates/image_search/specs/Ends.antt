@@ -1,7 +1,7 @@
 -- How a search ends, and what it knows then.
-use Rattle.std.specs.Prelude.{ℕ, ◌≡◌, ◌<◌, ◌≤◌, All, Contains, List, length, ⊤}
+use Rattle.std.specs.Prelude.{ℕ, ◌≡◌, ◌<◌, ◌≤◌, All, Bool, Contains, List, length, ⊤}
 use Rattle.isa.specs.Programs.{Program}
-use Rattle.proof_image_search.specs.Searching.{IsComplete, Kept, May}
+use Rattle.proof_image_search.specs.Searching.{IsComplete, IsCompleteBy, Kept, May}
 use Rattle.image_search.specs.Found.{EndsFailed, EndsStuck, LeadsTo, LeadsToBroken}
 use Rattle.image_search.specs.Kept.{IsEnd, IsPlain}
 use Rattle.image_search.specs.declared.ending.Bound.{Bound}
@@ -20,6 +20,18 @@ IsMet p most kept Choice = (r : Kept) × Contains kept r × IsEnd p r
 pub record AreAll (p : Program) (may : May) (kept : List Kept) : Type 0 where
   pub complete : IsComplete p may kept
   pub plain : All (IsPlain p) kept
+
+-- the same, by whether exits were followed alone
+pub record AreAllBy (p : Program) (alone : Bool) (may : May) (kept : List Kept) : Type 0 where
+  pub complete : IsCompleteBy p alone may kept
+  pub plain : All (IsPlain p) kept
+
+abbrev pub HasEndedBy : Program → (alone : Bool) → May → ℕ → List Kept → Ending → Type 0
+HasEndedBy p alone may most kept Complete = AreAllBy p alone may kept
+HasEndedBy p alone may most kept (Stuck turns) = LeadsTo p may EndsStuck turns.items
+HasEndedBy p alone may most kept (Failed turns) = LeadsTo p may EndsFailed turns.items
+HasEndedBy p alone may most kept (Broken turns) = LeadsToBroken p may turns.items
+HasEndedBy p alone may most kept (Bounded bound) = IsMet p most kept bound
 
 -- what an ending says of the states that are kept then
 abbrev pub HasEnded : Program → May → ℕ → List Kept → Ending → Type 0

@@ -1,9 +1,9 @@
 -- The states that a search keeps.
-use Rattle.std.specs.Prelude.{ℕ, ◌≡◌, ◌<◌, ◌≤◌, ◌⊎◌, All, Contains, List, MatchBool, Some, length, map, ⊤, ◌^◌, ◌+◌, true, false}
+use Rattle.std.specs.Prelude.{ℕ, ◌≡◌, ◌<◌, ◌≤◌, ◌⊎◌, All, Bool, Contains, List, MatchBool, Some, length, map, ⊤, ◌^◌, ◌+◌, true, false}
 use Rattle.std.specs.List.{slice_get}
 use Rattle.isa.specs.Programs.{Program}
 use Rattle.machine.specs.Runs.{NextIsBroken}
-use Rattle.proof_image_search.specs.Searching.{HasFailed, IsExpanded, IsStuck, Kept, May}
+use Rattle.proof_image_search.specs.Searching.{HasFailed, IsApart, IsExpanded, IsStuck, Kept, May}
 use Rattle.image_states.specs.Packed.{IsGrown, IsPrefix, IsSameKey, IsWithin, kept_of}
 use Rattle.image_states.specs.declared.packed.Packed.{Packed as PackedOf}
 use Rattle.image_states.specs.declared.parts.Parts.{Parts as PartsOf}
@@ -71,11 +71,12 @@ abbrev pub IsTold : Program → ℕ → ℕ → Kept → Type 0
 IsTold p passed passed' r = ((passed' ≡ passed) × IsPlain p r) ⊎ ((0 < passed') × IsEnd p r)
 
 -- the state that was kept at a place is expanded by what is kept now, and told
-pub record IsLookedAt (p : Program) (may : May) (kept kept' : List Kept) (place passed passed' : ℕ) : Type 0 where
-  pub state : Kept
-  pub here : slice_get kept place ≡ Some state
-  pub expanded : IsExpanded p may kept' state
-  pub told : IsTold p passed passed' state
+pub record IsLookedAt (p : Program) (alone : Bool) (may : May) (kept kept' : List Kept) (place passed passed' : ℕ) : Type 0
+  where
+    pub state : Kept
+    pub here : slice_get kept place ≡ Some state
+    pub expanded : IsExpanded p alone may kept' state
+    pub told : IsTold p passed passed' state
 
 -- the state that is kept at a place is told
 abbrev pub IsToldAt : Program → List Kept → ℕ → ℕ → ℕ → Type 0
@@ -83,8 +84,12 @@ IsToldAt p kept place passed passed' =
     (r : Kept) × (slice_get kept place ≡ Some r) × IsTold p passed passed' r
 
 -- the state that was kept at a place is expanded by what is kept now
-abbrev pub IsExpandedAt : Program → May → List Kept → List Kept → ℕ → Type 0
-IsExpandedAt p may kept kept' place = (r : Kept) × (slice_get kept place ≡ Some r) × IsExpanded p may kept' r
+abbrev pub IsExpandedAt : Program → (alone : Bool) → May → List Kept → List Kept → ℕ → Type 0
+IsExpandedAt p alone may kept kept' place = (r : Kept) × (slice_get kept place ≡ Some r) × IsExpanded p alone may kept' r
+
+-- where exits are followed alone, no thread's next step sees it in this state
+abbrev pub IsApartIn : Program → (alone : Bool) → Kept → Type 0
+IsApartIn p alone r = alone ≡ true → IsApart p r.state
 
 -- which ends a state is, as the code tells
 pub record AreEnds (p : Program) (r : Kept) (e : EndsOf) : Type 0 where

@@ -15,7 +15,7 @@ use Rattle.image_states.specs.Packed.{asleep_at, thread_at, words_in, IsGrown, I
 use Rattle.image_states.specs.declared.packed.Packed.{Packed as PackedOf}
 use Rattle.image_states.specs.declared.parts.Parts.{Parts as PartsOf}
 use Rattle.image_search.specs.declared.kept.KeptStates.{KeptStates as KeptOf}
-use Rattle.image_search.specs.Kept.{states_of}
+use Rattle.image_search.specs.Kept.{IsApartIn, states_of}
 
 -- the same states, of more parts
 pub record IsStill (kept kept' : KeptOf) : Type 0 where
@@ -43,7 +43,7 @@ HoldsAt p kept place Holds = (r : Kept) → slice_get (states_of p kept) place �
 -- wherever each flagged state is one of some, each step of thread u's own from this state leads to what those cover
 abbrev pub OwnLeads : Program → KeptOf → List Bool → ℕ → Kept → Type 0
 OwnLeads p kept flags u r = (lives : List Kept) → AreFlagged p kept flags lives → (woken : List ℕ) (s : State)
-    → IsWholeStep p r.state u woken s → (m : ℕ) × IsCovered p lives m s r.killed
+    → IsWholeStep p r.state u woken s → (m : ℕ) × IsCovered p kept.parts.alone lives m s r.killed
 
 -- thread u can step
 pub record CanGo (p : Program) (u : ℕ) (r : Kept) : Type 0 where
@@ -52,21 +52,23 @@ pub record CanGo (p : Program) (u : ℕ) (r : Kept) : Type 0 where
 
 -- wherever each flagged state is one of some, a step leads on to what those cover
 abbrev pub LeadsAt : Program → KeptOf → List Bool → Kept → Type 0
-LeadsAt p kept flags r = (lives : List Kept) → AreFlagged p kept flags lives → LeadsOn p lives r
+LeadsAt p kept flags r = (lives : List Kept) → AreFlagged p kept flags lives → LeadsOn p kept.parts.alone lives r
 
 -- or thread t is awake
 abbrev pub LivesAt : Program → ℕ → KeptOf → List Bool → Kept → Type 0
-LivesAt p t kept flags r = (lives : List Kept) → AreFlagged p kept flags lives → IsLive p t lives r
+LivesAt p t kept flags r =
+    (lives : List Kept) → AreFlagged p kept flags lives → IsLive p kept.parts.alone t lives r
 
 -- the flagged states are live for thread t
 pub record AreKnown (p : Program) (t : ℕ) (kept : KeptOf) (flags : List Bool) : Type 0 where
   pub lives : List Kept
-  pub live : AreLive p t lives
+  pub live : AreLive p kept.parts.alone t lives
   pub flagged : AreFlagged p kept flags lives
 
 -- whoever sleeps as thread t in a kept state is wakened
 abbrev pub AllWakened : Program → ℕ → KeptOf → Type 0
-AllWakened p t kept = (r : Kept) → Contains (states_of p kept) r → (a : ℕ) → r.state.asleep t ≡ Some a → IsWakened p t r
+AllWakened p t kept =
+    (r : Kept) → Contains (states_of p kept) r → (a : ℕ) → r.state.asleep t ≡ Some a → IsWakened p kept.parts.alone t r
 
 -- no more threads were made in a state than can be
 abbrev pub IsMade : Program → PackedOf → Type 0
@@ -85,6 +87,7 @@ flagged (false ∷ flags) (r ∷ rs) = flagged flags rs
 pub record IsClosed (p : Program) (t : ℕ) (kept : KeptOf) (flags : List Bool) (r : Kept) : Type 0 where
   pub sleeps : (a : ℕ) × (r.state.asleep t ≡ Some a)
   pub leads : (u : ℕ) → OwnLeads p kept flags u r
+  pub apart : IsApartIn p kept.parts.alone r
 
 -- thread t sleeps in this state
 abbrev pub SleepsAt : ℕ → Kept → Type 0

@@ -1,5 +1,5 @@
 -- What a search finds of threads that sleep for good.
-use Rattle.std.specs.Prelude.{ℕ, ◌≡◌, ◌<◌, Contains, List, Some, length, true, ⊤}
+use Rattle.std.specs.Prelude.{ℕ, ◌≡◌, ◌<◌, Contains, List, Some, length, true, false}
 use Rattle.isa.specs.Programs.{Program}
 use Rattle.machine.specs.PieceStates.{PieceState}
 use Rattle.machine.specs.PieceSteps.{PieceRun}
@@ -30,7 +30,7 @@ TellsOfSleepers p may Unsought = may.strays ≡ true
 TellsOfSleepers p may Never = NeverSleeps p may
 TellsOfSleepers p may (ForGood turns threads) =
     (0 < length threads.items) × LeadsTo p may (AllSleepForGood p threads.items) turns.items
-TellsOfSleepers p may (Unknown why) = ⊤
+TellsOfSleepers p may (Unknown why) = may.strays ≡ false
 
 -- what is told of them behind a search that ended so
 abbrev pub HasSlept : Program → May → Ending → Sleeping → Type 0
@@ -38,4 +38,4 @@ HasSlept p may ending Unsought = ending ≡ Complete → may.strays ≡ true
 HasSlept p may ending Never = NeverSleeps p may
 HasSlept p may ending (ForGood turns threads) =
     (0 < length threads.items) × LeadsTo p may (AllSleepForGood p threads.items) turns.items
-HasSlept p may ending (Unknown why) = ending ≡ Complete
+HasSlept p may ending (Unknown why) = (ending ≡ Complete) × (may.strays ≡ false)

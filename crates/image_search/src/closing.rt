@@ -5,6 +5,7 @@ ghost use Rattle.proof_image_liveness.specs.Sleeping.{AreAsleep};
 ghost use Rattle.image_search.specs.Kept.{IsSound, states_of};
 ghost use Rattle.image_search.specs.Living.{HoldsAt, IsClosed, IsStill, OwnLeads, SleepsAt, flagged};
 
+use crate::apart::is_apart_at;
 use crate::flagged::{is_flagged, own_flagged};
 use crate::kept::KeptStates;
 use image_states::Scratch;
@@ -75,6 +76,9 @@ fn is_closed_at(
     if !all_flagged(alloc, image, kept, flags, place, count, scratch)? {
         return Ok(false);
     }
+    if !is_apart_at(image, kept, place) {
+        return Ok(false);
+    }
     let is = is_asleep(kept, place, k);
     Ok(is)
 }
@@ -115,7 +119,8 @@ pub(crate) fn is_closed(
     ensures sound { OnOk result (IsSound kept.new) }
     ensures still { OnOk result (IsStill kept.old kept.new) }
     ensures closed { IfOk result (λ is. is ≡ true
-        → AreAsleep image.now (suc k) (flagged flags.now (states_of image.now kept.new))) }
+        → AreAsleep image.now kept.new.parts.alone (suc k)
+        (flagged flags.now (states_of image.now kept.new))) }
 {
     if flags.len() > kept.most as usize {
         return Ok(false);

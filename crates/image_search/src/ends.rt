@@ -1,8 +1,8 @@
-ghost use Rattle.std.specs.Prelude.{◌≡◌, ◌⊎◌, IfOk, IfSome, List, MatchBool, false, true, ℕ};
+ghost use Rattle.std.specs.Prelude.{◌≡◌, ◌⊎◌, Bool, IfOk, IfSome, List, MatchBool, false, true, ℕ};
 ghost use Rattle.proof_image_search.specs.Searching.{Kept as KeptOf};
 ghost use Rattle.image_states.specs.Nexts.{may_of};
 ghost use Rattle.image_states.specs.Packed.{kept_of};
-ghost use Rattle.image_search.specs.Ends.{HasEnded};
+ghost use Rattle.image_search.specs.Ends.{HasEndedBy};
 ghost use Rattle.image_search.specs.Found.{EndsFailed, EndsStuck, LeadsTo, LeadsToBroken};
 ghost use Rattle.image_search.specs.Kept.{AreEnds};
 
@@ -60,7 +60,14 @@ fn stuck_at(
     ensures { IfOk result
         (λ o. IfSome o (λ v. LeadsTo image.now (may_of outside) EndsStuck v.items)) }
 {
-    let turns = schedule_to(alloc, image, kept.ways.as_slice(), place, false)?;
+    let turns = schedule_to(
+        alloc,
+        image,
+        kept.ways.as_slice(),
+        place,
+        false,
+        kept.parts.follows_exits(),
+    )?;
     let listed = turns.as_slice();
     if is_stuck_run(alloc, image, listed, outside)? {
         return Ok(Some(turns));
@@ -79,7 +86,14 @@ fn failed_at(
     ensures { IfOk result
         (λ o. IfSome o (λ v. LeadsTo image.now (may_of outside) EndsFailed v.items)) }
 {
-    let turns = schedule_to(alloc, image, kept.ways.as_slice(), place, false)?;
+    let turns = schedule_to(
+        alloc,
+        image,
+        kept.ways.as_slice(),
+        place,
+        false,
+        kept.parts.follows_exits(),
+    )?;
     let listed = turns.as_slice();
     if is_failed_run(alloc, image, listed, outside)? {
         return Ok(Some(turns));
@@ -97,7 +111,14 @@ fn broken_at(
 ) -> Result<Option<Vec<Turn>>, AllocError>
     ensures { IfOk result (λ o. IfSome o (λ v. LeadsToBroken image.now (may_of outside) v.items)) }
 {
-    let turns = schedule_to(alloc, image, kept.ways.as_slice(), place, true)?;
+    let turns = schedule_to(
+        alloc,
+        image,
+        kept.ways.as_slice(),
+        place,
+        true,
+        kept.parts.follows_exits(),
+    )?;
     let listed = turns.as_slice();
     if is_broken_run(alloc, image, listed, outside)? {
         return Ok(Some(turns));
@@ -114,8 +135,9 @@ pub(crate) fn shown(
     outside: Outside,
     ends: Ends,
 ) -> Result<Option<Ending>, AllocError>
-    ensures { IfOk result (λ o. IfSome o (λ e. (most : ℕ) (states : List KeptOf)
-        → HasEnded image.now (may_of outside) most states e)) }
+    ensures { IfOk result (λ o. IfSome o
+        (λ e. (alone : Bool) (most : ℕ) (states : List KeptOf)
+        → HasEndedBy image.now alone (may_of outside) most states e)) }
 {
     if ends.stuck {
         if let Some(turns) = stuck_at(alloc, image, kept, place, outside)? {

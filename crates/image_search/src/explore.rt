@@ -1,6 +1,8 @@
-ghost use Rattle.std.specs.Prelude.{◌≡◌, ℕ, IfOk, MatchBool, MatchOption, OnOk};
+ghost use Rattle.std.specs.Prelude.{◌≡◌, ℕ, IfOk, IfSome, MatchBool, MatchOption, OnOk};
+ghost use Rattle.isa.specs.Programs.{Program};
+ghost use Rattle.proof_image_search.specs.Searching.{May as MayOf};
 ghost use Rattle.machine.specs.States.{opening_state};
-ghost use Rattle.proof_image_search.specs.Searching.{IsComplete, IsCovered};
+ghost use Rattle.proof_image_search.specs.Searching.{IsCompleteBy, IsCovered};
 ghost use Rattle.image_states.specs.Nexts.{may_of};
 ghost use Rattle.image_search.specs.Ends.{HasSearched};
 ghost use Rattle.image_search.specs.Sleeping.{HasSlept};
@@ -14,8 +16,9 @@ use crate::progress::Progress;
 use crate::search::search;
 use crate::sleeping::sleeping_of;
 use image_states::{Doing, Outside, Scratch};
-use isa::Image;
+use isa::{Image, Instr};
 use std::alloc::{AllocError, Global};
+use words::ProcessWord;
 
 // How the first state was come to.
 const BEGIN: Way = Way {
@@ -35,7 +38,8 @@ fn keep_opening(
     ensures sound { OnOk result (IsSound kept.new) }
     ensures most { OnOk result (kept.new.most ≡ kept.old.most) }
     ensures opens { IfOk result (λ o. MatchOption o
-        ((m : ℕ) × IsCovered image.now (states_of image.now kept.new) m (opening_state image.now) 0)
+        ((m : ℕ) × IsCovered image.now kept.new.parts.alone (states_of image.now kept.new) m
+        (opening_state image.now) 0)
         (IsMetBy kept.new)) }
 {
     let Some(packed) = kept.parts.opening(alloc, image, scratch)? else {
@@ -63,7 +67,8 @@ fn sleeping_behind(
 ) -> Result<Sleeping, AllocError>
     requires sound { IsSound kept.old }
     requires complete { ending.now ≡ Complete
-        → IsComplete image.now (may_of outside) (states_of image.now kept.old) }
+        → IsCompleteBy image.now kept.old.parts.alone (may_of outside)
+        (states_of image.now kept.old) }
     ensures { IfOk result (HasSlept image.now (may_of outside) ending.now) }
 {
     if !is_complete(ending) {
@@ -72,7 +77,7 @@ fn sleeping_behind(
     sleeping_of(alloc, image, kept, outside, scratch)
 }
 
-// What is found, where nothing is kept yet.
+// What is found, where nothing is kept yet; none where exits are followed alone, and a thread's next step sees it.
 fn explore_from<P: Progress>(
     alloc: Global,
     image: &Image,
@@ -80,42 +85,93 @@ fn explore_from<P: Progress>(
     outside: Outside,
     scratch: &mut Scratch,
     progress: &mut P,
-) -> Result<ImageExploration, AllocError>
+) -> Result<Option<ImageExploration>, AllocError>
     requires sound { IsSound kept.old }
-    ensures searched { IfOk result (HasSearched image.now (may_of outside) kept.old.most) }
-    ensures sleeping { IfOk result (λ e. HasSlept image.now (may_of outside) e.ending e.sleeping) }
+    ensures searched { IfOk result
+        (λ o. IfSome o (HasSearched image.now (may_of outside) kept.old.most)) }
+    ensures sleeping { IfOk result
+        (λ o. IfSome o (λ e. HasSlept image.now (may_of outside) e.ending e.sleeping)) }
 {
     if let Some(bound) = keep_opening(alloc, image, kept, scratch)? {
-        return Ok(ImageExploration {
+        return Ok(Some(ImageExploration {
             states: kept.states.len(),
             ending: Ending::Bounded(bound),
             sleeping: Sleeping::Unsought,
-        });
+        }));
     }
-    let ending = search(alloc, image, kept, outside, scratch, progress)?;
+    let Some(ending) = search(alloc, image, kept, outside, scratch, progress)? else {
+        return Ok(None);
+    };
     let states = kept.states.len();
     let sleeping = sleeping_behind(alloc, image, kept, outside, &ending, scratch)?;
-    Ok(ImageExploration {
+    Ok(Some(ImageExploration {
         states,
         ending,
         sleeping,
-    })
+    }))
 }
 
-// The same, with room for what is tried.
+// The same, where so many states may be kept.
 fn explore_with<P: Progress>(
     alloc: Global,
     image: &Image,
-    kept: &mut KeptStates,
+    most_states: u32,
+    alone: bool,
+    outside: Outside,
+    progress: &mut P,
+) -> Result<Option<ImageExploration>, AllocError>
+    ensures searched { IfOk result
+        (λ o. IfSome o (HasSearched image.now (may_of outside) most_states)) }
+    ensures sleeping { IfOk result
+        (λ o. IfSome o (λ e. HasSlept image.now (may_of outside) e.ending e.sleeping)) }
+{
+    let mut kept = KeptStates::new(alloc, most_states, alone);
+    let mut scratch = Scratch::new();
+    explore_from(alloc, image, &mut kept, outside, &mut scratch, progress)
+}
+
+// Whether the code has the address of no thread's id. Then it is likely that no step sees an exit that is followed alone.
+fn names_no_id(image: &Image) -> bool {
+    for instr in image.code() {
+        if matches!(*instr, Instr::ProcessAddress(ProcessWord::Id)) {
+            return false;
+        }
+    }
+    true
+}
+
+// Nothing is kept.
+fn nothing() -> ImageExploration
+    ensures searched { (p : Program) (may : MayOf) (most : ℕ) → HasSearched p may most result }
+    ensures sleeping { (p : Program) (may : MayOf) → HasSlept p may result.ending result.sleeping }
+    ensures open { result.ending ≡ Complete → ⊥ }
+{
+    ImageExploration {
+        states: 0,
+        ending: Ending::Bounded(Bound::Nexts(image_states::Bound::Foreign)),
+        sleeping: Sleeping::Unsought,
+    }
+}
+
+// What is found; first where exits are followed alone, and where a step sees it, where they aren't.
+fn explore_both<P: Progress>(
+    alloc: Global,
+    image: &Image,
+    most_states: u32,
     outside: Outside,
     progress: &mut P,
 ) -> Result<ImageExploration, AllocError>
-    requires sound { IsSound kept.old }
-    ensures searched { IfOk result (HasSearched image.now (may_of outside) kept.old.most) }
+    ensures searched { IfOk result (HasSearched image.now (may_of outside) most_states) }
     ensures sleeping { IfOk result (λ e. HasSlept image.now (may_of outside) e.ending e.sleeping) }
 {
-    let mut scratch = Scratch::new();
-    explore_from(alloc, image, kept, outside, &mut scratch, progress)
+    let alone = names_no_id(image);
+    if let Some(found) = explore_with(alloc, image, most_states, alone, outside, progress)? {
+        return Ok(found);
+    }
+    match explore_with(alloc, image, most_states, false, outside, progress)? {
+        None => Ok(nothing()),
+        Some(found) => Ok(found),
+    }
 }
 
 /// Searches all schedules of an image, breadth first, keeping at most so many states: for one by
@@ -124,7 +180,9 @@ fn explore_with<P: Progress>(
 /// strays also though nobody called for it, and with kills so many threads may be killed in a run,
 /// wherever they stand. Threads exit by the rule of the image's version. A futex call is one step, and
 /// local steps are taken at once; what is answered holds of runs in pieces, over any number of
-/// buckets.
+/// buckets. A thread that is behind its robust list in its exit, without a pending entry, is taken to
+/// its end at once where nobody sleeps on its id; where another thread's step would use the id or the
+/// pending entry of one that has ended, the search begins anew and follows exits step by step.
 ///
 /// The first end that is found, to which a schedule leads that `runner::follow` follows, ends the
 /// search, and the schedule is answered. Where all states were kept and none is such an end, there is
@@ -151,6 +209,5 @@ pub fn explore_image<P: Progress>(
         → NeverBreaks image.now (may_of outside)) }
     ensures sleeping { IfOk result (λ e. HasSlept image.now (may_of outside) e.ending e.sleeping) }
 {
-    let mut kept = KeptStates::new(alloc, most_states);
-    explore_with(alloc, image, &mut kept, outside, progress)
+    explore_both(alloc, image, most_states, outside, progress)
 }

@@ -71,14 +71,15 @@ fn is_kept(states: &[Packed], places: &DigestMap, digest: u64, packed: &Packed) 
 impl KeptStates {
     ghost use Rattle.image_search.specs.Kept.{IsFull, IsMetBy, IsMoreOf, IsSound};
 
-    /// No states yet, and how many may be kept.
-    pub fn new(alloc: Global, most: u32) -> KeptStates
+    /// No states yet, how many may be kept, and whether exits are followed alone.
+    pub fn new(alloc: Global, most: u32, alone: bool) -> KeptStates
         ensures sound { IsSound result }
         ensures most { result.most ≡ most }
+        ensures alone { result.parts.alone ≡ alone }
     {
         KeptStates {
             states: Vec::new(alloc),
-            parts: Parts::new(alloc),
+            parts: Parts::new(alloc, alone),
             ways: Vec::new(alloc),
             places: DigestMap::new(alloc),
             most,

@@ -2,6 +2,7 @@
 //! step that may not be, and whether a thread sleeps for good.
 #![tactic(auto)]
 
+mod apart;
 mod closing;
 mod ending;
 mod ends;

@@ -5,6 +5,7 @@ ghost use Rattle.proof_image_liveness.specs.Sleeping.{AreWakened};
 ghost use Rattle.image_search.specs.Kept.{IsSound, states_of};
 ghost use Rattle.image_search.specs.Living.{AllWakened, AreKnown, CanGo, HoldsAt, IsMade, IsStill, LeadsAt, LivesAt};
 
+use crate::apart::is_apart_at;
 use crate::flagged::{is_flagged, own_flagged};
 use crate::graph::Graph;
 use crate::kept::KeptStates;
@@ -55,6 +56,9 @@ fn leads_on(
         → HoldsAt image.now kept.new place (LeadsAt image.now kept.new flags.now)) }
 {
     if !own_flagged(alloc, image, kept, flags, place, k, scratch)? {
+        return Ok(false);
+    }
+    if !is_apart_at(image, kept, place) {
         return Ok(false);
     }
     let can = can_go(image, kept, place, k);
@@ -353,7 +357,8 @@ pub(crate) fn all_wakened(
     ensures sound { OnOk result (IsSound kept.new) }
     ensures still { OnOk result (IsStill kept.old kept.new) }
     ensures wakened { IfOk result (λ all. all ≡ true
-        → (r : KeptOf) → Contains (states_of image.now kept.new) r → AreWakened image.now r) }
+        → (r : KeptOf) → Contains (states_of image.now kept.new) r
+        → AreWakened image.now kept.new.parts.alone r) }
 {
     let count = most_threads(kept);
     if !are_made(image, kept.states.as_slice()) || !are_within(kept.states.as_slice(), count) {

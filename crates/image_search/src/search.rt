@@ -1,10 +1,11 @@
-ghost use Rattle.std.specs.Prelude.{◌≡◌, ◌<◌, IfOk, IfSome, List, MatchOption, None, OnOk, ℕ};
+ghost use Rattle.std.specs.Prelude.{◌≡◌, ◌<◌, Bool, IfOk, IfSome, List, MatchOption, None, OnOk, ℕ};
 ghost use Rattle.machine.specs.States.{opening_state};
 ghost use Rattle.proof_image_search.specs.Searching.{IsCovered, Kept as KeptOf};
 ghost use Rattle.image_states.specs.Nexts.{may_of};
-ghost use Rattle.image_search.specs.Ends.{EndsSo, HasEnded};
+ghost use Rattle.image_search.specs.Ends.{EndsSo, HasEndedBy};
 ghost use Rattle.image_search.specs.Kept.{IsExpandedAt, IsLookedAt, IsMetBy, IsMore, IsSound, IsToldAt, states_of};
 
+use crate::apart::is_apart_at;
 use crate::ending::{Bound, Ending};
 use crate::ends::{ends_of, shown};
 use crate::kept::KeptStates;
@@ -34,8 +35,9 @@ fn look_at_ends(
     outside: Outside,
     passed: &mut u32,
 ) -> Result<Option<Ending>, AllocError>
-    ensures ended { IfOk result (λ o. IfSome o (λ e. (most : ℕ) (states : List KeptOf)
-        → HasEnded image.now (may_of outside) most states e)) }
+    ensures ended { IfOk result (λ o. IfSome o
+        (λ e. (alone : Bool) (most : ℕ) (states : List KeptOf)
+        → HasEndedBy image.now alone (may_of outside) most states e)) }
     ensures told { IfOk result (λ o. o ≡ None
         → IsToldAt image.now (states_of image.now kept.now) place passed.old passed.new) }
 {
@@ -68,7 +70,7 @@ fn expand(
     ensures sound { OnOk result (IsSound kept.new) }
     ensures more { OnOk result (IsMore kept.old kept.new) }
     ensures expanded { IfOk result (λ o. MatchOption o
-        (IsExpandedAt image.now (may_of outside) (states_of image.now kept.old)
+        (IsExpandedAt image.now kept.old.parts.alone (may_of outside) (states_of image.now kept.old)
         (states_of image.now kept.new) place)
         (IsMetBy kept.new)) }
 {
@@ -104,10 +106,11 @@ fn look_at(
     ensures sound { OnOk result (IsSound kept.new) }
     ensures more { OnOk result (IsMore kept.old kept.new) }
     ensures looked { IfOk result (λ o. MatchOption o
-        (IsLookedAt image.now (may_of outside) (states_of image.now kept.old)
+        (IsLookedAt image.now kept.old.parts.alone (may_of outside) (states_of image.now kept.old)
         (states_of image.now kept.new) place
         passed.old passed.new)
-        (HasEnded image.now (may_of outside) kept.new.most (states_of image.now kept.new))) }
+        (HasEndedBy image.now kept.old.parts.alone (may_of outside) kept.new.most
+        (states_of image.now kept.new))) }
 {
     if let Some(ending) = look_at_ends(alloc, image, kept, place, outside, passed)? {
         return Ok(Some(ending));
@@ -129,7 +132,7 @@ fn ending_of(passed: u32) -> Ending
 }
 
 /// Keeps all states that a schedule leads to, breadth first, as far as there is room and no end is found, and tells how far
-/// it has come.
+/// it has come. Answers none where exits are followed alone, and a thread's next step sees it.
 pub(crate) fn search<P: Progress>(
     alloc: Global,
     image: &Image,
@@ -137,27 +140,32 @@ pub(crate) fn search<P: Progress>(
     outside: Outside,
     scratch: &mut Scratch,
     progress: &mut P,
-) -> Result<Ending, AllocError>
+) -> Result<Option<Ending>, AllocError>
     requires sound { IsSound kept.old }
-    requires opens { (m : ℕ)
-        × IsCovered image.now (states_of image.now kept.old) m (opening_state image.now) 0 }
+    requires opens { (m : ℕ) × IsCovered image.now kept.old.parts.alone
+        (states_of image.now kept.old) m (opening_state image.now) 0 }
     ensures sound { OnOk result (IsSound kept.new) }
     ensures most { OnOk result (kept.new.most ≡ kept.old.most) }
-    ensures ended { IfOk result
-        (HasEnded image.now (may_of outside) kept.old.most (states_of image.now kept.new)) }
+    ensures ended { IfOk result (λ o. IfSome o
+        (HasEndedBy image.now kept.new.parts.alone (may_of outside) kept.old.most
+        (states_of image.now kept.new))) }
 {
     let mut passed = 0;
     for place in 0..kept.most {
         if place as usize >= kept.states.len() {
-            return Ok(ending_of(passed));
+            return Ok(Some(ending_of(passed)));
         }
-        if let Some(ending) = look_at(alloc, image, kept, place, outside, scratch, &mut passed)? {
+        if !is_apart_at(image, kept, place) {
+            return Ok(None);
+        }
+        let ending = look_at(alloc, image, kept, place, outside, scratch, &mut passed)?;
+        if ending.is_some() {
             return Ok(ending);
         }
         progress.looked_at(kept.states.len(), place as usize + 1);
     }
     if kept.states.len() <= kept.most as usize {
-        return Ok(ending_of(passed));
+        return Ok(Some(ending_of(passed)));
     }
-    Ok(Ending::Bounded(Bound::States))
+    Ok(Some(Ending::Bounded(Bound::States)))
 }

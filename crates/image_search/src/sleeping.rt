@@ -1,6 +1,6 @@
-ghost use Rattle.std.specs.Prelude.{◌≡◌, ◌<◌, Contains, IfOk, IfSome, OnOk, length, suc, true, ℕ};
+ghost use Rattle.std.specs.Prelude.{◌≡◌, ◌<◌, Contains, false, IfOk, IfSome, OnOk, length, suc, true, ℕ};
 ghost use Rattle.piece_machine.specs.PieceViews.{pieces};
-ghost use Rattle.proof_image_search.specs.Searching.{IsComplete};
+ghost use Rattle.proof_image_search.specs.Searching.{IsCompleteBy};
 ghost use Rattle.proof_image_liveness.specs.Sleeping.{SleepsForGood};
 ghost use Rattle.image_states.specs.Nexts.{may_of};
 ghost use Rattle.image_search.specs.Found.{LeadsTo};
@@ -231,7 +231,14 @@ fn for_good_at(
     ensures still { OnOk result (IsStill kept.old kept.new) }
     ensures told { IfOk result (λ o. IfSome o (TellsOfSleepers image.now (may_of outside))) }
 {
-    let turns = schedule_to(alloc, image, kept.ways.as_slice(), place, false)?;
+    let turns = schedule_to(
+        alloc,
+        image,
+        kept.ways.as_slice(),
+        place,
+        false,
+        kept.parts.follows_exits(),
+    )?;
     let threads = sleepers_by(
         alloc,
         image,
@@ -259,6 +266,7 @@ fn for_good(
     scratch: &mut Scratch,
 ) -> Result<Sleeping, AllocError>
     requires sound { IsSound kept.old }
+    requires own { outside.strays ≡ false }
     ensures told { IfOk result (TellsOfSleepers image.now (may_of outside)) }
 {
     for place in places {
@@ -279,7 +287,9 @@ fn told_by(
     scratch: &mut Scratch,
 ) -> Result<Sleeping, AllocError>
     requires sound { IsSound kept.old }
-    requires complete { IsComplete image.now (may_of outside) (states_of image.now kept.old) }
+    requires complete { IsCompleteBy image.now kept.old.parts.alone (may_of outside)
+        (states_of image.now kept.old) }
+    requires own { outside.strays ≡ false }
     ensures told { IfOk result (TellsOfSleepers image.now (may_of outside)) }
 {
     let places = lasting(alloc, kept, graph, MOST_TRIES)?;
@@ -310,7 +320,8 @@ pub(crate) fn sleeping_of(
     scratch: &mut Scratch,
 ) -> Result<Sleeping, AllocError>
     requires sound { IsSound kept.old }
-    requires complete { IsComplete image.now (may_of outside) (states_of image.now kept.old) }
+    requires complete { IsCompleteBy image.now kept.old.parts.alone (may_of outside)
+        (states_of image.now kept.old) }
     ensures told { IfOk result (TellsOfSleepers image.now (may_of outside)) }
 {
     if outside.strays {

@@ -6,9 +6,10 @@ use isa::Image;
 use locals::NextStep;
 use machine::{Event, EventName, Machine};
 use piece_machine::PieceMachine;
+use robustexit::ExitPhase;
 use runner::Turn;
 use std::alloc::{AllocError, Global};
-use words::BUCKETS;
+use words::{Addr, BUCKETS, MOST_BLOCKS, ProcessWord, block};
 
 // How many steps of a thread are taken for one at most: those local ones that a kept state is ahead, one more, and all pieces
 // of a futex call.
@@ -83,12 +84,66 @@ fn take_own(machine: &mut PieceMachine, turns: &mut Vec<Turn>, t: u32) -> Result
     Ok(())
 }
 
+// How many steps an exit has behind the robust list.
+const LAST_STEPS: u32 = 3;
+
+// Whether nobody sleeps on an address.
+fn has_nobody_on(machine: &Machine, a: Addr) -> bool {
+    for before in 0..machine.threads() {
+        if let Some(place) = machine.asleep(before + 1) {
+            if place.0 == a.0 {
+                return false;
+            }
+        }
+    }
+    true
+}
+
+// Whether the rest of a thread's exit was taken at once where it stands so: it has no pending entry, and nobody sleeps on its
+// id.
+fn leaves_alone(machine: &PieceMachine, t: u32) -> bool {
+    let machine = machine.machine();
+    if t > MOST_BLOCKS || !is_made(machine, t) {
+        return false;
+    }
+    if !matches!(machine.next_step(t), NextStep::Exit(ExitPhase::Pending)) {
+        return false;
+    }
+    let pending = block(t, ProcessWord::Pending);
+    if pending.0 as usize >= machine.memory_len() || machine.word(pending) != 0 {
+        return false;
+    }
+    has_nobody_on(machine, block(t, ProcessWord::Id))
+}
+
+// Takes a thread's own step, and with exits followed alone the rest of its exit, should it come there.
+fn take_whole(
+    machine: &mut PieceMachine,
+    turns: &mut Vec<Turn>,
+    t: u32,
+    alone: bool,
+) -> Result<(), AllocError> {
+    take_own(machine, turns, t)?;
+    if !alone || !leaves_alone(machine, t) {
+        return Ok(());
+    }
+    for _ in 0..LAST_STEPS {
+        take_step(machine, turns, t)?;
+    }
+    Ok(())
+}
+
 // Takes the steps of one.
-fn take_way(machine: &mut PieceMachine, turns: &mut Vec<Turn>, way: Way) -> Result<(), AllocError> {
+fn take_way(
+    machine: &mut PieceMachine,
+    turns: &mut Vec<Turn>,
+    way: Way,
+    alone: bool,
+) -> Result<(), AllocError> {
     let mut event = Event::new(EventName::Local, 0);
     let t = way.thread;
     match way.doing {
-        Doing::Own => take_own(machine, turns, t),
+        Doing::Own => take_whole(machine, turns, t, alone),
         Doing::Stray => {
             let _ = machine.stray(t, &mut event);
             turns.push(Turn::Stray(t))?;
@@ -107,9 +162,10 @@ fn take_ways(
     machine: &mut PieceMachine,
     turns: &mut Vec<Turn>,
     steps: &[Way],
+    alone: bool,
 ) -> Result<(), AllocError> {
     for way in steps {
-        take_way(machine, turns, *way)?;
+        take_way(machine, turns, *way, alone)?;
     }
     Ok(())
 }
@@ -167,8 +223,9 @@ fn spell(
     turns: &mut Vec<Turn>,
     steps: &[Way],
     broken: bool,
+    alone: bool,
 ) -> Result<(), AllocError> {
-    take_ways(machine, turns, steps)?;
+    take_ways(machine, turns, steps, alone)?;
     if broken {
         return add_broken(machine, turns);
     }
@@ -181,24 +238,26 @@ fn spell_ways(
     image: &Image,
     steps: &[Way],
     broken: bool,
+    alone: bool,
     turns: &mut Vec<Turn>,
 ) -> Result<(), AllocError> {
     let mut machine = PieceMachine::new(alloc, image, BUCKETS)?;
-    spell(&mut machine, turns, steps, broken)
+    spell(&mut machine, turns, steps, broken, alone)
 }
 
 /// A schedule that leads to the kept state at a place: for each step the local steps that come next of its thread, and its
-/// own step, with all pieces of a futex call. With a broken end it goes on to a step that may not be. Nothing is promised of
-/// it: where a step took another sleeper than the front of its list, the machine may go elsewhere.
+/// own step, with all pieces of a futex call, and where exits are followed alone the rest of its exit. With a broken end it
+/// goes on to a step that may not be. Nothing is promised of it: where a step took another sleeper than the front of its list, the machine may go elsewhere.
 pub(crate) fn schedule_to(
     alloc: Global,
     image: &Image,
     ways: &[Way],
     place: u32,
     broken: bool,
+    alone: bool,
 ) -> Result<Vec<Turn>, AllocError> {
     let steps = ways_to(alloc, ways, place)?;
     let mut turns = Vec::new(alloc);
-    spell_ways(alloc, image, steps.as_slice(), broken, &mut turns)?;
+    spell_ways(alloc, image, steps.as_slice(), broken, alone, &mut turns)?;
     Ok(turns)
 }

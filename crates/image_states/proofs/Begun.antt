@@ -80,7 +80,7 @@ module _ (p : Program) (parts : PartsOf) (x : PackedOf) (is : IsOpening p parts 
 
   pub opening_covers : Covers p parts x (opening_state p) 0
   opening_covers = subst (Covers p parts x (opening_state p)) is.alone.killed (λ kept has.
-      run_covered p kept x.killed nobody 1 is.count (opening_thread p.start []) is.there is.runs.goes is.runs.lives
+      run_covered p parts.alone kept x.killed nobody 1 is.count (opening_thread p.start []) is.there is.runs.goes is.runs.lives
       (zero, leaf p parts kept x (with_thread nobody 1 is.there) is_unpacked has))
 
   pub opening_within : IsWithin parts x

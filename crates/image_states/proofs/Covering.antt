@@ -55,21 +55,22 @@ runs_before p t (suc n) k x y z goes less here =
     at false e rest = rest (let ne : k ≢ n = eqb-false k n e in omega (arith, less, ne))
 
 -- where it is covered in what state local steps take a thread, it is before them
-pub run_covered : (p : Program) (kept : List Kept) (k : ℕ) (s : State) (t n : ℕ) (x y : Thread)
+pub run_covered : (p : Program) (alone : Bool) (kept : List Kept) (k : ℕ) (s : State) (t n : ℕ) (x y : Thread)
     → local_after p t n x ≡ Some y → (n ≡ 0) ⊎ (is_dying y ≡ false)
-    → (m : ℕ) × IsCovered p kept m (with_thread s t y) k → (m : ℕ) × IsCovered p kept m (with_thread s t x) k
-run_covered p kept k s t zero x y e lives c =
-    subst (λ z. (m : ℕ) × IsCovered p kept m (with_thread s t z) k) (sym (same_Some x y e)) c
-run_covered p kept k s t (suc n) x y e lives c =
-    run_covered p kept k s t n x before.0 before.1 (inr (runs_code p t before.0 y before.2)) (
+    → (m : ℕ) × IsCovered p alone kept m (with_thread s t y) k
+    → (m : ℕ) × IsCovered p alone kept m (with_thread s t x) k
+run_covered p alone kept k s t zero x y e lives c =
+    subst (λ z. (m : ℕ) × IsCovered p alone kept m (with_thread s t z) k) (sym (same_Some x y e)) c
+run_covered p alone kept k s t (suc n) x y e lives c =
+    run_covered p alone kept k s t n x before.0 before.1 (inr (runs_code p t before.0 y before.2)) (
       suc c.0,
-      inr (
+      inr (inl (
         t,
         before.0,
         y,
         record { stands = put_same s.thread t (Some before.0); goes = before.2; lives = alive lives },
-        subst (λ r. IsCovered p kept c.0 r k) (sym again) c.1,
-      ),
+        subst (λ r. IsCovered p alone kept c.0 r k) (sym again) c.1,
+      )),
     )
   where
     before : (z : Thread) × (local_after p t n x ≡ Some z) × (local_step p t z ≡ Some y)
@@ -85,7 +86,7 @@ run_covered p kept k s t (suc n) x y e lives c =
 -- what is kept, but for what was printed, is covered
 pub leaf : (p : Program) (parts : PartsOf) (kept : List Kept) (y : PackedOf) (s : State)
     → record s { output = [] } ≡ unpacked p parts y → Contains kept (kept_of p parts y)
-    → IsCovered p kept zero s y.killed
+    → IsCovered p parts.alone kept zero s y.killed
 leaf p parts kept y s e has =
     ([], subst (λ (r : State). Contains kept (record { state = r; killed = y.killed })) (sym e) has)
 
@@ -148,7 +149,7 @@ module _ (p : Program) (parts : PartsOf) (x b : PackedOf) (k memory : ℕ) (here
 
   pub base_covers : Covers p parts y (with_thread before (suc k) here) y.killed
   base_covers kept has =
-      run_covered p kept y.killed before (suc k) base.count here base.there base.runs.goes base.runs.lives
+      run_covered p parts.alone kept y.killed before (suc k) base.count here base.there base.runs.goes base.runs.lives
       (zero, leaf p parts kept y (with_thread before (suc k) base.there) is_unpacked has)
 
   pub base_within : IsWithin parts x → memory < length parts.memories.items → IsWithin parts y

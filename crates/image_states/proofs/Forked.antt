@@ -154,9 +154,9 @@ module _ (p : Program) (parts : PartsOf) (x state : PackedOf) (k memory : ℕ) (
 
   pub fork_covers : Covers p parts y (with_thread made (suc k) here) y.killed
   fork_covers kept has =
-      run_covered p kept y.killed made (suc k) base.count here base.there base.runs.goes base.runs.lives
-      (subst (λ s. (m : ℕ) × IsCovered p kept m s y.killed) (sym child_stands)
-      (run_covered p kept y.killed after number count (opening_thread entry arguments) there runs.goes runs.lives
+      run_covered p parts.alone kept y.killed made (suc k) base.count here base.there base.runs.goes base.runs.lives
+      (subst (λ s. (m : ℕ) × IsCovered p parts.alone kept m s y.killed) (sym child_stands)
+      (run_covered p parts.alone kept y.killed after number count (opening_thread entry arguments) there runs.goes runs.lives
       (zero, leaf p parts kept y (with_thread after number there) is_unpacked has)))
 
   pub fork_within : IsWithin parts x → memory < length parts.memories.items → IsWithin parts y

@@ -1,6 +1,6 @@
 -- Packed states, of parts that stay while there are more.
 use Rattle.std.proofs.Common.{◌≡◌, ◌<◌, ◌≤◌, ◌+◌, ◌++◌, ℕ, zero, suc, List, [], ◌∷◌, Option, Some, None, All, Contains, length, slice_get}
-use Rattle.std.proofs.Common.{inl, inr, refl, sym, ap, ◌∙◌, subst, arith, append_assoc}
+use Rattle.std.proofs.Common.{Bool, inl, inr, refl, sym, ap, ◌∙◌, subst, arith, append_assoc}
 use Rattle.std.specs.Prelude.{slice_index, slice_set}
 use Rattle.std.proofs.lemmas.List.{append-nil, length-append, set-get_or}
 use Rattle.std.proofs.lemmas.List.Elements.{All-weaker, Contains-append_left}
@@ -8,7 +8,7 @@ use Rattle.std.proofs.lemmas.Option.{get_or_from_slice_get, slice_get_within}
 use Rattle.isa.specs.Programs.{Program}
 use Rattle.locals.specs.Threads.{Thread}
 use Rattle.machine.specs.States.{State}
-use Rattle.proof_image_search.specs.Searching.{May, kills_by}
+use Rattle.proof_image_search.specs.Searching.{IsCovered, May, kills_by}
 use Rattle.proof_pieces.specs.WholeCalls.{IsWholeDone, IsWholeStep}
 use Rattle.machine.specs.Runs.{IsStrayStep}
 use Rattle.image_states.specs.declared.next.Next.{Next as NextOf}
@@ -52,10 +52,11 @@ pub prefix_contains : {A : Type 0} (xs ys : List A) (x : A) → IsPrefix xs ys �
 prefix_contains xs ys x p c = subst (λ l. Contains l x) (sym p.1) (Contains-append_left xs p.0 x c)
 
 pub grown_none : (a : PartsOf) → IsGrown a a
-grown_none a = record { locals = prefix_none a.locals.items; memories = prefix_none a.memories.items }
+grown_none a = record { alone = refl; locals = prefix_none a.locals.items; memories = prefix_none a.memories.items }
 
 pub grown_twice : (a b c : PartsOf) → IsGrown a b → IsGrown b c → IsGrown a c
 grown_twice a b c f g = record {
+  alone = g.alone ∙ f.alone;
   locals = prefix_twice a.locals.items b.locals.items c.locals.items f.locals g.locals;
   memories = prefix_twice a.memories.items b.memories.items c.memories.items f.memories g.memories;
 }
@@ -96,7 +97,9 @@ module _ (a b : PartsOf) (g : IsGrown a b) where
 
   pub covers_still : (p : Program) (y : PackedOf) → IsWithin a y → (s : State) (n : ℕ) → Covers p a y s n
       → Covers p b y s n
-  covers_still p y is s n c kept has = c kept (subst (Contains kept) (kept_still p y is) has)
+  covers_still p y is s n c kept has =
+      subst (λ (alone : Bool). (m : ℕ) × IsCovered p alone kept m s n) (sym g.alone)
+      (c kept (subst (Contains kept) (kept_still p y is) has))
 
 -- the same numbers
 pub same_key : (p : Program) (parts : PartsOf) (x y : PackedOf) → IsSameKey x y → kept_of p parts x ≡ kept_of p parts y

@@ -5,11 +5,13 @@ pub mod Served
 pub mod Choosing
 pub mod Planned
 pub mod Stepped
+pub mod LeftAlone
 pub mod Forked
 pub mod Begun
 pub mod Results
 pub mod Turned
 pub mod Found
+pub mod Sparing
 pub mod Sleeping
 pub mod Listing
 pub mod Marking

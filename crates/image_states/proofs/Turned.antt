@@ -12,9 +12,10 @@ use Rattle.buckets.specs.Places.{with_place}
 use Rattle.isa.specs.Programs.{Program}
 use Rattle.robustexit.specs.ExitRules.{exit_of}
 use Rattle.robustexit.specs.declared.phase.ExitPhase.{ExitPhase}
+use Rattle.robustexit.specs.declared.phase.ExitPhase.TheVariants.{Ended}
 use Rattle.locals.specs.declared.request.NextStep.{NextStep}
 use Rattle.locals.specs.declared.request.NextStep.TheVariants as next
-use Rattle.locals.specs.Threads.{Thread, Dies, is_dying}
+use Rattle.locals.specs.Threads.{Thread, Dies, Exits, is_dying}
 use Rattle.locals.specs.Looks.{Request, AskLoad, AskStore, AskSwap, AskCompareSwap, AskOr, AskAdd, AskFork, AskPrint}
 use Rattle.locals.specs.Looks.{AskWait, AskWake, AskRequeue, AskReturn, AskReturnValue, AskFault, Look, Goes}
 use Rattle.locals.specs.Looks.{Asks, Leaves, Breaks, Rests, look}
@@ -142,6 +143,13 @@ module _ (p : Program) (parts : PartsOf) (x : PackedOf) (nexts : List NextOf) (t
       awake zero ne e = ne refl
       awake (suc n) ne e = cc
 
+-- a thread that has ended takes no step
+pub own_ended : (p : Program) (parts : PartsOf) (x : PackedOf) (nexts : List NextOf) (t : ℕ)
+    → thread_at parts.locals.items x.parts.items t ≡ Some (Exits Ended) → OwnDone p parts x nexts t
+own_ended p parts x nexts t ended woken s' step =
+    absurd (subst (λ z. MovesWhole (exit_of p.version) (unpacked p parts x) t woken (look p t z) s')
+    (same_Some step.thread (Exits Ended) (sym step.stands ∙ ended)) step.moves)
+
 -- one thread is elsewhere
 pub alone_put : (f : ℕ → Option ℕ) (t : ℕ) (v : Option ℕ) → with_place f (t ∷ []) v ≡ put f t v
 alone_put f t v = fun_ext (λ u. same (u == t) (f u))
@@ -177,7 +185,7 @@ stray_done p parts x nexts t is has a step s' thread stray = record {
   within = placed_within parts x has.next.state (with_place (asleep_at x.places.items) (t ∷ []) None) has.placed is;
   covers = λ kept in_kept. (
     zero,
-    subst (IsCovered p kept zero s') has.killed
+    subst (IsCovered p parts.alone kept zero s') has.killed
         (leaf p parts kept has.next.state s' (ap (λ (s : State). record s { output = [] }) is_so) in_kept),
   );
 }

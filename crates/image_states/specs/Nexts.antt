@@ -27,7 +27,8 @@ pub record RunsOn (p : Program) (t count : ℕ) (x y : Thread) : Type 0 where
 
 -- where the packed state is kept, this state is covered, with so many kills
 abbrev pub Covers : Program → PartsOf → PackedOf → State → ℕ → Type 0
-Covers p parts y s n = (kept : List Kept) → Contains kept (kept_of p parts y) → (m : ℕ) × IsCovered p kept m s n
+Covers p parts y s n =
+    (kept : List Kept) → Contains kept (kept_of p parts y) → (m : ℕ) × IsCovered p parts.alone kept m s n
 
 -- one of the next states covers this one
 pub record Reaches (p : Program) (parts : PartsOf) (nexts : List NextOf) (s : State) (n : ℕ) : Type 0 where

@@ -64,8 +64,9 @@ pub record IsWithin (parts : PartsOf) (x : PackedOf) : Type 0 where
 abbrev pub IsPrefix : {A : Type 0} → List A → List A → Type 0
 IsPrefix {A} xs ys = (more : List A) × (ys ≡ xs ++ more)
 
--- there are more parts, and each has its number still
+-- there are more parts, and each has its number still; and exits are followed alone, or not, as before
 pub record IsGrown (parts parts' : PartsOf) : Type 0 where
+  pub alone : parts'.alone ≡ parts.alone
   pub locals : IsPrefix parts.locals.items parts'.locals.items
   pub memories : IsPrefix parts.memories.items parts'.memories.items
 

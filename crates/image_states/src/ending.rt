@@ -64,9 +64,7 @@ impl Parts {
         };
         match self.stored(alloc, memory, block(t, ProcessWord::Outcome), outcome)? {
             None => Ok(Some(Bound::Foreign)),
-            Some(after) => self.push_answer(
-                alloc, image, packed, k, t, after, head, scratch, found,
-            ),
+            Some(after) => self.push_end(alloc, image, packed, k, t, after, head, scratch, found),
         }
     }
 
@@ -253,7 +251,7 @@ impl Parts {
             scratch.old.here) }
     {
         match wakes {
-            None => self.push_stand(alloc, image, packed, k, t, memory, scratch, found),
+            None => self.push_leaving(alloc, image, packed, k, t, memory, scratch, found),
             Some(a) => self.stand_one(alloc, image, packed, k, t, memory, a, scratch, found),
         }
     }

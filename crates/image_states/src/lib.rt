@@ -2,6 +2,7 @@
 //! the numbers of its parts, and what may come next of one.
 #![tactic(auto)]
 
+mod apart;
 mod bound;
 mod calls;
 mod digest;
@@ -10,6 +11,7 @@ mod ending;
 mod ends;
 mod exits;
 mod forking;
+mod leaving;
 mod next;
 mod opening;
 mod outside;

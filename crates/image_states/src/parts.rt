@@ -15,6 +15,8 @@ const TRIES: u64 = 1 << 20;
 /// The local states and the memories of states that are kept, each once, by their numbers. None is ever given up.
 #[derive(Drop)]
 pub struct Parts {
+    // Whether a thread's exit is followed alone.
+    alone: bool,
     // The local states of threads.
     locals: Vec<Local>,
     // The memories.
@@ -74,15 +76,26 @@ fn copied(alloc: Global, old: &Mem) -> Result<Option<Mem>, AllocError>
 }
 
 impl Parts {
-    /// No parts yet.
-    pub fn new(alloc: Global) -> Parts {
+    /// No parts yet, of states in which the rest of a thread's exit is followed alone, behind its robust list, or isn't:
+    /// where the thread has no pending entry and nobody sleeps on its id, it is taken to its end at once.
+    pub fn new(alloc: Global, alone: bool) -> Parts
+        ensures { result.alone ≡ alone }
+    {
         Parts {
+            alone,
             locals: Vec::new(alloc),
             memories: Vec::new(alloc),
             digests: Vec::new(alloc),
             local_numbers: DigestMap::new(alloc),
             memory_numbers: DigestMap::new(alloc),
         }
+    }
+
+    /// Whether exits are followed alone.
+    pub fn follows_exits(&self) -> bool
+        ensures { result ≡ self.now.alone }
+    {
+        self.alone
     }
 
     // The local state of this number.
@@ -158,6 +171,23 @@ impl Parts {
         if let Some(number) = self.find_local(local, digest) {
             return Ok(Some(number));
         }
+        self.add_local(alloc, local, digest)
+    }
+
+    // A local state of this digest is a part from now on; answers its number. A caller in which it stood would have room for a
+    // local state made at each call.
+    #[cold]
+    #[inline(never)]
+    fn add_local(
+        &mut self,
+        alloc: Global,
+        local: &Local,
+        digest: u64,
+    ) -> Result<Option<u32>, AllocError>
+        ensures grown { OnOk result (IsGrown self.old self.new) }
+        ensures there { IfOk result
+            (λ o. IfSome o (λ n. slice_get self.new.locals.items n ≡ Some local.now)) }
+    {
         let Ok(number) = u32::try_from(self.locals.len()) else {
             return Ok(None);
         };

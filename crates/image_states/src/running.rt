@@ -4,6 +4,7 @@ ghost use Rattle.image_states.specs.Nexts.{RunsOn};
 use isa::Image;
 use locals::Local;
 use robustexit::ExitPhase;
+use std::mem;
 
 /// How many local steps a thread is taken on at once, at most.
 pub const MOST_AT_ONCE: u32 = 4096;
@@ -26,10 +27,14 @@ impl Scratch {
         }
     }
 
-    /// The local state that is looked at is this one.
+    /// The local state that is looked at is this one. Where the one before doesn't run its code and the other does, the two
+    /// change places: a running one becomes a copy of another in less time.
     pub fn look_at(&mut self, local: &Local)
         ensures { self.new.here ≡ local.now }
     {
+        if self.here.is_dying() && !self.ahead.is_dying() {
+            mem::swap(&mut self.here, &mut self.ahead);
+        }
         self.here.copy_from(local);
     }
 
@@ -44,6 +49,9 @@ impl Scratch {
     pub fn run_on(&mut self, image: &Image, t: u32)
         ensures { (count : ℕ) × RunsOn image.now t count self.old.here self.new.here }
     {
+        if self.here.is_dying() {
+            return;
+        }
         self.ahead.copy_from(&self.here);
         let count = self.ahead.run(image, t, MOST_AT_ONCE);
         if count == 0 {

@@ -100,6 +100,9 @@ impl Parts {
         match self.thread(packed, k) {
             None => Ok(None),
             Some(local) => {
+                if local.has_ended() {
+                    return Ok(None);
+                }
                 scratch.look_at(local);
                 self.own_step(alloc, image, packed, k, t, scratch, found)
             }

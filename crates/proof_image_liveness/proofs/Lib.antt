@@ -3,6 +3,7 @@ pub mod Existing
 pub mod Going
 pub mod Calling
 pub mod Landing
+pub mod Settling
 pub mod Waking
 pub mod Quieting
 pub mod Closed

@@ -1,5 +1,5 @@
 -- From each state a run of the threads' own steps leads to where no thread is within a call; and so whoever sleeps is woken.
-use Rattle.std.proofs.Common.{◌≡◌, ◌≢◌, ◌<◌, ◌≤◌, ◌∙◌, ◌+◌, ◌++◌, ◌%◌, ◌⊎◌, ℕ, zero, suc, true, List, [], ◌∷◌}
+use Rattle.std.proofs.Common.{◌≡◌, ◌≢◌, ◌<◌, ◌≤◌, ◌∙◌, ◌+◌, ◌++◌, ◌%◌, ◌⊎◌, ℕ, zero, suc, Bool, true, List, [], ◌∷◌}
 use Rattle.std.proofs.Common.{Option, Some, None, Contains, inl, inr, refl, sym, ap, arith, subst}
 use Rattle.std.proofs.lemmas.Bool.{cases_eq}
 use Rattle.std.proofs.lemmas.Option.{same_Some}
@@ -20,8 +20,8 @@ use Rattle.machine.specs.PieceStates.{PieceState, IsHeldRight, IsWithin, opening
 use Rattle.machine.specs.PieceSteps.{BlocksAt, CanTakePiece, IsLock, PieceRun}
 use Rattle.proof_pieces.proofs.Calls.{called_is}
 use Rattle.proof_pieces.proofs.Rests.{holders_go_on, sleeps_so}
-use Rattle.proof_image_search.specs.Searching.{AreFrom, AreNamed, IsComplete, IsNamed, Kept, May, kills_by, kills_in}
-use Rattle.proof_image_search.proofs.Ahead.{ahead}
+use Rattle.proof_image_search.specs.Searching.{AreFrom, AreNamed, IsCompleteBy, IsNamed, Kept, May, kills_by, kills_in}
+use Rattle.proof_image_search.proofs.Further.{further}
 use Rattle.proof_image_search.proofs.Closing.{Reached, reaches}
 use Rattle.proof_image_liveness.specs.Sleeping.{AreOwn, AreWakened, IsFew, IsWoken}
 use Rattle.proof_image_liveness.proofs.Calling.{Past, acts_on, past_of, requeues, waits}
@@ -254,8 +254,8 @@ from_both may steps more from own =
     let few : kills_in steps ≤ may.kills = from.few in
     record { named = named_both may steps more from.named o.0; few = omega (arith, none, all, few) }
 
-module _ (p : Program) (may : May) (kept : List Kept) (complete : IsComplete p may kept)
-    (wakened : (r : Kept) → Contains kept r → AreWakened p r) (buckets : ℕ) (some : 0 < buckets) where
+module _ (p : Program) (alone : Bool) (may : May) (kept : List Kept) (complete : IsCompleteBy p alone may kept)
+    (wakened : (r : Kept) → Contains kept r → AreWakened p alone r) (buckets : ℕ) (some : 0 < buckets) where
   -- a run leads to the state
   abbrev Come : PieceState → Type 0
   Come s = (steps : List Step) × PieceRun p buckets steps s × AreFrom may steps
@@ -269,23 +269,25 @@ module _ (p : Program) (may : May) (kept : List Kept) (complete : IsComplete p m
 
   come_few : (s : PieceState) → IsHeldRight p s → Come s → IsFew s.base
   come_few s right come =
-      let r = (reaches p kept may complete buckets come.0 s some come.1 come.2).1.1 in
+      let r = (reaches p alone kept may complete buckets come.0 s some come.1 come.2).1.1 in
       let few = (wakened _ r.is).few in
       record { most = few.most; asleep = λ u a slept. few.asleep u a (sleeps_so p s u a slept); made = few.made }
 
   from_quiet : (s : PieceState) (t a : ℕ) → IsHeldRight p s → IsOutside s → Come s → s.base.asleep t ≡ Some a
       → IsWoken p s t
   from_quiet s t a right outside come slept =
-      let k = (reaches p kept may complete buckets come.0 s some come.1 come.2).1 in
-      let r : Reached p kept s.base k.0 = subst (λ (q : State). Reached p kept q k.0) (whole_base p s outside) k.1 in
+      let k = (reaches p alone kept may complete buckets come.0 s some come.1 come.2).1 in
+      let r : Reached p alone kept s.base k.0 =
+      subst (λ (q : State). Reached p alone kept q k.0) (whole_base p s outside) k.1 in
       let w = (wakened _ r.is).wakened t a slept in
-      wakes p t (record { state = ahead s.base r.here r.output; killed = k.0 } ∷ w.behind) (w.live, w.lives) s k.0 right
-      outside (record { here = r.here; output = r.output; all = r.all; is = (0, omega arith, refl) })
+      wakes p alone t (record { state = further s.base r.here r.words r.output; killed = k.0 } ∷ w.behind)
+      (w.live, w.lives) s k.0 right outside
+      (record { here = r.here; words = r.words; output = r.output; all = r.all; is = (0, omega arith, refl) })
 
   pub never_sleeps : (steps : List Step) (s : PieceState) → PieceRun p buckets steps s → AreFrom may steps → (t : ℕ)
       → IsWoken p s t
   never_sleeps steps s run from t =
-      let right = (reaches p kept may complete buckets steps s some run from).0 in
+      let right = (reaches p alone kept may complete buckets steps s some run from).0 in
       by_quiet (quiet p Come come_on come_few (all_inside s.phase s.base.made) s right (steps, run, from) (omega arith))
     where
       by_quiet : Quiets p Come s → IsWoken p s t

@@ -1,5 +1,5 @@
 -- Threads that sleep for good, and states from which a thread is woken.
-use Rattle.std.specs.Prelude.{ℕ, ◌≡◌, ◌<◌, ◌≤◌, ◌⊎◌, ⊤, Some, None, List, [], ◌∷◌, Contains}
+use Rattle.std.specs.Prelude.{ℕ, ◌≡◌, ◌<◌, ◌≤◌, ◌⊎◌, ⊤, Bool, true, Some, None, List, [], ◌∷◌, Contains}
 use Rattle.isa.specs.Programs.{Program}
 use Rattle.futexcalls.specs.FutexCalls.{IsChoice}
 use Rattle.locals.specs.Threads.{Thread}
@@ -9,7 +9,7 @@ use Rattle.machine.specs.Runs.{Step, Own, CanStep, NextIsBroken}
 use Rattle.machine.specs.PieceStates.{PieceState}
 use Rattle.machine.specs.PieceSteps.{GoesByPieces}
 use Rattle.proof_pieces.specs.WholeCalls.{IsWholeStep}
-use Rattle.proof_image_search.specs.Searching.{Kept, IsCovered}
+use Rattle.proof_image_search.specs.Searching.{IsApart, IsCovered, Kept}
 
 -- steps of the threads' own
 abbrev pub AreOwn : List Step → Type 0
@@ -37,16 +37,17 @@ pub record IsFew (s : State) : Type 0 where
   pub made : s.made ≤ s.most
 
 -- a thread can step, and whatever its step does, it leads to what these cover
-pub record LeadsOn (p : Program) (lives : List Kept) (r : Kept) : Type 0 where
+pub record LeadsOn (p : Program) (alone : Bool) (lives : List Kept) (r : Kept) : Type 0 where
   pub thread : ℕ
   pub can : CanStep r.state thread
   pub whole : NextIsBroken p r.state thread → ⊥
   pub few : IsFew r.state
+  pub apart : alone ≡ true → IsApart p r.state
   pub leads : (woken : List ℕ) (s : State) → IsWholeStep p r.state thread woken s
-      → (m : ℕ) × IsCovered p lives m s r.killed
+      → (m : ℕ) × IsCovered p alone lives m s r.killed
 
 -- a thread can wake these sleepers by a futex call, and where it wakes them, that leads to what these cover
-pub record LeadsOnBy (p : Program) (lives : List Kept) (r : Kept) : Type 0 where
+pub record LeadsOnBy (p : Program) (alone : Bool) (lives : List Kept) (r : Kept) : Type 0 where
   pub thread : ℕ
   pub local : Thread
   pub stands : r.state.thread thread ≡ Some local
@@ -59,30 +60,32 @@ pub record LeadsOnBy (p : Program) (lives : List Kept) (r : Kept) : Type 0 where
   pub woken : List ℕ
   pub choice : IsChoice r.state.asleep address count woken
   pub few : IsFew r.state
-  pub leads : (s : State) → IsWholeStep p r.state thread woken s → (m : ℕ) × IsCovered p lives m s r.killed
+  pub apart : alone ≡ true → IsApart p r.state
+  pub leads : (s : State) → IsWholeStep p r.state thread woken s → (m : ℕ) × IsCovered p alone lives m s r.killed
 
 -- thread t is awake, or some step leads on
-abbrev pub IsLive : Program → ℕ → List Kept → Kept → Type 0
-IsLive p t lives r = (r.state.asleep t ≡ None) ⊎ LeadsOn p lives r ⊎ LeadsOnBy p lives r
+abbrev pub IsLive : Program → (alone : Bool) → ℕ → List Kept → Kept → Type 0
+IsLive p alone t lives r = (r.state.asleep t ≡ None) ⊎ LeadsOn p alone lives r ⊎ LeadsOnBy p alone lives r
 
 -- each state of a list is live, by those behind it
-abbrev pub AreLive : Program → ℕ → List Kept → Type 0
-AreLive p t [] = ⊤
-AreLive p t (r ∷ lives) = IsLive p t lives r × AreLive p t lives
+abbrev pub AreLive : Program → (alone : Bool) → ℕ → List Kept → Type 0
+AreLive p alone t [] = ⊤
+AreLive p alone t (r ∷ lives) = IsLive p alone t lives r × AreLive p alone t lives
 
 -- it is one of a list of live states
-pub record IsWakened (p : Program) (t : ℕ) (r : Kept) : Type 0 where
+pub record IsWakened (p : Program) (alone : Bool) (t : ℕ) (r : Kept) : Type 0 where
   pub behind : List Kept
-  pub lives : AreLive p t behind
-  pub live : IsLive p t behind r
+  pub lives : AreLive p alone t behind
+  pub live : IsLive p alone t behind r
 
 -- each of these states is few, and whoever sleeps there is wakened
-pub record AreWakened (p : Program) (r : Kept) : Type 0 where
+pub record AreWakened (p : Program) (alone : Bool) (r : Kept) : Type 0 where
   pub few : IsFew r.state
-  pub wakened : (t a : ℕ) → r.state.asleep t ≡ Some a → IsWakened p t r
+  pub wakened : (t a : ℕ) → r.state.asleep t ≡ Some a → IsWakened p alone t r
 
 -- thread t sleeps in each of these, and each step of a thread's own from one leads to what they cover
-pub record AreAsleep (p : Program) (t : ℕ) (dead : List Kept) : Type 0 where
+pub record AreAsleep (p : Program) (alone : Bool) (t : ℕ) (dead : List Kept) : Type 0 where
   pub sleeps : (r : Kept) → Contains dead r → (a : ℕ) × (r.state.asleep t ≡ Some a)
   pub closed : (r : Kept) → Contains dead r → (u : ℕ) (woken : List ℕ) (s : State)
-      → IsWholeStep p r.state u woken s → (m : ℕ) × IsCovered p dead m s r.killed
+      → IsWholeStep p r.state u woken s → (m : ℕ) × IsCovered p alone dead m s r.killed
+  pub apart : alone ≡ true → (r : Kept) → Contains dead r → IsApart p r.state

@@ -2,9 +2,9 @@ use Rattle.std.proofs.Common.{◌∙◌, subst, sym}
 use Rattle.std.proofs.lemmas.List.{length-map}
 use Rattle.image_states.specs.Nexts.{may_of}
 use Rattle.image_states.specs.Packed.{kept_of}
-use Rattle.image_search.specs.Ends.{AreAll, HasEnded, IsMet}
+use Rattle.image_search.specs.Ends.{AreAllBy, HasEnded, HasEndedBy, IsMet}
 use Rattle.image_search.specs.Kept.{IsMetBy, states_of}
-use Rattle.image_search.proofs.Searched.{met_so}
+use Rattle.image_search.proofs.Searched.{ended_either, met_so}
 use Rattle.image_search.proofs.explore.explore_from.Goals as goal
 
 pub returns-in-Some-clause-searched : goal.returns-in-Some-clause-searched
@@ -22,12 +22,15 @@ returns-in-Some-clause-searched g c =
 pub returns-clause-searched : goal.returns-clause-searched
 returns-clause-searched g c =
     let p = c.args.image.now in
+    let may = may_of c.args.outside in
     let kept = c.search.new.kept in
+    let ended : HasEndedBy p kept.parts.alone may c.keep_opening.new.kept.most (states_of p kept) c.in-Some-2.ending =
+    rw c.in-Some-2.is at c.in_ok-ending.ensures.ended in
     record {
       kept = states_of p kept;
       count = length-map kept.states.items (kept_of p kept.parts) ∙ sym kept.states.ok.0 ∙ sym c.len-states.ensures;
-      ended = subst (λ n. HasEnded p (may_of c.args.outside) n (states_of p kept) c.in_ok-ending.ending)
-          c.in_ok-bound.ensures.most c.in_ok-ending.ensures.ended;
+      ended = subst (λ n. HasEnded p may n (states_of p kept) c.in-Some-2.ending) c.in_ok-bound.ensures.most
+          (ended_either p kept.parts.alone may c.keep_opening.new.kept.most (states_of p kept) c.in-Some-2.ending ended);
     }
 
 pub returns-in-Some-clause-sleeping : goal.returns-in-Some-clause-sleeping
@@ -36,8 +39,11 @@ returns-in-Some-clause-sleeping g c = λ e. absurd cc
 pub sleeping_behind-requires-clause-complete : goal.sleeping_behind-requires-clause-complete
 sleeping_behind-requires-clause-complete g c = λ e.
     let p = c.args.image.now in
-    let all : AreAll p (may_of c.args.outside) (states_of p c.search.new.kept) =
-    rw e at c.in_ok-ending.ensures.ended in
+    let kept = c.search.new.kept in
+    let ended : HasEndedBy p kept.parts.alone (may_of c.args.outside) c.keep_opening.new.kept.most (states_of p kept)
+    c.in-Some-2.ending =
+    rw c.in-Some-2.is at c.in_ok-ending.ensures.ended in
+    let all : AreAllBy p kept.parts.alone (may_of c.args.outside) (states_of p kept) = rw e at ended in
     all.complete
 
 pub sleeping_behind-requires-clause-sound : goal.sleeping_behind-requires-clause-sound

@@ -9,22 +9,22 @@ pub returns-clause-never_stuck : goal.returns-clause-never_stuck
 returns-clause-never_stuck g c =
     let p = c.args.image.now in
     let may = may_of c.args.outside in
-    IfOk-weaker c.explore_with.result _ _ (λ e found done.
-    never_stuck_so p may found.kept (subst (HasEnded p may c.new-kept.result.most found.kept) done found.ended))
-    c.explore_with.ensures.searched
+    IfOk-weaker c.explore_both.result _ _ (λ e found done.
+    never_stuck_so p may found.kept (subst (HasEnded p may c.args.most_states found.kept) done found.ended))
+    c.explore_both.ensures.searched
 
 pub returns-clause-never_fails : goal.returns-clause-never_fails
 returns-clause-never_fails g c =
     let p = c.args.image.now in
     let may = may_of c.args.outside in
-    IfOk-weaker c.explore_with.result _ _ (λ e found done.
-    never_fails_so p may found.kept (subst (HasEnded p may c.new-kept.result.most found.kept) done found.ended))
-    c.explore_with.ensures.searched
+    IfOk-weaker c.explore_both.result _ _ (λ e found done.
+    never_fails_so p may found.kept (subst (HasEnded p may c.args.most_states found.kept) done found.ended))
+    c.explore_both.ensures.searched
 
 pub returns-clause-never_breaks : goal.returns-clause-never_breaks
 returns-clause-never_breaks g c =
     let p = c.args.image.now in
     let may = may_of c.args.outside in
-    IfOk-weaker c.explore_with.result _ _ (λ e found done.
-    never_breaks_so p may found.kept (subst (HasEnded p may c.new-kept.result.most found.kept) done found.ended))
-    c.explore_with.ensures.searched
+    IfOk-weaker c.explore_both.result _ _ (λ e found done.
+    never_breaks_so p may found.kept (subst (HasEnded p may c.args.most_states found.kept) done found.ended))
+    c.explore_both.ensures.searched

@@ -5,3 +5,4 @@ pub returns-clause-leads : goal.returns-clause-leads
 returns-clause-leads c = λ e.
     leads_of c.args.image.now c.args.kept.now c.own_flagged.new.kept c.args.flags.now c.args.place _ c.requires.made
     c.in_ok-own_flagged.ensures.still (c.in_ok-own_flagged.ensures.leads c.if-not-branch.false) (c.can_go-can.ensures e)
+    (c.is_apart_at.ensures c.if-not-is_apart_at.false)

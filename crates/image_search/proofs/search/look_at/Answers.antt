@@ -1,7 +1,7 @@
-use Rattle.std.proofs.Common.{ℕ, List}
+use Rattle.std.proofs.Common.{ℕ, Bool, List}
 use Rattle.proof_image_search.specs.Searching.{Kept}
 use Rattle.image_states.specs.Nexts.{may_of}
-use Rattle.image_search.specs.Ends.{HasEnded}
+use Rattle.image_search.specs.Ends.{HasEndedBy}
 use Rattle.image_search.specs.Kept.{IsExpandedAt, IsMetBy, states_of}
 use Rattle.image_search.proofs.Keeping.{more_itself}
 use Rattle.image_search.proofs.Searched.{looked_so, met_so}
@@ -12,18 +12,18 @@ returns-in-Some-clause-more c = more_itself c.args.kept.now
 
 pub returns-in-Some-clause-looked : goal.returns-in-Some-clause-looked
 returns-in-Some-clause-looked c =
-    let all : (most : ℕ) (states : List Kept)
-    → HasEnded c.args.image.now (may_of c.args.outside) most states c.in-Some.ending =
+    let all : (alone : Bool) (most : ℕ) (states : List Kept)
+    → HasEndedBy c.args.image.now alone (may_of c.args.outside) most states c.in-Some.ending =
     rw c.in-Some.is at c.in_ok-ending.ensures.ended in
-    all c.args.kept.now.most (states_of c.args.image.now c.args.kept.now)
+    all c.args.kept.now.parts.alone c.args.kept.now.most (states_of c.args.image.now c.args.kept.now)
 
 pub returns-in-None-clause-looked : goal.returns-in-None-clause-looked
 returns-in-None-clause-looked c =
     let p = c.args.image.now in
     let may = may_of c.args.outside in
-    let expanded : IsExpandedAt p may (states_of p c.args.kept.now) (states_of p c.expand.new.kept) c.args.place =
+    let expanded : IsExpandedAt p c.args.kept.now.parts.alone may (states_of p c.args.kept.now) (states_of p c.expand.new.kept) c.args.place =
     rw c.in-None.is at c.in_ok-expand.ensures.expanded in
-    looked_so p may (states_of p c.args.kept.now) (states_of p c.expand.new.kept) c.args.place c.args.passed.now
+    looked_so p c.args.kept.now.parts.alone may (states_of p c.args.kept.now) (states_of p c.expand.new.kept) c.args.place c.args.passed.now
     c.look_at_ends.new.passed (c.in_ok-ending.ensures.told c.in_default.is) expanded
 
 pub returns-in-Some-2-clause-looked : goal.returns-in-Some-2-clause-looked

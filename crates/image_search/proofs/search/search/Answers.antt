@@ -1,17 +1,20 @@
-use Rattle.std.proofs.Common.{◌≤◌, ◌∙◌, arith, length, refl}
+use Rattle.std.proofs.Common.{◌≤◌, ◌∙◌, ◌+◌, Bool, arith, length, refl, subst, sym}
 use Rattle.std.proofs.lemmas.List.{length-map}
 use Rattle.image_states.specs.Nexts.{may_of}
 use Rattle.image_states.specs.Packed.{kept_of}
+use Rattle.image_states.proofs.Listing.{is_none}
 use Rattle.image_search.specs.Kept.{IsLookedAt, states_of}
 use Rattle.image_search.proofs.Keeping.{states_more}
-use Rattle.image_search.proofs.Searched.{at_first, ended_so, goes_on}
+use Rattle.image_search.proofs.Searched.{IsSoFar, at_first, ended_so, goes_on, some_ended}
 use Rattle.image_search.proofs.search.search.Goals as goal
 
 pub loop-place-init : goal.loop-place-init
 loop-place-init g c = record {
   sound = c.requires.sound;
   most = refl;
-  so_far = at_first c.args.image.now (may_of c.args.outside) (states_of c.args.image.now c.args.kept.now) c.requires.opens;
+  alone = refl;
+  so_far = at_first c.args.image.now c.args.kept.now.parts.alone (may_of c.args.outside)
+      (states_of c.args.image.now c.args.kept.now) c.requires.opens;
 }
 
 pub loop-place-preserved : goal.loop-place-preserved
@@ -20,14 +23,22 @@ loop-place-preserved g c =
     let may = may_of c.args.outside in
     let kept = c.loop-place.kept in
     let kept' = c.look_at.new.kept in
-    let looked : IsLookedAt p may (states_of p kept) (states_of p kept') c.loop-place.place c.loop-place.passed c.look_at.new.passed =
-    rw c.in_default.is at c.in_ok-ending.ensures.looked in
+    let alone = kept.parts.alone in
+    let more = c.in_ok-ending.ensures.more in
+    let looked : IsLookedAt p alone may (states_of p kept) (states_of p kept') c.loop-place.place c.loop-place.passed
+    c.look_at.new.passed =
+    rw (is_none c.in_ok-ending.ending c.is_some.result c.is_some.ensures c.if-is_some.false)
+    at c.in_ok-ending.ensures.looked in
+    let so_far : IsSoFar p alone may (states_of p kept') (c.loop-place.place + 1) c.look_at.new.passed =
+    goes_on p alone may (states_of p kept) (states_of p kept') c.loop-place.place c.loop-place.passed
+    c.look_at.new.passed c.loop-place.invariant.so_far (states_more p kept kept' c.loop-place.invariant.sound more) looked
+    (λ r at. c.is_apart_at.ensures c.if-not-is_apart_at.false r at) in
     record {
       sound = c.in_ok-ending.ensures.sound;
-      most = c.in_ok-ending.ensures.more.most ∙ c.loop-place.invariant.most;
-      so_far = goes_on p may (states_of p kept) (states_of p kept') c.loop-place.place c.loop-place.passed
-          c.look_at.new.passed c.loop-place.invariant.so_far
-          (states_more p kept kept' c.loop-place.invariant.sound c.in_ok-ending.ensures.more) looked;
+      most = more.most ∙ c.loop-place.invariant.most;
+      alone = more.parts.alone ∙ c.loop-place.invariant.alone;
+      so_far = subst (λ (b : Bool). IsSoFar p b may (states_of p kept') (c.loop-place.place + 1) c.look_at.new.passed)
+          (sym more.parts.alone) so_far;
     }
 
 pub returns-then-place-len-clause-ended : goal.returns-then-place-len-clause-ended
@@ -42,8 +53,25 @@ returns-then-place-len-clause-ended g c =
       kept.states.ok.0,
       length-map kept.states.items (kept_of p kept.parts),
     ) in
-    ended_so p (may_of c.args.outside) (states_of p kept) c.loop-place.place c.loop-place.passed
+    ended_so p kept.parts.alone (may_of c.args.outside) (states_of p kept) c.loop-place.place c.loop-place.passed
     c.loop-place.invariant.so_far end c.args.kept.now.most c.ending_of.result c.ending_of.ensures
+
+pub returns-then-is_some-clause-most : goal.returns-then-is_some-clause-most
+returns-then-is_some-clause-most g c = c.in_ok-ending.ensures.more.most ∙ c.loop-place.invariant.most
+
+pub returns-then-is_some-clause-ended : goal.returns-then-is_some-clause-ended
+returns-then-is_some-clause-ended g c =
+    let p = c.args.image.now in
+    let may = may_of c.args.outside in
+    let kept = c.loop-place.kept in
+    let kept' = c.look_at.new.kept in
+    let more = c.in_ok-ending.ensures.more in
+    some_ended p kept.parts.alone kept'.parts.alone may kept'.most c.args.kept.now.most (states_of p kept')
+    c.in_ok-ending.ending
+    (IsLookedAt p kept.parts.alone may (states_of p kept) (states_of p kept') c.loop-place.place c.loop-place.passed
+    c.look_at.new.passed)
+    (sym more.parts.alone) (more.most ∙ c.loop-place.invariant.most)
+    c.in_ok-ending.ensures.looked
 
 pub returns-then-len-kept-clause-ended : goal.returns-then-len-kept-clause-ended
 returns-then-len-kept-clause-ended g c =
@@ -59,6 +87,6 @@ returns-then-len-kept-clause-ended g c =
       kept.states.ok.0,
       length-map kept.states.items (kept_of p kept.parts),
     ) in
-    ended_so p (may_of c.args.outside) (states_of p kept) c.loop-place.place c.loop-place.passed
+    ended_so p kept.parts.alone (may_of c.args.outside) (states_of p kept) c.loop-place.place c.loop-place.passed
     c.loop-place.invariant.so_far end c.args.kept.now.most c.ending_of-then-len-kept.result
     c.ending_of-then-len-kept.ensures

@@ -8,5 +8,6 @@ abbrev pub invariant-loop-place : goal.invariant-loop-place
 invariant-loop-place g l = record {
   sound : IsSound l.kept;
   most : l.kept.most ≡ l.fn.kept.most;
-  so_far : IsSoFar l.image (may_of l.outside) (states_of l.image l.kept) l.place l.passed;
+  alone : l.kept.parts.alone ≡ l.fn.kept.parts.alone;
+  so_far : IsSoFar l.image l.kept.parts.alone (may_of l.outside) (states_of l.image l.kept) l.place l.passed;
 }

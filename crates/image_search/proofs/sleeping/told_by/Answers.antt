@@ -9,7 +9,7 @@ returns-then-branch c =
     let may = may_of c.args.outside in
     let kept = c.all_wakened.new.kept in
     record {
-      told = never_so p may (states_of p kept)
+      told = never_so p kept.parts.alone may (states_of p kept)
           (complete_still p may c.args.kept.now kept c.requires.sound c.in_ok-all_wakened.ensures.still c.requires.complete)
           (c.in_ok-all_wakened.ensures.wakened c.if-branch.true);
     }

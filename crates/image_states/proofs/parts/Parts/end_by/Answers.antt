@@ -18,32 +18,32 @@ pub returns-in-None-clause-more : goal.returns-in-None-clause-more
 returns-in-None-clause-more c =
     more_grown c.args.self.now c.stored.new.self c.args.found.now.items c.in_ok-stored.ensures.grown
 
-pub push_answer-requires-clause-within : goal.push_answer-requires-clause-within
-push_answer-requires-clause-within c =
+pub push_end-requires-clause-within : goal.push_end-requires-clause-within
+push_end-requires-clause-within c =
     within_still c.args.self.now c.stored.new.self c.in_ok-stored.ensures.grown c.args.packed.now c.requires.within
 
-pub push_answer-requires-clause-memory : goal.push_answer-requires-clause-memory
-push_answer-requires-clause-memory c =
+pub push_end-requires-clause-memory : goal.push_end-requires-clause-memory
+push_end-requires-clause-memory c =
     let there : slice_get c.stored.new.self.memories.items c.in-Some-2.after
     ≡ Some (slice_set (words_in c.args.self.now.memories.items c.args.memory) c.block-2.result.0 c.args.outcome) =
     rw c.in-Some-2.is at c.in_ok-stored.ensures.there in
     slice_get_within c.stored.new.self.memories.items c.in-Some-2.after
     (slice_set (words_in c.args.self.now.memories.items c.args.memory) c.block-2.result.0 c.args.outcome) there
 
-pub push_answer-requires-clause-answers : goal.push_answer-requires-clause-answers
-push_answer-requires-clause-answers c = c.requires.answers c.in-Some.head
+pub push_end-requires-clause-answers : goal.push_end-requires-clause-answers
+push_end-requires-clause-answers c = c.requires.answers c.in-Some.head
 
 pub returns-in-Some-2-clause-more : goal.returns-in-Some-2-clause-more
-returns-in-Some-2-clause-more c = on_ok c.push_answer.result _ _ c.push_answer.ensures.more
-    (λ m. more_parts c.args.self.now c.stored.new.self c.push_answer.new.self c.args.found.now.items
-    c.push_answer.new.found.items c.in_ok-stored.ensures.grown m)
+returns-in-Some-2-clause-more c = on_ok c.push_end.result _ _ c.push_end.ensures.more
+    (λ m. more_parts c.args.self.now c.stored.new.self c.push_end.new.self c.args.found.now.items
+    c.push_end.new.found.items c.in_ok-stored.ensures.grown m)
 
 pub returns-in-Some-2-clause-reaches : goal.returns-in-Some-2-clause-reaches
 returns-in-Some-2-clause-reaches c =
     let p = c.args.image.now in
     let a = c.args.self.now in
     let b = c.stored.new.self in
-    let d = c.push_answer.new.self in
+    let d = c.push_end.new.self in
     let x = c.args.packed.now in
     let here = c.args.scratch.now.here in
     let l = look p c.args.t here in
@@ -55,7 +55,7 @@ returns-in-Some-2-clause-reaches c =
     let head : (c.block.result.0 < length (words_in a.memories.items x.memory))
     × (c.in-Some.head ≡ slice_index (words_in a.memories.items x.memory) c.block.result.0) =
     rw c.in-Some.is at c.word.ensures in
-    if_both c.push_answer.result _ _ _ c.push_answer.ensures.more c.push_answer.ensures.reaches (λ m o r none.
+    if_both c.push_end.result _ _ _ c.push_end.ensures.more c.push_end.ensures.reaches (λ m o r none.
     let all : IsGrown a d = grown_twice a b d c.in_ok-stored.ensures.grown m.parts in
     let size : length (words_in d.memories.items c.args.memory) ≡ length (words_in a.memories.items c.args.memory) =
     ap length (words_still a d all c.args.memory c.requires.memory) in
@@ -63,10 +63,10 @@ returns-in-Some-2-clause-reaches c =
     head.1 ∙ ap (λ ws. slice_index ws c.block.result.0) (sym (words_still a d all x.memory (c.requires.within).memory))
     ∙ ap (slice_index (words_in d.memories.items x.memory)) c.block.ensures in (
       omega (arith, lies, size, c.block-2.ensures),
-      subst (λ n. ReachesAt p d x c.push_answer.new.found.items c.args.t
+      subst (λ n. ReachesAt p d x c.push_end.new.found.items c.args.t
           (slice_set (words_in d.memories.items c.args.memory) (process_word c.args.t 5) c.args.outcome)
           (asleep_at x.places.items) (after_answer l n here)) head_is
-          (subst (λ ws. ReachesAt p d x c.push_answer.new.found.items c.args.t ws (asleep_at x.places.items)
+          (subst (λ ws. ReachesAt p d x c.push_end.new.found.items c.args.t ws (asleep_at x.places.items)
           (after_answer l c.in-Some.head here))
           (stored_words a b d x c.in-Some-2.after c.args.memory c.block-2.result.0 c.args.outcome all m.parts c.requires.memory
           there

@@ -1,9 +1,11 @@
 use Rattle.std.proofs.Common.{sym, ◌≡◌, ◌∙◌, Some, ap, suc}
+use Rattle.robustexit.specs.declared.phase.ExitPhase.TheVariants.{Ended}
+use Rattle.locals.specs.Threads.{Exits}
 use Rattle.image_states.specs.Nexts.{MovesTo}
 use Rattle.image_states.specs.Packed.{thread_at}
 use Rattle.image_states.proofs.Growing.{more_none, stands_still}
 use Rattle.image_states.proofs.Results.{if_both}
-use Rattle.image_states.proofs.Turned.{own_absent, own_asleep, own_done}
+use Rattle.image_states.proofs.Turned.{own_absent, own_asleep, own_done, own_ended}
 use Rattle.image_states.proofs.parts.Parts.own_nexts.Goals as goal
 
 pub returns-then-place-ne0-clause-more : goal.returns-then-place-ne0-clause-more
@@ -23,8 +25,20 @@ returns-in-None-clause-done c = λ none.
     (ap (thread_at c.args.self.now.locals.items c.args.packed.now.parts.items) c.requires.number
     ∙ rw c.in-None.is at c.thread.ensures.none)
 
-pub returns-in-Some-clause-done : goal.returns-in-Some-clause-done
-returns-in-Some-clause-done c =
+pub returns-then-has_ended-clause-more : goal.returns-then-has_ended-clause-more
+returns-then-has_ended-clause-more c = more_none c.args.self.now c.args.found.now.items
+
+pub returns-then-has_ended-clause-done : goal.returns-then-has_ended-clause-done
+returns-then-has_ended-clause-done c = λ none.
+    let there : thread_at c.args.self.now.locals.items c.args.packed.now.parts.items (suc c.args.k) ≡ Some c.in-Some.local.now =
+    rw c.in-Some.is at c.thread.ensures.some in
+    let ended : c.in-Some.local.now ≡ Exits Ended = rw c.if-has_ended.true at c.has_ended.ensures in
+    own_ended c.args.image.now c.args.self.now c.args.packed.now c.args.found.now.items c.args.t
+    (ap (thread_at c.args.self.now.locals.items c.args.packed.now.parts.items) c.requires.number ∙ there
+    ∙ ap (λ z. Some z) ended)
+
+pub returns-else-has_ended-clause-done : goal.returns-else-has_ended-clause-done
+returns-else-has_ended-clause-done c =
     let there : thread_at c.args.self.now.locals.items c.args.packed.now.parts.items (suc c.args.k) ≡ Some c.in-Some.local.now =
     rw c.in-Some.is at c.thread.ensures.some in
     let moves : MovesTo c.args.image.now c.own_step.new.self c.args.packed.now c.own_step.new.found.items c.args.t

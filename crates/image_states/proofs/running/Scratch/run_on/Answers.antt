@@ -1,7 +1,10 @@
-use Rattle.std.proofs.Common.{◌≡◌, ◌<◌, Some, arith, inr, subst}
+use Rattle.std.proofs.Common.{◌≡◌, ◌<◌, Some, arith, inl, inr, refl, subst}
 use Rattle.locals.specs.Steps.{local_after}
 use Rattle.image_states.proofs.Covering.{runs_before}
 use Rattle.image_states.proofs.running.Scratch.run_on.Goals as goal
+
+pub returns-then-is_dying : goal.returns-then-is_dying
+returns-then-is_dying c = (0, record { goes = refl; lives = inl refl })
 
 pub returns-then-dies : goal.returns-then-dies
 returns-then-dies c =
