@@ -10,5 +10,7 @@ pub mod Keeping
 pub mod Coverage
 pub mod Remembered
 pub mod Searched
+pub mod Ended
 pub mod Lively
+pub mod Endable
 pub mod Bounded

@@ -28,11 +28,14 @@ use Rattle.source_search.specs.Bounds.{AreAll}
 use Rattle.source_search.specs.Covered.{IsFollowedOwn}
 use Rattle.source_search.specs.Found.{LeadsNowhere, is_any}
 use Rattle.source_search.specs.Kept.{IsLonger, IsSeen, states_in}
-use Rattle.source_search.specs.Living.{AreBlockedAt, AreLiveFor, ComesToOne, IsAsked, IsClosedOver, IsHeldIn, IsLiveFor}
-use Rattle.source_search.specs.Living.{IsLookedFor, IsResting, RestsInOne}
+use Rattle.source_search.specs.Ends.{IsEndable}
+use Rattle.source_search.specs.Living.{AreBlockedAt, AreLiveFor, AreLiveTo, ComesToOne, IsAsked, IsClosedOver, IsHeldIn}
+use Rattle.source_search.specs.Living.{IsLiveFor, IsLiveTo, IsLookedFor, IsResting, RestsInOne}
 use Rattle.source_search.specs.Packed.{HasKey, IsGrown, IsPackedOf, IsSameKey, IsWithin, process_in, some_process, some_table, table_in}
 use Rattle.source_search.specs.Packed.{unpacked}
 use Rattle.source_search.specs.declared.kept.Kept.{Kept as KeptOf}
+use Rattle.source_search.specs.declared.living.Aim.{Aim as AimOf}
+use Rattle.source_search.specs.declared.living.Aim.TheVariants.{Act, End}
 use Rattle.source_search.specs.declared.living.Resting.{Resting as RestingOf}
 use Rattle.source_search.specs.declared.outside.Outside.{Outside}
 use Rattle.source_search.specs.declared.packed.Packed.{Packed as PackedOf}
@@ -41,6 +44,7 @@ use Rattle.source_search.specs.declared.spot.Spot.{Spot as SpotOf}
 use Rattle.source_search.specs.Spots.{IsSpotOf}
 use Rattle.source_reaching.proofs.Subsets.{contains_map}
 use Rattle.source_search.proofs.Coverage.{covered_like}
+use Rattle.source_search.proofs.Ended.{end_back}
 use Rattle.source_search.proofs.Keeping.{kept_key}
 use Rattle.source_search.proofs.Packing.{same_key, sound_still, states_still, unpacked_still}
 use Rattle.source_search.proofs.Searched.{are_own, complete}
@@ -168,38 +172,39 @@ module _ (p : Program) where
       subst (ComesToOne p kept) (unpacked_still a b g x within)
       (subst (λ states. ComesToOne p states (unpacked b x)) same comes)
 
-  pub live_on : (who : Option ℕ) (kept : List SourceState) (s : SourceState) → AreLiveFor p who kept
-      → ComesToOne p kept s → IsLiveFor p who s
-  live_on who kept s all comes q is =
+  pub live_on : (aim : AimOf) (kept : List SourceState) (s : SourceState) → AreLiveTo p aim kept
+      → ComesToOne p kept s → IsLiveTo p aim s
+  live_on (Act who) kept s all comes = λ q is.
       live_back p s comes.0 q comes.2 (All-contains (IsLiveFor p who) kept comes.0 all comes.1 q is)
+  live_on End kept s all comes = end_back p s comes.0 comes.2 (All-contains (IsEndable p) kept comes.0 all comes.1)
 
   -- one live state more
-  pub one_live : (who : Option ℕ) (parts : PartsOf) (xs ys : List PackedOf) (x : PackedOf) → ys ≡ xs ++ x ∷ []
-      → AreLiveFor p who (states_in parts xs) → IsLiveFor p who (unpacked parts x) → AreLiveFor p who (states_in parts ys)
-  one_live who parts xs ys x is all one =
-      subst (AreLiveFor p who) (sym (ap (states_in parts) is ∙ map_push (unpacked parts) xs x))
-      (All-push (IsLiveFor p who) (states_in parts xs) (unpacked parts x) all one)
+  pub one_live : (aim : AimOf) (parts : PartsOf) (xs ys : List PackedOf) (x : PackedOf) → ys ≡ xs ++ x ∷ []
+      → AreLiveTo p aim (states_in parts xs) → IsLiveTo p aim (unpacked parts x) → AreLiveTo p aim (states_in parts ys)
+  one_live aim parts xs ys x is all one =
+      subst (AreLiveTo p aim) (sym (ap (states_in parts) is ∙ map_push (unpacked parts) xs x))
+      (All-push (IsLiveTo p aim) (states_in parts xs) (unpacked parts x) all one)
 
   -- a state of the parts of a live one
-  pub key_live : (who : Option ℕ) (parts : PartsOf) (xs : List PackedOf) (x : PackedOf)
-      → AreLiveFor p who (states_in parts xs) → HasKey xs x → IsLiveFor p who (unpacked parts x)
-  key_live who parts xs x all (y, c, same) =
-      subst (IsLiveFor p who) (same_key parts y x same)
-      (All-contains (IsLiveFor p who) (states_in parts xs) (unpacked parts y) all (contains_map (unpacked parts) xs y c))
+  pub key_live : (aim : AimOf) (parts : PartsOf) (xs : List PackedOf) (x : PackedOf)
+      → AreLiveTo p aim (states_in parts xs) → HasKey xs x → IsLiveTo p aim (unpacked parts x)
+  key_live aim parts xs x all (y, c, same) =
+      subst (IsLiveTo p aim) (same_key parts y x same)
+      (All-contains (IsLiveTo p aim) (states_in parts xs) (unpacked parts y) all (contains_map (unpacked parts) xs y c))
 
-  pub still_live : (who : Option ℕ) (a b : PartsOf) (xs : List PackedOf) → b ≡ a → AreLiveFor p who (states_in a xs)
-      → AreLiveFor p who (states_in b xs)
-  still_live who a b xs same all = subst (λ parts. AreLiveFor p who (states_in parts xs)) (sym same) all
+  pub still_live : (aim : AimOf) (a b : PartsOf) (xs : List PackedOf) → b ≡ a → AreLiveTo p aim (states_in a xs)
+      → AreLiveTo p aim (states_in b xs)
+  still_live aim a b xs same all = subst (λ parts. AreLiveTo p aim (states_in parts xs)) (sym same) all
 
-  pub none_live : (who : Option ℕ) (parts : PartsOf) (xs : List PackedOf) → xs ≡ [] → AreLiveFor p who (states_in parts xs)
-  none_live who parts xs none =
-      subst (λ ys. AreLiveFor p who (states_in parts ys)) (sym none) (λ k d l. absurd (omega (arith, l)))
+  pub none_live : (aim : AimOf) (parts : PartsOf) (xs : List PackedOf) → xs ≡ [] → AreLiveTo p aim (states_in parts xs)
+  none_live aim parts xs none =
+      subst (λ ys. AreLiveTo p aim (states_in parts ys)) (sym none) (λ k d l. absurd (omega (arith, l)))
 
   -- where the parts of all are those of live ones
-  pub all_live : (who : Option ℕ) (parts : PartsOf) (xs ys : List PackedOf) → AreLiveFor p who (states_in parts xs)
-      → All (HasKey xs) ys → AreLiveFor p who (states_in parts ys)
-  all_live who parts xs ys live all =
-      All-map (IsLiveFor p who) (unpacked parts) ys (λ k d l. key_live who parts xs (get_or ys k d) live (all k d l))
+  pub all_live : (aim : AimOf) (parts : PartsOf) (xs ys : List PackedOf) → AreLiveTo p aim (states_in parts xs)
+      → All (HasKey xs) ys → AreLiveTo p aim (states_in parts ys)
+  all_live aim parts xs ys live all =
+      All-map (IsLiveTo p aim) (unpacked parts) ys (λ k d l. key_live aim parts xs (get_or ys k d) live (all k d l))
 
   -- a process that isn't there, or is over, or can move
   pub over_live : (s : SourceState) (q : ℕ) → ((at : Process) → s.process q ≡ Some at → IsOver at) → IsLive p s q

@@ -6,5 +6,7 @@ pub mod Spots
 pub mod Covered
 pub mod Known
 pub mod Bounds
+pub mod Ends
 pub mod Living
 pub mod Blocking
+pub mod Ending

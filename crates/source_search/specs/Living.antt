@@ -7,6 +7,9 @@ use Rattle.meaning.specs.Runs.{CanMove, IsRun}
 use Rattle.meaning.specs.States.{SourceState}
 use Rattle.proof_exploration.specs.Blocking.{ComesTo, GoesOn, IsBlocked, IsHeldUp, IsLive, MayWait}
 use Rattle.proof_exploration.specs.Searching.{IsCovered, IsExpanded}
+use Rattle.source_search.specs.Ends.{IsEndable}
+use Rattle.source_search.specs.declared.living.Aim.{Aim as AimOf}
+use Rattle.source_search.specs.declared.living.Aim.TheVariants.{Act, End}
 use Rattle.source_search.specs.declared.living.Resting.{Resting as RestingOf}
 
 -- this process is asked for, where one alone is
@@ -21,6 +24,16 @@ IsLiveFor p who s = (q : ℕ) → IsAsked who q → IsLive p s q
 -- each of these states is so
 abbrev pub AreLiveFor : Program → Option ℕ → List SourceState → Type 0
 AreLiveFor p who kept = All (IsLiveFor p who) kept
+
+-- what is aimed at may still come about, wherever a run leads to a state like this one: these processes may do something,
+-- or all may come to be over
+abbrev pub IsLiveTo : Program → AimOf → SourceState → Type 0
+IsLiveTo p (Act who) = IsLiveFor p who
+IsLiveTo p End = IsEndable p
+
+-- in each of these states it may
+abbrev pub AreLiveTo : Program → AimOf → List SourceState → Type 0
+AreLiveTo p aim kept = All (IsLiveTo p aim) kept
 
 -- processes' own actions lead from the state to one of these
 abbrev pub ComesToOne : Program → List SourceState → SourceState → Type 0

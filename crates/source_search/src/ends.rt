@@ -1,10 +1,11 @@
 ghost use Rattle.std.specs.Prelude.{◌≡◌, All, IfOk, MatchBool, Some, false, true, ℕ};
 ghost use Rattle.program.specs.Views.{program_of};
 ghost use Rattle.meaning.specs.Labels.{Aborted, Cause as CauseIn};
-ghost use Rattle.meaning.specs.Processes.{Over};
+ghost use Rattle.meaning.specs.Processes.{Over, Process as ProcessIn};
 ghost use Rattle.source_offers.specs.Stages.{process_of};
 ghost use Rattle.source_states.specs.States.{state_of};
 ghost use Rattle.proof_exploration.specs.Exploring.{IsOver, IsStuck};
+ghost use Rattle.source_search.specs.Ends.{IsEnded};
 ghost use Rattle.source_search.specs.Found.{FailedAt, GoesOn, HasFailed, IsCounted};
 ghost use Rattle.source_search.specs.Packed.{process_in, unpacked};
 
@@ -155,4 +156,30 @@ pub(crate) fn some_part_failed(parts: &Parts, packed: &Packed, outside: Outside)
         }
     }
     false
+}
+
+// Whether the process of this number is over; so it is where there is none.
+fn is_part_over(parts: &Parts, part: u32) -> bool
+    ensures { MatchBool result
+        ((q : ProcessIn) → process_in parts.now.processes.items part ≡ Some q → IsOver q)
+        ((q : ProcessIn) × (process_in parts.now.processes.items part ≡ Some q) × (IsOver q → ⊥)) }
+{
+    match parts.processes.get(part as usize) {
+        None => true,
+        Some(process) => is_over(process),
+    }
+}
+
+/// Whether every process of a kept state is over.
+pub(crate) fn are_over(parts: &Parts, packed: &Packed) -> bool
+    ensures over { result ≡ true → IsEnded (unpacked parts.now packed.now) }
+    ensures goes_on { result ≡ false → IsEnded (unpacked parts.now packed.now) → ⊥ }
+{
+    let processes = packed.processes.as_slice();
+    for place in 0..processes.len() {
+        if !is_part_over(parts, processes[place]) {
+            return false;
+        }
+    }
+    true
 }

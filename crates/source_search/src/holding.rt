@@ -123,9 +123,9 @@ fn held_of(
     Ok(held)
 }
 
-// Searches all that processes' own actions lead to from a state, as far as so many states may be kept; false where that
-// isn't all.
-fn search_from<'a>(
+/// Searches all that processes' own actions lead to from a state, as far as so many states may be kept; false where that
+/// isn't all.
+pub(crate) fn search_from<'a>(
     alloc: Global,
     checked: &'a Checked,
     kept: &mut Kept<'a>,

@@ -1,12 +1,14 @@
-//! A search over all runs of a source program: whether one gets stuck, whether a process aborts in one, and
-//! whether one is blocked for good.
+//! A search over all runs of a source program: whether one gets stuck, whether a process aborts in one, whether one is
+//! blocked for good, and whether each run can end.
 #![tactic(auto)]
 
+mod asked;
 mod blocking;
 mod bounds;
 mod choices;
 mod covering;
 mod digest;
+mod ending;
 mod ends;
 mod held_up;
 mod holding;
@@ -14,6 +16,7 @@ mod kept;
 mod killing;
 mod learning;
 mod living;
+mod lost;
 mod making;
 mod memo;
 mod merging;
@@ -28,8 +31,10 @@ mod search;
 mod spot;
 mod walking;
 
+pub use asked::Asked;
 pub use blocking::Blocked;
 pub use bounds::Bound;
+pub use ending::Ending;
 pub use outside::Outside;
 pub use progress::{Progress, Untold};
 pub use runs::{Exploration, explore};

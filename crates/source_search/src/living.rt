@@ -7,7 +7,7 @@ ghost use Rattle.source_search.specs.Living.{IsAsked, IsResting};
 ghost use Rattle.source_search.specs.Packed.{IsWithin, process_in, unpacked};
 
 use crate::digest::digest_packed;
-use crate::ends::{goes_on_at, is_over};
+use crate::ends::{are_over, goes_on_at, is_over};
 use crate::kept::{Kept, Origin};
 use crate::memo::Memo;
 use crate::packed::Packed;
@@ -24,6 +24,15 @@ pub(crate) struct Resting {
     pub process: u64,
     /// The place of the state.
     pub place: usize,
+}
+
+/// What states are searched for from which it may still come about: they are the live ones.
+#[derive(Clone, Copy)]
+pub(crate) enum Aim {
+    /// The process of this number, or each where none is named, does something, or is over.
+    Act(Option<u64>),
+    /// Every process is over.
+    End,
 }
 
 // Whether a process is asked for: where none is named, each is.
@@ -110,7 +119,9 @@ impl<'a> Kept<'a> {
     ghost use Rattle.std.specs.Prelude.{◌++◌, ◌∷◌, [], Contains, MatchOption, None, OnOk, Option, ℕ, suc};
     ghost use Rattle.source_search.specs.Kept.{IsSound, states_in, states_of};
     ghost use Rattle.source_search.specs.Known.{AreKnown};
-    ghost use Rattle.source_search.specs.Living.{AreLiveFor, ComesToOne, IsLiveFor, IsLookedFor, RestsInOne};
+    ghost use Rattle.source_search.specs.Living.{AreLiveFor, AreLiveTo, ComesToOne, IsLiveFor, IsLiveTo, IsLookedFor};
+    ghost use Rattle.source_search.specs.Living.{RestsInOne};
+    ghost use Rattle.source_search.specs.declared.living.Aim.TheVariants.{Act};
     ghost use Rattle.source_search.specs.Packed.{HasKey, IsGrown};
 
     // Whether the process at this place of a kept state may do something, or is over.
@@ -248,8 +259,27 @@ impl<'a> Kept<'a> {
         Ok(false)
     }
 
-    // Whether a kept state is live: each process that is asked for may do something in it, or is over; or it comes to a
-    // live one.
+    // Whether what is aimed at has come about in a kept state already.
+    fn is_there(
+        &self,
+        alloc: Global,
+        checked: &'a Checked,
+        memo: &Memo,
+        packed: &Packed,
+        aim: Aim,
+    ) -> Result<bool, AllocError>
+        requires within { IsWithin self.now.parts packed.now }
+        requires known { AreKnown (program_of checked.now.tree) self.now.parts memo.now }
+        ensures { IfOk result (λ b. b ≡ true
+            → IsLiveTo (program_of checked.now.tree) aim (unpacked self.now.parts packed.now)) }
+    {
+        match aim {
+            Aim::Act(who) => self.are_able(alloc, checked, memo, packed, who),
+            Aim::End => Ok(are_over(&self.parts, packed)),
+        }
+    }
+
+    // Whether a kept state is live: what is aimed at has come about in it, or it comes to a live one.
     fn is_live(
         &mut self,
         alloc: Global,
@@ -257,20 +287,20 @@ impl<'a> Kept<'a> {
         memo: &mut Memo,
         packed: &Packed,
         origin: Origin,
-        who: Option<u64>,
+        aim: Aim,
     ) -> Result<bool, AllocError>
         requires sound { IsSound self.old }
         requires within { IsWithin self.old.parts packed.now }
         requires known { AreKnown (program_of checked.now.tree) self.old.parts memo.old }
-        requires live { AreLiveFor (program_of checked.now.tree) who (states_of self.old) }
+        requires live { AreLiveTo (program_of checked.now.tree) aim (states_of self.old) }
         ensures sound { OnOk result (IsSound self.new) }
         ensures grown { OnOk result (IsGrown self.old.parts self.new.parts) }
         ensures known { OnOk result (AreKnown (program_of checked.now.tree) self.new.parts memo.new) }
         ensures same { OnOk result (states_of self.new ≡ states_of self.old) }
         ensures live { IfOk result (λ b. b ≡ true
-            → IsLiveFor (program_of checked.now.tree) who (unpacked self.old.parts packed.now)) }
+            → IsLiveTo (program_of checked.now.tree) aim (unpacked self.old.parts packed.now)) }
     {
-        if self.are_able(alloc, checked, memo, packed, who)? {
+        if self.is_there(alloc, checked, memo, packed, aim)? {
             return Ok(true);
         }
         if self.goes_on(alloc, checked, memo, packed, origin)? {
@@ -297,16 +327,16 @@ impl<'a> Kept<'a> {
         checked: &'a Checked,
         memo: &mut Memo,
         packed: &Packed,
-        who: Option<u64>,
+        aim: Aim,
     ) -> Result<(), AllocError>
         requires sound { IsSound self.old }
         requires within { IsWithin self.old.parts packed.now }
         requires known { AreKnown (program_of checked.now.tree) self.old.parts memo.old }
-        requires live { AreLiveFor (program_of checked.now.tree) who (states_of self.old) }
+        requires live { AreLiveTo (program_of checked.now.tree) aim (states_of self.old) }
         ensures sound { OnOk result (IsSound self.new) }
         ensures grown { OnOk result (IsGrown self.old.parts self.new.parts) }
         ensures known { OnOk result (AreKnown (program_of checked.now.tree) self.new.parts memo.new) }
-        ensures live { OnOk result (AreLiveFor (program_of checked.now.tree) who (states_of self.new)) }
+        ensures live { OnOk result (AreLiveTo (program_of checked.now.tree) aim (states_of self.new)) }
     {
         let digest = digest_packed(packed);
         if self.is_noted(digest, packed) {
@@ -314,7 +344,7 @@ impl<'a> Kept<'a> {
         }
         let copied = packed.copy(alloc)?;
         let origin = Origin { place: 0, digest };
-        if !self.is_live(alloc, checked, memo, packed, origin, who)? {
+        if !self.is_live(alloc, checked, memo, packed, origin, aim)? {
             return Ok(());
         }
         self.note_live(alloc, copied, digest)?;
@@ -328,20 +358,20 @@ impl<'a> Kept<'a> {
         checked: &'a Checked,
         memo: &mut Memo,
         states: &[Packed],
-        who: Option<u64>,
+        aim: Aim,
     ) -> Result<(), AllocError>
         requires sound { IsSound self.old }
         requires within { All (IsWithin self.old.parts) states.now }
         requires known { AreKnown (program_of checked.now.tree) self.old.parts memo.old }
-        requires live { AreLiveFor (program_of checked.now.tree) who (states_of self.old) }
+        requires live { AreLiveTo (program_of checked.now.tree) aim (states_of self.old) }
         ensures sound { OnOk result (IsSound self.new) }
         ensures grown { OnOk result (IsGrown self.old.parts self.new.parts) }
         ensures known { OnOk result (AreKnown (program_of checked.now.tree) self.new.parts memo.new) }
-        ensures live { OnOk result (AreLiveFor (program_of checked.now.tree) who (states_of self.new)) }
+        ensures live { OnOk result (AreLiveTo (program_of checked.now.tree) aim (states_of self.new)) }
     {
         for behind in 0..states.len() {
             let packed = &states[states.len() - 1 - behind];
-            self.look_again(alloc, checked, memo, packed, who)?;
+            self.look_again(alloc, checked, memo, packed, aim)?;
         }
         Ok(())
     }
@@ -353,20 +383,20 @@ impl<'a> Kept<'a> {
         checked: &'a Checked,
         memo: &mut Memo,
         states: &[Packed],
-        who: Option<u64>,
+        aim: Aim,
     ) -> Result<(), AllocError>
         requires sound { IsSound self.old }
         requires within { All (IsWithin self.old.parts) states.now }
         requires known { AreKnown (program_of checked.now.tree) self.old.parts memo.old }
-        requires live { AreLiveFor (program_of checked.now.tree) who (states_of self.old) }
+        requires live { AreLiveTo (program_of checked.now.tree) aim (states_of self.old) }
         ensures sound { OnOk result (IsSound self.new) }
         ensures grown { OnOk result (IsGrown self.old.parts self.new.parts) }
         ensures known { OnOk result (AreKnown (program_of checked.now.tree) self.new.parts memo.new) }
-        ensures live { OnOk result (AreLiveFor (program_of checked.now.tree) who (states_of self.new)) }
+        ensures live { OnOk result (AreLiveTo (program_of checked.now.tree) aim (states_of self.new)) }
     {
         for _ in 0..states.len() {
             let before = self.states.len();
-            self.look_back(alloc, checked, memo, states, who)?;
+            self.look_back(alloc, checked, memo, states, aim)?;
             if self.states.len() == before {
                 return Ok(());
             }
@@ -374,23 +404,23 @@ impl<'a> Kept<'a> {
         Ok(())
     }
 
-    // Finds those of these states that are live.
-    fn find_live(
+    /// Finds those of these states that are live, and keeps them in place of what was kept.
+    pub fn find_live(
         &mut self,
         alloc: Global,
         checked: &'a Checked,
         memo: &mut Memo,
         states: &[Packed],
-        who: Option<u64>,
+        aim: Aim,
     ) -> Result<(), AllocError>
         requires within { All (IsWithin self.old.parts) states.now }
         requires known { AreKnown (program_of checked.now.tree) self.old.parts memo.old }
         ensures grown { OnOk result (IsGrown self.old.parts self.new.parts) }
         ensures known { OnOk result (AreKnown (program_of checked.now.tree) self.new.parts memo.new) }
-        ensures live { OnOk result (AreLiveFor (program_of checked.now.tree) who (states_of self.new)) }
+        ensures live { OnOk result (AreLiveTo (program_of checked.now.tree) aim (states_of self.new)) }
     {
         self.begin(alloc);
-        self.spread(alloc, checked, memo, states, who)?;
+        self.spread(alloc, checked, memo, states, aim)?;
         Ok(())
     }
 
@@ -415,7 +445,7 @@ impl<'a> Kept<'a> {
         process: u64,
     ) -> Result<bool, AllocError>
         requires within { IsWithin self.now.parts packed.now }
-        requires live { AreLiveFor (program_of checked.now.tree) (Some process) (states_of self.now) }
+        requires live { AreLiveTo (program_of checked.now.tree) (Act (Some process)) (states_of self.now) }
         ensures { IfOk result (λ b. MatchBool b
             (IsResting (program_of checked.now.tree) (unpacked self.now.parts packed.now) process)
             (IsLive (program_of checked.now.tree) (unpacked self.now.parts packed.now) process)) }
@@ -435,7 +465,7 @@ impl<'a> Kept<'a> {
         process: u64,
     ) -> Result<Option<usize>, AllocError>
         requires within { All (IsWithin self.now.parts) states.now }
-        requires live { AreLiveFor (program_of checked.now.tree) (Some process) (states_of self.now) }
+        requires live { AreLiveTo (program_of checked.now.tree) (Act (Some process)) (states_of self.now) }
         ensures { IfOk result (λ o. MatchOption o
             (AreLiveFor (program_of checked.now.tree) (Some process) (states_in self.now.parts states.now))
             (λ place. RestsInOne (program_of checked.now.tree) (states_in self.now.parts states.now) process)) }
@@ -465,7 +495,7 @@ impl<'a> Kept<'a> {
             (AreLiveFor (program_of checked.now.tree) (Some process) (states_in self.old.parts states.now))
             (λ place. RestsInOne (program_of checked.now.tree) (states_in self.old.parts states.now) process)) }
     {
-        self.find_live(alloc, checked, memo, states, Some(process))?;
+        self.find_live(alloc, checked, memo, states, Aim::Act(Some(process)))?;
         self.first_rest(alloc, checked, states, process)
     }
 
@@ -506,7 +536,7 @@ impl<'a> Kept<'a> {
         ensures grown { OnOk result (IsGrown self.old.parts self.new.parts) }
         ensures found { IfOk result (IsLookedFor (program_of checked.now.tree) (states_in self.old.parts states.now)) }
     {
-        self.find_live(alloc, checked, memo, states, None)?;
+        self.find_live(alloc, checked, memo, states, Aim::Act(None))?;
         if self.has_all(states) {
             return Ok(None);
         }

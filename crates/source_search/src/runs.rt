@@ -5,12 +5,15 @@ ghost use Rattle.proof_exploration.specs.Exploring.{IsStuck};
 ghost use Rattle.meaning.specs.States.{SourceState as SourceStateOf, opening};
 ghost use Rattle.source_search.specs.Blocking.{IsTold};
 ghost use Rattle.source_search.specs.Bounds.{AreAll, HasSearched, IsMet};
+ghost use Rattle.source_search.specs.Ending.{IsEndTold};
 ghost use Rattle.source_search.specs.Found.{HasFailed, LeadsNowhere, LeadsTo, is_any};
 ghost use Rattle.source_search.specs.declared.outside.Outside.{Outside as OutsideOf};
 ghost use Rattle.source_search.specs.Kept.{IsSeen, IsSound, states_of};
 
+use crate::asked::Asked;
 use crate::blocking::{Blocked, look_for_resting, told_blocked};
 use crate::bounds::Bound;
+use crate::ending::{Ending, look_for_lost, told_ending};
 use crate::ends::{has_failed, is_stuck};
 use crate::kept::Kept;
 use crate::outside::{Outside, are_from};
@@ -35,6 +38,8 @@ pub struct Exploration {
     pub aborted: Option<Vec<Action>>,
     /// A run at whose end some processes are blocked for good, where it was looked for and found.
     pub blocked: Blocked,
+    /// A run that can't end any more, where it was asked for, looked for and found.
+    pub ending: Ending,
     /// Why the search wasn't complete, where it wasn't.
     pub bound: Option<Bound>,
 }
@@ -236,6 +241,7 @@ fn explore_from<'a, P: Progress>(
     kept: &mut Kept<'a>,
     most_states: usize,
     outside: Outside,
+    asked: Asked,
     progress: &mut P,
 ) -> Result<Exploration, AllocError>
     requires sound { IsSound kept.old }
@@ -249,6 +255,8 @@ fn explore_from<'a, P: Progress>(
         → LeadsNowhere (program_of checked.now.tree) outside (HasFailed outside)) }
     ensures blocked { IfOk result
         (λ e. IsTold (program_of checked.now.tree) outside e.complete e.blocked) }
+    ensures ending { IfOk result
+        (λ e. IsEndTold (program_of checked.now.tree) outside asked.ends e.complete e.ending) }
     ensures searched { IfOk result (HasSearched (program_of checked.now.tree) outside most_states) }
 {
     let _program = checked.program();
@@ -256,10 +264,21 @@ fn explore_from<'a, P: Progress>(
     let findings = search(alloc, checked, kept, most_states, outside, progress)?;
     let all = kept.states.as_slice();
     let states = all.len();
+    let lost = look_for_lost(alloc, checked, kept, asked.ends, findings.complete, outside)?;
     let found = look_for_resting(alloc, checked, kept, findings.complete, outside)?;
     let told = runs_found(alloc, checked, kept, &findings, outside)?;
     let complete = is_complete(opens, &findings, &told);
     let blocked = told_blocked(alloc, checked, kept, found, complete, most_states, outside)?;
+    let ending = told_ending(
+        alloc,
+        checked,
+        kept,
+        lost,
+        asked.ends,
+        complete,
+        most_states,
+        outside,
+    )?;
     let bound = bound_unless(complete, opens, &findings, most_states, states);
     let Told { stuck, aborted } = told;
     Ok(Exploration {
@@ -268,6 +287,7 @@ fn explore_from<'a, P: Progress>(
         stuck,
         aborted,
         blocked,
+        ending,
         bound,
     })
 }
@@ -278,13 +298,15 @@ fn explore_from<'a, P: Progress>(
 /// one in which a process aborts. Where nothing comes from outside a process whose next action is calm, so that none of
 /// the others races with it, is followed alone. What is found is such a run. Where the search came to its end and none
 /// was found, there is none. Where nothing from outside is searched, a complete search tells a run at whose end some
-/// processes are blocked for good, or that there is none. It comes to its end unless it meets a bound, which is named: as many states are kept as may
-/// be, or one of the others. How far it has come is told as it goes.
+/// processes are blocked for good, or that there is none; and where it is asked for, a run that can't end any more, or
+/// that each run can end. It comes to its end unless it meets a bound, which is named: as many states are kept as may be,
+/// or one of the others. How far it has come is told as it goes.
 pub fn explore<P: Progress>(
     alloc: Global,
     checked: &Checked,
     most_states: usize,
     outside: Outside,
+    asked: Asked,
     progress: &mut P,
 ) -> Result<Exploration, AllocError>
     ensures stuck { IfOk result (λ e. IfSome e.stuck (λ v. LeadsTo (program_of checked.now.tree) outside
@@ -297,8 +319,18 @@ pub fn explore<P: Progress>(
         → LeadsNowhere (program_of checked.now.tree) outside (HasFailed outside)) }
     ensures blocked { IfOk result
         (λ e. IsTold (program_of checked.now.tree) outside e.complete e.blocked) }
+    ensures ending { IfOk result
+        (λ e. IsEndTold (program_of checked.now.tree) outside asked.ends e.complete e.ending) }
     ensures searched { IfOk result (HasSearched (program_of checked.now.tree) outside most_states) }
 {
     let mut kept = Kept::new(alloc, most_states);
-    explore_from(alloc, checked, &mut kept, most_states, outside, progress)
+    explore_from(
+        alloc,
+        checked,
+        &mut kept,
+        most_states,
+        outside,
+        asked,
+        progress,
+    )
 }

@@ -1,4 +1,4 @@
-use Rattle.std.proofs.Common.{◌≡◌, ◌∙◌, ap, false, length, sym, true}
+use Rattle.std.proofs.Common.{◌≡◌, ◌∙◌, ap, false, length, subst, sym, true}
 use Rattle.std.proofs.lemmas.List.{length-map}
 use Rattle.program.specs.Views.{program_of}
 use Rattle.meaning.specs.States.{opening}
@@ -8,7 +8,9 @@ use Rattle.source_search.specs.Kept.{states_of}
 use Rattle.source_search.specs.Packed.{unpacked}
 use Rattle.source_search.proofs.Bounded.{completed, ended}
 use Rattle.source_search.proofs.Keeping.{seen_still}
+use Rattle.source_search.specs.Living.{IsLookedFor}
 use Rattle.source_search.proofs.Lively.{looked_for}
+use Rattle.source_search.proofs.Endable.{end_looked_for}
 use Rattle.source_search.proofs.Searched.{nowhere_aborted, nowhere_stuck}
 use Rattle.source_search.proofs.runs.explore_from.Goals as goal
 
@@ -46,7 +48,22 @@ returns-clause-blocked g c =
       expanded = c.in_ok-findings.ensures.expanded (c.is_complete-complete.ensures.complete complete);
     } in
     looked_for p c.program-program.ensures.well_formed c.args.outside kept all none c.in_ok-found.found
-    (c.in_ok-found.ensures (c.is_complete-complete.ensures.complete complete) none))
+    (subst (λ xs. IsLookedFor p xs c.in_ok-found.found) c.in_ok-lost.ensures.same
+    (c.in_ok-found.ensures (c.is_complete-complete.ensures.complete complete) none)))
+
+pub returns-clause-ending : goal.returns-clause-ending
+returns-clause-ending g c =
+    let p = program_of c.args.checked.now.tree in
+    let kept = states_of c.search.new.kept in
+    c.in_ok-ending.ensures (λ asked complete none.
+    let all : AreAll p c.args.outside kept = record {
+      opens = seen_still (states_of c.keep_opening.new.kept) kept c.in_ok-findings.ensures.longer p
+          (is_any c.args.outside) (opening p)
+          (c.in_ok-opens.ensures.seen (c.is_complete-complete.ensures.opens complete));
+      expanded = c.in_ok-findings.ensures.expanded (c.is_complete-complete.ensures.complete complete);
+    } in
+    end_looked_for p c.program-program.ensures.well_formed c.args.outside kept all none c.in_ok-lost.lost
+    (c.in_ok-lost.ensures.found asked (c.is_complete-complete.ensures.complete complete) none))
 
 pub returns-clause-searched : goal.returns-clause-searched
 returns-clause-searched g c =

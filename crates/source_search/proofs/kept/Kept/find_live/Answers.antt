@@ -20,5 +20,5 @@ spread-requires-clause-known c =
 
 pub spread-requires-clause-live : goal.spread-requires-clause-live
 spread-requires-clause-live c =
-    none_live (program_of c.args.checked.now.tree) c.args.who c.begin.new.self.parts c.begin.new.self.states.items
+    none_live (program_of c.args.checked.now.tree) c.args.aim c.begin.new.self.parts c.begin.new.self.states.items
     c.begin.ensures.states

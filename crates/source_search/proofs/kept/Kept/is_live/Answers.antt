@@ -12,7 +12,7 @@ goes_by_choice-requires-clause-within c = within_still c.args.self.now.parts c.g
 
 pub returns-then-branch-2-clause-live : goal.returns-then-branch-2-clause-live
 returns-then-branch-2-clause-live c = λ e.
-    live_on (program_of c.args.checked.now.tree) c.args.who (states_of c.args.self.now)
+    live_on (program_of c.args.checked.now.tree) c.args.aim (states_of c.args.self.now)
     (unpacked c.args.self.now.parts c.args.packed.now) c.requires.live (c.in_ok-goes_on.ensures.comes c.if-branch-2.true)
 
 pub returns-clause-known : goal.returns-clause-known
@@ -22,7 +22,7 @@ returns-clause-known c = all_still c.goes_on.new.self.parts c.goes_by_choice.new
 pub returns-clause-live : goal.returns-clause-live
 returns-clause-live c = λ e.
     let p = program_of c.args.checked.now.tree in
-    live_on p c.args.who (states_of c.args.self.now) (unpacked c.args.self.now.parts c.args.packed.now) c.requires.live
+    live_on p c.args.aim (states_of c.args.self.now) (unpacked c.args.self.now.parts c.args.packed.now) c.requires.live
     (comes_still p c.args.self.now.parts c.goes_on.new.self.parts c.in_ok-goes_on.ensures.grown c.args.packed.now
     c.requires.within (states_of c.args.self.now) (states_of c.goes_on.new.self) c.in_ok-goes_on.ensures.same
     (c.in_ok-live.ensures.comes e))

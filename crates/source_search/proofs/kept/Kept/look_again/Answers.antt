@@ -1,7 +1,7 @@
 use Rattle.std.proofs.Common.{◌∙◌, subst, sym}
 use Rattle.program.specs.Views.{program_of}
 use Rattle.source_search.specs.Known.{AreKnown}
-use Rattle.source_search.specs.Living.{AreLiveFor, IsLiveFor}
+use Rattle.source_search.specs.Living.{AreLiveTo, IsLiveTo}
 use Rattle.source_search.specs.Packed.{IsGrown}
 use Rattle.source_search.proofs.Keeping.{sound_one}
 use Rattle.source_search.proofs.Lively.{key_within, one_live, still_live, still_sound}
@@ -10,7 +10,7 @@ use Rattle.source_search.proofs.kept.Kept.look_again.Goals as goal
 
 pub returns-then-not-branch-clause-live : goal.returns-then-not-branch-clause-live
 returns-then-not-branch-clause-live c =
-    subst (AreLiveFor (program_of c.args.checked.now.tree) c.args.who) (sym c.in_ok-is_live.ensures.same) c.requires.live
+    subst (AreLiveTo (program_of c.args.checked.now.tree) c.args.aim) (sym c.in_ok-is_live.ensures.same) c.requires.live
 
 pub returns-clause-sound : goal.returns-clause-sound
 returns-clause-sound c =
@@ -36,11 +36,11 @@ returns-clause-live c =
     let a = c.args.self.now.parts in
     let b = c.is_live.new.self.parts in
     let x = c.args.packed.now in
-    still_live p c.args.who b c.note_live.new.self.parts c.note_live.new.self.states.items c.in_ok-note_live.ensures.parts
-    (one_live p c.args.who b c.is_live.new.self.states.items c.note_live.new.self.states.items c.in_ok-copied.copied
+    still_live p c.args.aim b c.note_live.new.self.parts c.note_live.new.self.states.items c.in_ok-note_live.ensures.parts
+    (one_live p c.args.aim b c.is_live.new.self.states.items c.note_live.new.self.states.items c.in_ok-copied.copied
     c.in_ok-note_live.ensures.states
-    (subst (AreLiveFor p c.args.who) (sym c.in_ok-is_live.ensures.same) c.requires.live)
-    (subst (IsLiveFor p c.args.who)
+    (subst (AreLiveTo p c.args.aim) (sym c.in_ok-is_live.ensures.same) c.requires.live)
+    (subst (IsLiveTo p c.args.aim)
     (sym (unpacked_still a b c.in_ok-is_live.ensures.grown x c.requires.within)
     ∙ same_key b x c.in_ok-copied.copied c.in_ok-copied.ensures)
     (c.in_ok-is_live.ensures.live c.if-not-branch.false)))
