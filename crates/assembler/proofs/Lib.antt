@@ -4,3 +4,4 @@ pub mod Rows
 pub mod Shown
 pub mod Lines
 pub mod Within
+pub mod Encoded

@@ -7,7 +7,7 @@ use Rattle.isa.specs.Instructions.{IsInstruction, operands}
 use Rattle.isa.specs.declared.instr.Instr.{Instr}
 use Rattle.isa.specs.Lines.{lines}
 use Rattle.isa.specs.Programs.{Program}
-use Rattle.isa.specs.Spelling.{AreWords, IsSpelled}
+use Rattle.isa.specs.Spelling.{AreWords, HasByte, IsSpelled}
 use Rattle.assembler.specs.declared.refusal.AssemblyRefusal.{AssemblyRefusal}
 use Rattle.assembler.specs.declared.refusal.AssemblyFault.TheVariants.{Memory}
 
@@ -27,9 +27,15 @@ plain code = record { version = Two; monitors = []; start = 0; code = code }
 abbrev pub IsListing : List ℕ → List Instr → Type 0
 IsListing text code = (text ≡ lines 0 code) × IsSpelled (plain code)
 
--- an image of the text: where that is just the lines of instructions which an image can have, it has these alone
-abbrev pub IsAssembled : List ℕ → Program → Type 0
-IsAssembled text p = (code : List Instr) → IsListing text code → p ≡ plain code
+-- an image that bytes can spell
+abbrev pub IsEncoded : Program → Type 0
+IsEncoded p = HasByte p.version × IsSpelled p
+
+-- an image of the text, which bytes can spell: where the text is just the lines of instructions which an image can have, it has
+-- these alone
+pub record IsAssembled (text : List ℕ) (p : Program) : Type 0 where
+  pub encoded : IsEncoded p
+  pub listing : (code : List Instr) → IsListing text code → p ≡ plain code
 
 -- the text is refused so: it is no such lines, but where memory has run out
 abbrev pub RefusesText : List ℕ → AssemblyRefusal → Type 0

@@ -1,5 +1,5 @@
 ghost use Rattle.std.specs.Prelude.{◌≡◌, IfErr, IfOk, MatchResult, length, vec_len};
-ghost use Rattle.assembler.specs.Listings.{IsAssembled, RefusesText};
+ghost use Rattle.assembler.specs.Listings.{IsAssembled, IsEncoded, RefusesText};
 ghost use Rattle.assembler.specs.Refusals.{out_of_memory};
 
 use crate::draft::Draft;
@@ -60,7 +60,8 @@ fn refused(fault: AssemblyFault) -> AssemblyRefusal {
 
 // What a draft is.
 fn finish<'t>(alloc: Global, draft: &Draft<'t>) -> Result<Assembled<'t>, AssemblyRefusal>
-    ensures { IfOk result (λ a. vec_len a.lines ≡ length a.image.code) }
+    ensures lines { IfOk result (λ a. vec_len a.lines ≡ length a.image.code) }
+    ensures encoded { IfOk result (λ a. IsEncoded a.image) }
 {
     if draft.code.is_empty() {
         return Err(refused(AssemblyFault::Start));
@@ -103,7 +104,8 @@ fn listed<'t>(alloc: Global, image: Image) -> Result<Assembled<'t>, AssemblyRefu
 
 // The image of a text that isn't a listing.
 fn read<'t>(alloc: Global, text: &'t [u8]) -> Result<Assembled<'t>, AssemblyRefusal>
-    ensures { IfOk result (λ a. vec_len a.lines ≡ length a.image.code) }
+    ensures lines { IfOk result (λ a. vec_len a.lines ≡ length a.image.code) }
+    ensures encoded { IfOk result (λ a. IsEncoded a.image) }
 {
     let draft = Draft::of(alloc, text)?;
     finish(alloc, &draft)
@@ -112,7 +114,8 @@ fn read<'t>(alloc: Global, text: &'t [u8]) -> Result<Assembled<'t>, AssemblyRefu
 /// The image of an assembly text (docs/assembly.md), and where it stands in the text.
 ///
 /// The lines that `list` prints of an image's instructions are a text that is never refused, memory aside. Its image has
-/// just these instructions: it is of the second version, without monitors, and begins at the first one.
+/// just these instructions: it is of the second version, without monitors, and begins at the first one. Of any text the image
+/// is of the first version or the second, and `isa::decode` reads its bytes as it is.
 ///
 /// # Errors
 ///
@@ -123,7 +126,8 @@ pub fn assemble<'t>(alloc: Global, text: &'t [u8]) -> Result<Assembled<'t>, Asse
     ensures image { IfOk result (λ a. IsAssembled text.now a.image) }
     ensures refused { IfErr result (RefusesText text.now) }
 {
-    match listed_image(alloc, text)? {
+    let known = listed_image(alloc, text)?;
+    match known {
         Some(image) => listed(alloc, image),
         None => read(alloc, text),
     }

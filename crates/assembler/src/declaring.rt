@@ -1,12 +1,11 @@
 // The lines that declare something.
 
-use crate::draft::Draft;
+use crate::draft::{DeclaredVersion, Draft};
 use crate::line_words::Word;
 use crate::names::Meaning;
 use crate::numbers::number_of;
 use crate::refusal::{AssemblyFault, AssemblyRefusal};
 use isa::{MOST_LOCALS, MOST_MEMBER_WORDS, MOST_MONITORS};
-use words::ImageVersion;
 
 // The one word behind the first.
 fn only<'w, 't>(first: &Word<'t>, words: &'w [Word<'t>]) -> Result<&'w Word<'t>, AssemblyRefusal> {
@@ -66,8 +65,8 @@ impl<'t> Draft<'t> {
             return Err(first.refused(AssemblyFault::Twice));
         }
         self.version = match number(word)? {
-            1 => Some(ImageVersion::One),
-            2 => Some(ImageVersion::Two),
+            1 => Some(DeclaredVersion::One),
+            2 => Some(DeclaredVersion::Two),
             _ => return Err(word.refused(AssemblyFault::Number)),
         };
         Ok(())

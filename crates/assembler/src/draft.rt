@@ -1,11 +1,34 @@
 // A text that is being read: what is declared in it, and its instructions, whose operands may be names.
 
+ghost use Rattle.isa.specs.Spelling.{HasByte};
+
 use crate::line_words::Word;
 use crate::names::Names;
 use crate::refusal::{AssemblyFault, AssemblyRefusal};
 use isa::{Instr, MOST_INSTRUCTIONS};
 use std::alloc::Global;
 use words::ImageVersion;
+
+/// A version that a text can declare: one that has a byte.
+#[derive(Clone, Copy)]
+pub(crate) enum DeclaredVersion {
+    /// The first.
+    One,
+    /// The second.
+    Two,
+}
+
+impl DeclaredVersion {
+    /// The version of an image.
+    pub fn version(self) -> ImageVersion
+        ensures { HasByte result }
+    {
+        match self {
+            DeclaredVersion::One => ImageVersion::One,
+            DeclaredVersion::Two => ImageVersion::Two,
+        }
+    }
+}
 
 /// An operand that stands in an instruction itself.
 #[derive(Clone, Copy)]
@@ -33,7 +56,7 @@ pub(crate) struct Drafted<'t> {
 #[derive(Drop)]
 pub(crate) struct Draft<'t> {
     /// The version, where one is declared.
-    pub version: Option<ImageVersion>,
+    pub version: Option<DeclaredVersion>,
     /// Where the first thread begins, where that is declared.
     pub start: Option<Word<'t>>,
     /// How many members each monitor without a name has.

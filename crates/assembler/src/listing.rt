@@ -4,7 +4,7 @@ ghost use Rattle.isa.specs.Lines.{lines, place_text};
 ghost use Rattle.isa.specs.Spelling.{AreWords};
 ghost use Rattle.isa.specs.Texts.{instruction_text};
 ghost use Rattle.isa.specs.declared.instr.Instr.{Instr as InstrOf};
-ghost use Rattle.assembler.specs.Listings.{IsListing, IsShown, plain, spaced};
+ghost use Rattle.assembler.specs.Listings.{IsEncoded, IsListing, IsShown, plain, spaced};
 
 use crate::cuts::{cut, past_byte, past_word};
 use crate::instructions::made;
@@ -112,6 +112,7 @@ fn listed_code(alloc: Global, text: &[u8]) -> Result<Option<Vec<Instr>>, AllocEr
 // An image, where these are its lines.
 fn with_lines(alloc: Global, image: Image, text: &[u8]) -> Result<Option<Image>, AllocError>
     ensures lines { IfOk result (λ o. IfSome o (λ i. text.now ≡ lines 0 i.code)) }
+    ensures own { IfOk result (λ o. IfSome o (λ i. i ≡ image)) }
     ensures same { text.now ≡ lines 0 image.code → IfOk result (λ o. o ≡ Some image) }
 {
     let own = list_lines(alloc, &image)?;
@@ -126,6 +127,7 @@ fn with_lines(alloc: Global, image: Image, text: &[u8]) -> Result<Option<Image>,
 /// first instruction on. None where the text is no such lines.
 pub(crate) fn listed_image(alloc: Global, text: &[u8]) -> Result<Option<Image>, AllocError>
     ensures lines { IfOk result (λ o. IfSome o (λ i. text.now ≡ lines 0 i.code)) }
+    ensures encoded { IfOk result (λ o. IfSome o IsEncoded) }
     ensures listing { (code : List InstrOf) → IsListing text.now code
         → IfOk result (λ o. o ≡ Some (plain code)) }
 {

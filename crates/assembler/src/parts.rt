@@ -1,6 +1,7 @@
-ghost use Rattle.std.specs.Prelude.{◌≡◌, ◌<◌, ◌≤◌, MatchBool, MatchOption, sum};
+ghost use Rattle.std.specs.Prelude.{◌≡◌, ◌<◌, ◌≤◌, IfSome, MatchBool, MatchOption, sum};
 ghost use Rattle.isa.specs.Programs.{IsProgram, Program};
 ghost use Rattle.isa.specs.Reading as Reading;
+ghost use Rattle.isa.specs.Spelling.{IsSpelled};
 ghost use Rattle.assembler.specs.Within as Within;
 
 use crate::instructions::target_of;
@@ -91,6 +92,13 @@ fn is_program(version: ImageVersion, monitors: &[u32], start: u32, code: &[Instr
     lead_below(code, count)
 }
 
+// An image has a spelling. Nothing is done when it runs.
+fn image_is_spelled(image: &Image)
+    ensures { IsSpelled image.now }
+{
+    image.start();
+}
+
 /// The image of these parts. None where they are not within the limits of an image.
 pub(crate) fn image_of(
     version: ImageVersion,
@@ -98,15 +106,18 @@ pub(crate) fn image_of(
     start: u32,
     code: Vec<Instr>,
 ) -> Option<Image>
-    ensures { let p : Program = record {
+    ensures image { let p : Program = record {
       version = version;
       monitors = monitors.items;
       start = start;
       code = code.items;
     } in MatchOption result (IsProgram p → ⊥) (λ i. i ≡ p) }
+    ensures spelled { IfSome result IsSpelled }
 {
     if is_program(version, monitors.as_slice(), start, code.as_slice()) {
-        Some(Image::new(version, monitors, start, code))
+        let image = Image::new(version, monitors, start, code);
+        image_is_spelled(&image);
+        Some(image)
     } else {
         None
     }

@@ -1,5 +1,7 @@
 // The instructions of a text, with what their names stand for.
 
+ghost use Rattle.isa.specs.Spelling.{HasByte};
+
 use crate::draft::{Draft, Drafted, Operand};
 use crate::instructions::{made, target_of};
 use crate::line_words::Word;
@@ -135,8 +137,13 @@ impl<'t> Scope<'_, 't> {
 
 impl<'t> Draft<'t> {
     /// The version, where none is declared the second.
-    pub fn image_version(&self) -> ImageVersion {
-        self.version.unwrap_or(ImageVersion::Two)
+    pub fn image_version(&self) -> ImageVersion
+        ensures { HasByte result }
+    {
+        match self.version {
+            Some(declared) => declared.version(),
+            None => ImageVersion::Two,
+        }
     }
 
     /// What the names stand for.
