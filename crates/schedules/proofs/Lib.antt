@@ -1,0 +1,5 @@
+mod Counting
+mod Aborting
+mod Singles
+mod Shorter
+mod Determined

@@ -1,0 +1,5 @@
+pub mod OfLog
+pub mod Switches
+pub mod Failing
+pub mod Minimal
+pub mod Shrinking
