@@ -1,11 +1,13 @@
-"""Compares emitted C with the machine, a shared step at a time: the steps that lockstep.h saw of a run of the C program, and
-the lines of `mesamon replay --linux --trace` of the same schedule.
+"""Compares C with the machine, a shared step at a time: the steps that lockstep.h saw of a run of the C program, and the lines
+of `mesamon replay --linux --trace` of the same schedule. The C is that of an image, which `mesamon emit` writes, or one that
+calls the header's functions (header_c.py).
 
-The schedule is a log. What the C program doesn't tell of it is how many local steps stand between two shared ones, and the
-accesses to members, which are plain C: they come of the machine of beside/oracles, over the code that beside/oracles makes of
-the program, which has to be what `mesamon list --linux` lists. What is compared comes of the program
-alone: each line of its trace that is a shared step of a point, a print, a fork, an end, a kill or a stray wake has to be the
-one that the C program did, with its value and whom it woke; and the lines of an exit together wake whom the kernel woke.
+The schedule is a log. What the C program doesn't tell of it is how many local steps stand between two shared ones, and over
+the header's functions the accesses to members, which are plain C: they come of the machine of beside/oracles, over the code
+that beside/oracles makes of the program, which has to be what `mesamon list --linux` lists. What is compared comes of the
+program alone: each line of its trace that is a shared step of a point, a print, a fork, an end, a kill or a stray wake, and
+of an image's C each access to a member, has to be the one that the C program did, with its value and whom it woke; and the
+lines of an exit together wake whom the kernel woke.
 """
 
 import os
@@ -15,6 +17,7 @@ import subprocess
 from collections import Counter, namedtuple
 
 import kills
+import points
 from language import program_of
 from lowering import LINUX, MOST, OPCODES, lowered
 from other_machine import TAKES, WORDS, Broken, CannotMove, Machine, process_word, signed
@@ -84,8 +87,8 @@ def event_text(step):
 class Schedule:
     """The log that a run of the C program comes to, a line for each entry, and which lines are which of its steps."""
 
-    def __init__(self, code):
-        self.machine, self.code = machine_of(code), code
+    def __init__(self, code, tells_members):
+        self.machine, self.code, self.tells_members = machine_of(code), code, tells_members
         self.lines, self.tags, self.owed = [], [], Counter()
         sequences = {code.members[number, member] for number, monitor in enumerate(code.program.monitors)
                      for member, (_, kind, _) in enumerate(monitor.members) if kind == "CONDITION"}
@@ -123,9 +126,13 @@ class Schedule:
             if name not in ("LOAD", "STORE"):
                 return
             address = operands[-1 if name == "LOAD" else -2]
-            if address < FIRST or address in self.protocol:
+            if self.tells_members or self.has_point(address):
                 return
             self.take(process)
+
+    def has_point(self, address):
+        """Whether a word is of the protocol: a point stands before what is done to it."""
+        return address < FIRST or address in self.protocol
 
     def add(self, step, tag):
         """A step of the C program."""
@@ -160,7 +167,7 @@ class Schedule:
             address = operands[-TAKES[OPCODES[name]]]
             if address != step.address:
                 raise Differs(f"the machine does it at {address}")
-            if step.point >= NOWHERE:
+            if step.point >= NOWHERE and self.has_point(address):
                 raise Differs("no point stands before it")
 
     def add_exit(self, step, tag):
@@ -181,7 +188,7 @@ def machine_of(code):
 
 def judge_run(program, steps, end):
     """What is wrong with a run, one text or None, and how many lines were compared."""
-    schedule, wrong = Schedule(program.code), None
+    schedule, wrong = Schedule(program.code, program.is_image), None
     for number, step in enumerate(steps):
         try:
             schedule.add(step, number)
@@ -241,8 +248,8 @@ def said(words):
 class Program:
     """A program: its code, its C in lockstep, and how its logs are replayed."""
 
-    def __init__(self, name, text, folder, mesamon, emit, compiled, version=LINUX):
-        self.mesamon, self.version = mesamon, version
+    def __init__(self, name, text, folder, mesamon, emit, compiled, is_image, version=LINUX):
+        self.mesamon, self.version, self.is_image = mesamon, version, is_image
         self.base = os.path.join(folder, re.sub(r"\W", "_", name))
         with open(self.base + ".mesa", "w") as file:
             file.write(text)
@@ -252,7 +259,7 @@ class Program:
         with open(self.base + ".c") as file:
             emitted = file.read()
         with open(self.base + ".lock.c", "w") as file:
-            file.write(emitted + self.places(emitted))
+            file.write(emitted + (self.image_places() if is_image else self.places(emitted)))
         compiled(self.base + ".lock.c", self.base)
 
     def said_of(self, words):
@@ -281,6 +288,17 @@ class Program:
                     address = self.code.members[number, member]
                     rows.append((f"&{name}.{field.split()[-1]}.sequence", address, "s"))
         return self.table(rows)
+
+    def image_places(self):
+        """The table of the words of the monitors, and the points of the places, as C."""
+        kinds = {}
+        for number, (monitor, link) in enumerate(zip(self.code.program.monitors, self.code.links)):
+            kinds.update({link: "e", link + 1: "L"})
+            for member, (_, kind, size) in enumerate(monitor.members):
+                at = self.code.members[number, member]
+                kinds.update(dict.fromkeys(range(at, at + (size or 1)), "s" if kind == "CONDITION" else "m"))
+        rows = [(f"&mesa_words[{address} - MESA_FIRST]", address, kind) for address, kind in kinds.items()]
+        return self.table(rows) + points.table(self.code.program)
 
     @staticmethod
     def table(rows):

@@ -1,0 +1,12 @@
+//! An image as one file of C, over the macros of the header `include/mesa_image.h`: a line for each instruction, so that
+//! the text is a function of the image.
+#![tactic(auto)]
+
+mod emitting;
+mod functions;
+mod head;
+mod lines;
+mod names;
+mod operands;
+
+pub use emitting::emit_image;
