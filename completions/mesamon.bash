@@ -16,9 +16,11 @@ _mesamon_words() {
         emit) echo FILE OUT --hints ;;
         assemble) echo FILE OUT --hints ;;
         explore)
-            echo FILE --states=N --strays --kills=N --chart=OUT --from=N --to=N --timeline=OUT --page=OUT
-            echo --places --assembly --image --schedule=OUT --linux --exits=RULE --hints ;;
+            echo FILE --states=N --strays --kills=N --ends --chart=OUT --from=N --to=N --timeline=OUT
+            echo --page=OUT --places --assembly --image --schedule=OUT --linux --exits=RULE --hints ;;
         fmt) echo FILE --check --hints ;;
+        schedule) echo LOG OUT --steps=N --hints ;;
+        shrink) echo FILE SCHEDULE OUT --linux --hints ;;
         help) echo COMMAND ;;
     esac
 }
@@ -36,7 +38,7 @@ _mesamon_offer() {
             mapfile -t COMPREPLY < <(compgen -W "machine linux" -- "$2")
             return ;;
         COMMAND)
-            mapfile -t COMPREPLY < <(compgen -W "check compile list run exec replay explain emit explore assemble fmt help" -- "$2")
+            mapfile -t COMPREPLY < <(compgen -W "check compile list run exec replay explain emit explore assemble fmt schedule shrink help" -- "$2")
             return ;;
         *) return ;;
     esac

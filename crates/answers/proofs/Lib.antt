@@ -1,8 +1,10 @@
 pub mod RunsExplained
 mod Explored
 mod Failing
+mod Hinted
 mod LegalLogs
 mod LogSteps
+mod Ordered
 mod Refusing
 mod Replays
 mod SearchesImages

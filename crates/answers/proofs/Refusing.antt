@@ -1,5 +1,5 @@
 -- A refusal is the text's own.
-use Rattle.std.proofs.Common.{◌≡◌, ◌⊎◌, ℕ, List, Result, Ok, Err, IfErr, inl, inr, ap, subst, sym}
+use Rattle.std.proofs.Common.{◌≡◌, ◌≢◌, ◌⊎◌, ℕ, List, Result, Ok, Err, IfErr, inl, inr, ap, refl, subst, sym}
 use Rattle.std.specs.Prelude.{IsErr, IsErrAnd}
 use Rattle.words.specs.declared.version.ImageVersion.{ImageVersion}
 use Rattle.scanner.specs.Refusals.{out_of_memory}
@@ -7,10 +7,12 @@ use Rattle.scanner.specs.declared.refusal.Refusal.{Refusal}
 use Rattle.isa.specs.Programs.{Program as Image}
 use Rattle.machine.specs.declared.event.Entry.{Entry}
 use Rattle.runner.specs.Logs.{Outside}
+use Rattle.runner.specs.declared.fault.RunFault.TheVariants as run
 use Rattle.runner.specs.declared.schedule.Turn.{Turn}
 use Rattle.compiler.specs.Accepts.{RefusesTextAs}
 use Rattle.answers.specs.Explaining.{IsRefusedExplanation}
-use Rattle.answers.specs.Failures.{IsLeftBy, IsRefusalBy, OfExplain, OfRefusal, OfReplay, OfRun, OfSourceLog}
+use Rattle.answers.specs.Failures.{IsLeftBy, IsRefusalBy, IsRefusalOrMemory, OfExplain, OfRefusal, OfReplay, OfRun}
+use Rattle.answers.specs.Failures.{OfSourceLog}
 use Rattle.answers.specs.Replaying.{IsRefusedReplay}
 use Rattle.answers.specs.Running.{IsRefusedRun}
 use Rattle.answers.specs.SourceLog.{FollowsNot, IsRefusedLog, IsUnfollowedLog, ReadsNot}
@@ -47,14 +49,30 @@ refused_by Refuses e n known (inl (is, gives)) = fails Refuses n _ gives
 refused_by Refuses e n (inl memory) (inr (is_not, gives)) = absurd (is_not (ap (λ (x : Refusal). x.kind) memory))
 refused_by Refuses e n (inr refuses) (inr (is_not, gives)) = subst (IsRefusalBy Refuses) (sym gives) refuses
 
+-- the same where else there is no memory
+pub refused_or_memory : (Refuses : Refusal → Type 0) (e : Refusal) (n : NoAnswer) → (e ≡ out_of_memory) ⊎ Refuses e
+    → OfRefusal e n → IsRefusalOrMemory Refuses n
+refused_or_memory Refuses e n known (inl (is, gives)) = subst (IsRefusalOrMemory Refuses) (sym gives) refl
+refused_or_memory Refuses e n (inl memory) (inr (is_not, gives)) =
+    absurd (is_not (ap (λ (x : Refusal). x.kind) memory))
+refused_or_memory Refuses e n (inr refuses) (inr (is_not, gives)) =
+    subst (IsRefusalOrMemory Refuses) (sym gives) refuses
+
 module _ (v : ImageVersion) (text : List ℕ) where
   abbrev Refuses : Refusal → Type 0
   Refuses e = RefusesTextAs v text e
 
+  -- a run of the text's code meets no step that may not be
   pub run_left : (may : Outside) (limit : ℕ) (fault : RunSourceFault) (n : NoAnswer)
-      → IsRefusedRun v text may limit fault → OfRun fault n → IsRefusalBy (RefusesTextAs v text) n
-  run_left may limit (source.Refused e) n known gives = refused_by Refuses e n known gives
-  run_left may limit (source.Run fault) n known (f, of_fault, gives) = fails Refuses n f gives
+      → IsRefusedRun v text may limit fault → fault ≢ source.Run run.Broken → OfRun fault n
+      → IsRefusalOrMemory (RefusesTextAs v text) n
+  run_left may limit (source.Refused e) n known sound gives = refused_or_memory Refuses e n known gives
+  run_left may limit (source.Run run.Memory) n known sound (f, of_fault, gives) =
+      subst (IsRefusalOrMemory Refuses) (sym gives) of_fault
+  run_left may limit (source.Run run.Broken) n known sound gives = absurd (sound refl)
+  run_left may limit (source.Run run.Stray) n known sound gives = absurd known.fails
+  run_left may limit (source.Run run.CannotMove) n known sound gives = absurd known.fails
+  run_left may limit (source.Run run.Limit) n known sound gives = absurd known.fails
 
   pub explain_left : (fault : ExplainSourceFault) (n : NoAnswer) → IsRefusedExplanation v text fault
       → OfExplain fault n → IsRefusalBy (RefusesTextAs v text) n

@@ -1,5 +1,5 @@
 -- What is told of a job, by what is told of what it made.
-use Rattle.std.proofs.Common.{◌≡◌, ◌∙◌, ℕ, List, Option, None, Result, Ok, Err, IfOk, IfErr, ap, sym, subst}
+use Rattle.std.proofs.Common.{◌≡◌, ◌∙◌, ℕ, List, Option, None, Result, Ok, Err, IfOk, IfErr, ap, refl, sym, subst}
 use Rattle.assembler.specs.declared.refusal.AssemblyRefusal.{AssemblyRefusal}
 use Rattle.words.specs.declared.version.ImageVersion.{ImageVersion}
 use Rattle.isa.specs.Programs.{Program as Image}
@@ -9,11 +9,12 @@ use Rattle.commandline.specs.declared.options.ReplayedBy.{ReplayedBy}
 use Rattle.runner.specs.declared.report.Report.{Report}
 use Rattle.answers.specs.Answers.{ArePuts, Put, name_of, put_of}
 use Rattle.answers.specs.Asked.{IsExplainedAs, IsReplayedAs}
-use Rattle.answers.specs.Failures.{HasNoMemory, IsLeftBy, IsRefusalBy}
+use Rattle.answers.specs.Failures.{HasNoMemory, IsFailureBy, IsLeftBy, IsRefusalBy, IsRefusalOrMemory}
 use Rattle.answers.specs.Images.{IsFollowedAs}
 use Rattle.answers.specs.declared.answer.OutFile.{OutFile}
 use Rattle.answers.specs.declared.answer.OutFiles.{OutFiles}
 use Rattle.answers.specs.declared.explained_run.ExplainedRun.{ExplainedRun}
+use Rattle.answers.specs.declared.failure.Failure.TheVariants.{Memory}
 use Rattle.answers.specs.declared.failure.NoAnswer.{NoAnswer}
 use Rattle.answers.specs.declared.failure.NoAnswer.TheVariants.{Refused, Unassembled, Failed}
 
@@ -30,6 +31,34 @@ pub no_memory : {T : Type 0} (r : Result T NoAnswer) (Refuses : Refusal → Type
     → IfErr r (IsRefusalBy Refuses)
 no_memory (Ok x) Refuses h = tt
 no_memory (Err n) Refuses h = memory_is_none Refuses n h
+
+-- where else there is no memory
+pub memory_alone : {T : Type 0} (r : Result T NoAnswer) (Refuses : Refusal → Type 0) → IfErr r HasNoMemory
+    → IfErr r (IsRefusalOrMemory Refuses)
+memory_alone (Ok x) Refuses h = tt
+memory_alone (Err n) Refuses h = subst (IsRefusalOrMemory Refuses) (sym h) refl
+
+-- then it is a refusal of this kind, where it is one
+or_any : (Refuses : Refusal → Type 0) (n : NoAnswer) → IsRefusalOrMemory Refuses n → IsRefusalBy Refuses n
+or_any Refuses (Refused e) h = h
+or_any Refuses (Unassembled e) h = h
+or_any Refuses (Failed f) h = tt
+
+pub or_memory : {T : Type 0} (r : Result T NoAnswer) (Refuses : Refusal → Type 0)
+    → IfErr r (IsRefusalOrMemory Refuses) → IfErr r (IsRefusalBy Refuses)
+or_memory (Ok x) Refuses h = tt
+or_memory (Err n) Refuses h = or_any Refuses n h
+
+-- and no failure but want of memory
+none_else : (Refuses : Refusal → Type 0) (n : NoAnswer) → IsRefusalOrMemory Refuses n → IsFailureBy (λ f. f ≡ Memory) n
+none_else Refuses (Refused e) h = tt
+none_else Refuses (Unassembled e) h = tt
+none_else Refuses (Failed f) h = h
+
+pub by_memory_alone : {T : Type 0} (r : Result T NoAnswer) (Refuses : Refusal → Type 0)
+    → IfErr r (IsRefusalOrMemory Refuses) → IfErr r (IsFailureBy (λ f. f ≡ Memory))
+by_memory_alone (Ok x) Refuses h = tt
+by_memory_alone (Err n) Refuses h = none_else Refuses n h
 
 -- a refusal is one in more words
 pub refusal_so : (P Q : Refusal → Type 0) (n : NoAnswer) → ((e : Refusal) → P e → Q e) → IsRefusalBy P n → IsRefusalBy Q n

@@ -8,13 +8,12 @@ use Rattle.isa.specs.Programs.{Program}
 use Rattle.isa.specs.Spelling.{HasByte, IsSpelled, spelling}
 use Rattle.isa.specs.Lines.{lines}
 use Rattle.scanner.specs.declared.refusal.Refusal.{Refusal}
+use Rattle.emit_image.specs.Texts.{c_text}
 use Rattle.assembler.specs.Listings.{IsAssembled}
 use Rattle.runner.specs.declared.report.Report.{Report}
-use Rattle.runner.specs.Reports.{IsReport}
 use Rattle.program.specs.Trees.{Program as ProgramOf}
 use Rattle.source_states.specs.Actions.{action_of}
 use Rattle.actionlines.specs.Lines.{line}
-use Rattle.backend.specs.Refusals.{CodeFits}
 use Rattle.commandline.specs.declared.options.ChartOptions.{ChartOptions}
 use Rattle.commandline.specs.declared.options.Exits.{Exits}
 use Rattle.commandline.specs.declared.options.ExplainedBy.{ExplainedBy}
@@ -27,7 +26,7 @@ use Rattle.answers.specs.declared.explained_run.ExplainedRun.{ExplainedRun}
 use Rattle.answers.specs.declared.status.Status.TheVariants.{Done}
 use Rattle.answers.specs.Answers.{AreDrawn, ArePuts, AreTold, TellsAlone, TellsReport}
 use Rattle.answers.specs.Answers.{status_of_verdict}
-use Rattle.answers.specs.Asked.{IsExplainedAs, outside_by}
+use Rattle.answers.specs.Asked.{IsExplainedAs, IsImageRunBy}
 use Rattle.answers.specs.ImageLine.{image_line}
 use Rattle.answers.specs.Images.{IsImageBy}
 
@@ -37,16 +36,12 @@ pub record HasChecked (text : List ℕ) (a : Answer) : Type 0 where
   pub accepts : AcceptsText text program
   pub tells : TellsAlone (codes "ok\n") None a
 
--- it is told that C was written to the file of this name
-abbrev pub TellsEmitted : Bor (List ℕ) → Answer → Type 0
-TellsEmitted out a = (c : List ℕ) × TellsAlone (codes "ok\n") (Some (out, c)) a
-
--- the text is a program whose code fits, of which C is written to the file of this name, and that was told
+-- the text was compiled to an image of the layout Linux, the C of which is written to the file of this name, and that was
+-- told
 pub record HasEmitted (out : Bor (List ℕ)) (text : List ℕ) (a : Answer) : Type 0 where
-  pub program : ProgramOf
-  pub accepts : AcceptsText text program
-  pub fits : CodeFits program
-  pub tells : TellsEmitted out a
+  pub image : Program
+  pub compiled : IsCompiledAs Linux text image
+  pub tells : TellsAlone (codes "ok\n") (Some (out, c_text image)) a
 
 -- the text was compiled to an image of this version, which is written to the file of this name, and its line was told
 pub record HasCompiled (version : ImageVersion) (out : Bor (List ℕ)) (text : List ℕ) (a : Answer) : Type 0 where
@@ -90,7 +85,7 @@ pub record HasRun (IsRun : List ℕ → Report → Type 0) (trace : Bool) (log p
 -- the image was run as the options say, and that was told and logged
 pub record RunsImage (options : RunOptions) (image : Program) (a : Answer) : Type 0 where
   pub report : Report
-  pub run : IsReport image (outside_by options.order) options.steps report
+  pub run : IsImageRunBy options.order options.steps image report
   pub tells : TellsReport report options.trace options.log None a
 
 -- the image in a file of this form was run so, by this rule of exits

@@ -23,9 +23,13 @@ use Rattle.source_states.specs.declared.action.Action.{Action}
 use Rattle.source_states.specs.Actions.{action_of}
 use Rattle.source_search.specs.Blocking.{IsTold}
 use Rattle.source_search.specs.Bounds.{HasSearched}
+use Rattle.source_search.specs.Ending.{IsEndTold}
 use Rattle.source_search.specs.Found.{HasFailed, IsCounted, LeadsNowhere, LeadsTo}
+use Rattle.source_search.specs.declared.asked.Asked.{Asked}
 use Rattle.source_search.specs.declared.blocking.Blocked.{Blocked}
 use Rattle.source_search.specs.declared.blocking.Blocked.TheVariants.{Found as FoundBlocked, Never, NotLookedFor, NotTold}
+use Rattle.source_search.specs.declared.ending.Ending.{Ending}
+use Rattle.source_search.specs.declared.ending.Ending.TheVariants as lost
 use Rattle.source_search.specs.declared.outside.Outside.{Outside}
 use Rattle.source_search.specs.declared.runs.Exploration.{Exploration}
 use Rattle.actionlines.specs.Lines.{line}
@@ -40,14 +44,16 @@ use Rattle.answers.specs.declared.status.Status.{Status}
 use Rattle.answers.specs.declared.status.Status.TheVariants.{Done, Stuck, Limit, Found}
 
 -- what was found of a program, with as much from outside as may be, keeping so many states at most: runs with such an end;
--- where the search was complete and found none, there is none; what is told of processes that are blocked for good is so;
--- and it was complete unless it met the bound that it names
-pub record IsFoundOf (p : Program) (may : Outside) (most : ℕ) (e : Exploration) : Type 0 where
+-- where the search was complete and found none, there is none; what is told of processes that are blocked for good is so,
+-- and where it is asked for what is told of runs that can't end any more; and it was complete unless it met the bound that
+-- it names
+pub record IsFoundOf (p : Program) (may : Outside) (asked : Asked) (most : ℕ) (e : Exploration) : Type 0 where
   pub stuck : IfSome e.stuck (λ v. LeadsTo p may (IsStuck p) v.items)
   pub aborted : IfSome e.aborted (λ v. LeadsTo p may (HasFailed may) v.items)
   pub never_stuck : e.complete ≡ true → e.stuck ≡ None → LeadsNowhere p may (IsStuck p)
   pub never_aborted : e.complete ≡ true → e.aborted ≡ None → LeadsNowhere p may (HasFailed may)
   pub blocked : IsTold p may e.complete e.blocked
+  pub ending : IsEndTold p may asked.ends e.complete e.ending
   pub searched : HasSearched p may most e
 
 -- of each run of the program's image, under whatever schedule, of fewer than 2^32 steps, in which no more are killed than
@@ -71,10 +77,12 @@ pub record HoldsOfImage (p : Program) (may : Outside) (e : Exploration) : Type 0
       → machine_end s.base q ≡ Some (outcome.Aborted cause) → IsCounted may cause → ⊥
 
 -- the text's program, what was found of it, and what that says of its image of this version
-pub record IsExploredText (version : ImageVersion) (text : List ℕ) (may : Outside) (most : ℕ) (r : ExploredText) : Type 0
+pub record IsExploredText (version : ImageVersion) (text : List ℕ) (may : Outside) (asked : Asked) (most : ℕ)
+    (r : ExploredText)
+    : Type 0
   where
     pub accepts : AcceptsText text (said_by r.checked)
-    pub found : IsFoundOf (said_by r.checked) may most r.exploration
+    pub found : IsFoundOf (said_by r.checked) may asked most r.exploration
     pub image : HoldsOfImage (as_version version (said_by r.checked)) may r.exploration
 
 -- the line of how many states were kept
@@ -107,13 +115,23 @@ blocked_lines names Never = codes "no process is blocked for good\n"
 blocked_lines names NotLookedFor = []
 blocked_lines names NotTold = []
 
+-- a line and those of a run that can't end any more; or that each can; or nothing, where it isn't told
+abbrev pub ending_lines : Naming → Ending → List ℕ
+ending_lines names (lost.Found run) = codes "can't end\n" ++ flat_map (line names) (map action_of run.items)
+ending_lines names lost.Never = codes "every run can end\n"
+ending_lines names lost.NotAsked = []
+ending_lines names lost.NotLookedFor = []
+ending_lines names lost.NotTold = []
+
 -- all that is told
 abbrev pub explored_lines : Outside → ExploredText → List ℕ
 explored_lines may r =
     let e = r.exploration in
-    ((states_line e.states e.complete ++ end_lines r.checked.names (codes "stuck\n") (codes "no run is stuck\n") e.complete e.stuck)
+    (((states_line e.states e.complete
+    ++ end_lines r.checked.names (codes "stuck\n") (codes "no run is stuck\n") e.complete e.stuck)
     ++ blocked_lines r.checked.names e.blocked)
-    ++ end_lines r.checked.names (codes "aborted\n") (none_aborts may) e.complete e.aborted
+    ++ end_lines r.checked.names (codes "aborted\n") (none_aborts may) e.complete e.aborted)
+    ++ ending_lines r.checked.names e.ending
 
 -- how the search ended, by whether a run gets stuck, whether one fails otherwise, and whether all were seen
 abbrev pub found_status : (stuck failed complete : Bool) → Status
@@ -129,9 +147,17 @@ is_blocked Never = false
 is_blocked NotLookedFor = false
 is_blocked NotTold = false
 
+-- whether a run was found that can't end any more
+abbrev pub is_lost : Ending → Bool
+is_lost (lost.Found run) = true
+is_lost lost.Never = false
+is_lost lost.NotAsked = false
+is_lost lost.NotLookedFor = false
+is_lost lost.NotTold = false
+
 -- whether a run was found that fails otherwise than by getting stuck
 abbrev pub is_failed : Exploration → Bool
-is_failed e = is_blocked e.blocked || is_some e.aborted
+is_failed e = is_blocked e.blocked || (is_some e.aborted || is_lost e.ending)
 
 abbrev pub explored_status : Exploration → Status
 explored_status e = found_status (is_some e.stuck) (is_failed e) e.complete
@@ -157,11 +183,11 @@ pub record TellsFound (may : Outside) (places : Bool) (chart : Option ChartOptio
     pub files : AreDrawnIf (is_found r.exploration) chart timeline page a.files
 
 -- all runs of the text's program were searched, with as much from outside as may be and keeping so many states at most, and
--- what was found was told; of the image of this version that says what it says
-pub record HasExplored (version : ImageVersion) (may : Outside) (most : ℕ) (places : Bool) (chart : Option ChartOptions)
-    (timeline page : Option (Bor (List ℕ))) (text : List ℕ) (a : Answer)
+-- what was found was told, and what was asked for; of the image of this version that says what it says
+pub record HasExplored (version : ImageVersion) (may : Outside) (asked : Asked) (most : ℕ) (places : Bool)
+    (chart : Option ChartOptions) (timeline page : Option (Bor (List ℕ))) (text : List ℕ) (a : Answer)
     : Type 0
   where
     pub explored_text : ExploredText
-    pub explored : IsExploredText version text may most explored_text
+    pub explored : IsExploredText version text may asked most explored_text
     pub tells : TellsFound may places chart timeline page explored_text a

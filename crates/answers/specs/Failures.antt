@@ -84,6 +84,18 @@ IsRefusalBy Refuses (Refused e) = Refuses e
 IsRefusalBy Refuses (Unassembled e) = ⊥
 IsRefusalBy Refuses (Failed f) = Unit {0}
 
+-- the same, and else there is no memory
+abbrev pub IsRefusalOrMemory : (Refusal → Type 0) → NoAnswer → Type 0
+IsRefusalOrMemory Refuses (Refused e) = Refuses e
+IsRefusalOrMemory Refuses (Unassembled e) = ⊥
+IsRefusalOrMemory Refuses (Failed f) = f ≡ Memory
+
+-- where it is a failure, it is one of this kind
+abbrev pub IsFailureBy : (Failure → Type 0) → NoAnswer → Type 0
+IsFailureBy Fails (Refused e) = Unit {0}
+IsFailureBy Fails (Unassembled e) = Unit {0}
+IsFailureBy Fails (Failed f) = Fails f
+
 -- where it is a refusal of a source text, or of an assembly text, it is one of this kind
 abbrev pub IsLeftBy : (Refusal → Type 0) → (AssemblyRefusal → Type 0) → NoAnswer → Type 0
 IsLeftBy Refuses Unassembles (Refused e) = Refuses e

@@ -9,9 +9,12 @@ pub mod SourceLog
 pub mod Asked
 pub mod Statuses
 pub mod ImageLine
+pub mod Hinting
 pub mod Failures
 pub mod Answers
 pub mod Exploring
 pub mod Formatting
 pub mod Images
+pub mod Scheduling
+pub mod Shrinking
 pub mod Done

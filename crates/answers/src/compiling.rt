@@ -1,10 +1,11 @@
 ghost use Rattle.std.specs.Prelude.{◌≤◌, ◌++◌, IfOk, IfErr, None, Some, codes, length};
-ghost use Rattle.compiler.specs.Accepts.{RefusesProgram, RefusesText, RefusesTextAs};
+ghost use Rattle.compiler.specs.Accepts.{RefusesProgram, RefusesTextAs};
+ghost use Rattle.emit_image.specs.Texts.{c_text};
 ghost use Rattle.isa.specs.Spelling.{spelling};
 ghost use Rattle.answers.specs.Answers.{TellsAlone, put_of};
 ghost use Rattle.assembler.specs.Listings.{RefusesText as RefusesAssembly};
-ghost use Rattle.answers.specs.Done.{HasAssembled, HasChecked, HasCompiled, HasEmitted, TellsEmitted};
-ghost use Rattle.answers.specs.Failures.{HasNoMemory, IsLeftBy, IsRefusalBy};
+ghost use Rattle.answers.specs.Done.{HasAssembled, HasChecked, HasCompiled, HasEmitted};
+ghost use Rattle.answers.specs.Failures.{HasNoMemory, IsLeftBy, IsRefusalOrMemory};
 ghost use Rattle.answers.specs.ImageLine.{image_line};
 
 use crate::answer::{Answer, OutFile, OutFiles};
@@ -13,10 +14,9 @@ use crate::hinting::SourceText;
 use crate::lines::line_of_image;
 use crate::status::Status;
 use assembler::assemble;
-use compiler::{check_text, compile_checked, compile_with_as};
-use emit::emit;
+use compiler::{check_text, compile_as, compile_with_as};
+use emit_image::emit_image;
 use isa::{Image, encode};
-use program::Checked;
 use std::alloc::{AllocError, Global};
 use std::sync::Wait;
 use std::thread::Threads;
@@ -34,7 +34,7 @@ fn ok<'a>(alloc: Global, out: Option<OutFile<'a>>) -> Result<Answer<'a>, NoAnswe
 /// Checks a text.
 pub fn answer_check<'a>(alloc: Global, text: &SourceText<'_>) -> Result<Answer<'a>, NoAnswer<'a>>
     ensures done { IfOk result (HasChecked text.now.bytes.now) }
-    ensures refused { IfErr result (IsRefusalBy (RefusesProgram text.now.bytes.now)) }
+    ensures refused { IfErr result (IsRefusalOrMemory (RefusesProgram text.now.bytes.now)) }
 {
     check_text(alloc, text.bytes)?;
     ok(alloc, None)
@@ -50,7 +50,7 @@ pub fn answer_compile<'a, R: AllocGlobal + Threads + Wait + Sync>(
 ) -> Result<Answer<'a>, NoAnswer<'a>>
     requires { (1 ≤ workers) × (workers ≤ 64) }
     ensures done { IfOk result (HasCompiled version out.entry text.now.bytes.now) }
-    ensures refused { IfErr result (IsRefusalBy (RefusesTextAs version text.now.bytes.now)) }
+    ensures refused { IfErr result (IsRefusalOrMemory (RefusesTextAs version text.now.bytes.now)) }
 {
     let image = compile_with_as(rt, rt.alloc(), text.bytes, version, workers, &OpenGate)?;
     image_answer(rt.alloc(), &image, out)
@@ -87,24 +87,25 @@ fn image_answer<'a>(alloc: Global, image: &Image, out: &'a str) -> Result<Answer
     ))
 }
 
-/// Makes of the program of a text one in C, for the file of this name.
+/// Makes of the program of a text one in C, for the file of this name: its code for Linux, instruction by instruction.
 pub fn answer_emit<'a>(
     alloc: Global,
     text: &SourceText<'_>,
     out: &'a str,
 ) -> Result<Answer<'a>, NoAnswer<'a>>
     ensures done { IfOk result (HasEmitted out.entry text.now.bytes.now) }
-    ensures refused { IfErr result (IsRefusalBy (RefusesText text.now.bytes.now)) }
+    ensures refused { IfErr result
+        (IsRefusalOrMemory (RefusesTextAs ImageVersion.Linux text.now.bytes.now)) }
 {
-    let (checked, _lowered) = compile_checked(alloc, text.bytes)?;
-    c_answer(alloc, &checked, out)
+    let image = compile_as(alloc, text.bytes, ImageVersion::Linux)?;
+    c_answer(alloc, &image, out)
 }
 
-// That the C of a program is made, and its bytes for the file of this name.
-fn c_answer<'a>(alloc: Global, checked: &Checked, out: &'a str) -> Result<Answer<'a>, NoAnswer<'a>>
-    ensures told { IfOk result (TellsEmitted out.entry) }
+// That the C of an image is made, and its bytes for the file of this name.
+fn c_answer<'a>(alloc: Global, image: &Image, out: &'a str) -> Result<Answer<'a>, NoAnswer<'a>>
+    ensures told { IfOk result (TellsAlone (codes "ok\n") (Some (out.entry, c_text image.now))) }
     ensures failed { IfErr result HasNoMemory }
 {
-    let bytes = emit(alloc, checked)?;
+    let bytes = emit_image(alloc, image)?;
     ok(alloc, Some(OutFile { name: out, bytes }))
 }

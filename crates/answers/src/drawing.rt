@@ -42,7 +42,11 @@ pub struct ShownRun<'r, 'n> {
 
 impl<'a> Drawings<'a> {
     /// Makes them for a run.
-    pub fn drawn(&self, alloc: Global, run: &ShownRun<'_, '_>) -> Result<OutFiles<'a>, AllocError>
+    pub(crate) fn drawn(
+        &self,
+        alloc: Global,
+        run: &ShownRun<'_, '_>,
+    ) -> Result<OutFiles<'a>, AllocError>
         ensures { IfOk result (AreDrawn self.now.chart self.now.timeline self.now.page) }
     {
         let out = picture_file(alloc, run, self.chart)?;
@@ -91,7 +95,7 @@ fn timeline_file<'a>(
 }
 
 /// The file of the page of a run, where one is wanted.
-pub fn page_file<'a>(
+pub(crate) fn page_file<'a>(
     alloc: Global,
     run: &ShownRun<'_, '_>,
     wanted: Option<&'a str>,

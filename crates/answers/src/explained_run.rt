@@ -1,11 +1,9 @@
-ghost use Rattle.std.specs.Prelude.{◌≡◌, ◌<◌, ◌^◌, is_some, IfOk, IfErr, List, MatchResult, map, ℕ};
+ghost use Rattle.std.specs.Prelude.{◌≡◌, ◌<◌, ◌^◌, IfOk, IfErr, List, MatchResult, map, ℕ};
 ghost use Rattle.piece_machine.specs.PieceConcrete.{PieceConcrete};
 ghost use Rattle.program.specs.Names.{said_by};
 ghost use Rattle.program.specs.Trees.{Program, as_version};
 ghost use Rattle.source_states.specs.Actions.{action_of};
 ghost use Rattle.runner.specs.Logs.{cost};
-ghost use Rattle.runner.specs.Logs.{outside_of};
-ghost use Rattle.runner.specs.Orders.{IsInOrder};
 ghost use Rattle.runner.specs.Reports.{CanFail, IsReport};
 ghost use Rattle.simulation.specs.ExplainedLog.{IsExplainedLog, LeadsTo};
 ghost use Rattle.backend.specs.Lowered.{IsLowered};
@@ -14,10 +12,9 @@ ghost use Rattle.compiler.specs.Accepts.{AcceptsText};
 ghost use Rattle.compiler.specs.Compiles.{IsCompiledAs};
 ghost use Rattle.commandline.specs.CommandLine.{version_by};
 ghost use Rattle.words.specs.declared.version.ImageVersion.{ImageVersion as VersionOf};
-ghost use Rattle.answers.specs.Alone.{outside_alone};
-ghost use Rattle.answers.specs.Explaining.{IsExplanation, IsExplanationOfText, IsRefusedExplanation, IsWantOfMemory};
-ghost use Rattle.answers.specs.Running.{IsRunInOrder};
-ghost use Rattle.answers.specs.declared.explained_run.Alone.TheVariants.{InOrder};
+ghost use Rattle.answers.specs.Alone.{IsReportAlone, IsRunAlone, outside_alone};
+ghost use Rattle.answers.specs.Explaining.{IsExplanation, IsRefusedExplanation, IsWantOfMemory};
+ghost use Rattle.answers.specs.Running.{IsRunBySeed, IsRunInOrder};
 ghost use Rattle.answers.specs.Replaying.{IsReplayOfText, IsRefusedReplay, IsNoRefusal};
 ghost use Rattle.answers.specs.declared.explained_run.ExplainSourceFault.TheVariants.{Refused, Memory};
 
@@ -83,7 +80,7 @@ enum Alone {
 // Runs an image on the calling thread.
 fn run_alone(alloc: Global, image: &Image, limit: u32, order: Alone) -> Result<Report, RunFault>
     ensures ok { IfOk result (λ report. IsReport image.now (outside_alone order) limit report) }
-    ensures order { order ≡ InOrder → IfOk result (λ report. IsInOrder image.now limit report.log.items) }
+    ensures order { IfOk result (λ report. IsReportAlone order limit image.now report) }
     ensures err { IfErr result (λ fault. CanFail image.now (outside_alone order) limit fault) }
 {
     match order {
@@ -106,7 +103,7 @@ fn run_image(
     requires { (version : VersionOf) × (text : List ℕ) × IsCompiledAs version text image.now }
     ensures report { MatchResult result (λ report. IsReport image.now (outside_alone order) limit report)
         (λ fault. fault ≡ Memory) }
-    ensures order { order ≡ InOrder → IfOk result (λ report. IsInOrder image.now limit report.log.items) }
+    ensures order { IfOk result (λ report. IsReportAlone order limit image.now report) }
 {
     logs_are_machine_runs();
     match run_alone(alloc, image, limit, order) {
@@ -148,9 +145,8 @@ fn explain_alone<'a>(
     order: Alone,
 ) -> Result<ExplainedRun<'a>, ExplainSourceFault>
     ensures explained { IfOk result
-        (λ run. IsExplanationOfText (version_by exits) text.now (outside_alone order) limit run) }
-    ensures order { order ≡ InOrder → IfOk result
-        (λ run. IsExplanation (version_by exits) text.now (IsRunInOrder (version_by exits) text.now limit) run) }
+        (λ run. IsExplanation (version_by exits) text.now
+        (λ report. IsRunAlone (version_by exits) order limit text.now report) run) }
     ensures fault { IfErr result (λ fault. IsRefusedExplanation (version_by exits) text.now fault) }
     ensures only { (p : Program) → AcceptsText text.now p
         → CodeFits (as_version (version_by exits) p)
@@ -205,7 +201,8 @@ pub fn explain_by_seed<'a>(
     kills: u32,
 ) -> Result<ExplainedRun<'a>, ExplainSourceFault>
     ensures explained { IfOk result
-        (λ run. IsExplanationOfText (version_by exits) text.now (outside_of (is_some strays) kills) limit run) }
+        (λ run. IsExplanation (version_by exits) text.now
+        (IsRunBySeed (version_by exits) text.now strays kills limit seed) run) }
     ensures fault { IfErr result (λ fault. IsRefusedExplanation (version_by exits) text.now fault) }
     ensures only { (p : Program) → AcceptsText text.now p
         → CodeFits (as_version (version_by exits) p)

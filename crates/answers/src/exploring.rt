@@ -4,11 +4,12 @@ ghost use Rattle.program.specs.Names.{naming_of, said_by};
 ghost use Rattle.compiler.specs.Accepts.{RefusesTextAs};
 ghost use Rattle.commandline.specs.CommandLine.{version_by};
 ghost use Rattle.answers.specs.Answers.{AreTold};
-ghost use Rattle.answers.specs.Exploring.{blocked_line, blocked_lines, end_lines, explored_lines, explored_status};
-ghost use Rattle.answers.specs.Exploring.{is_blocked, is_failed, is_found, none_aborts, process_word, states_line};
+ghost use Rattle.answers.specs.Exploring.{blocked_line, blocked_lines, end_lines, ending_lines, explored_lines};
+ghost use Rattle.answers.specs.Exploring.{explored_status, is_blocked, is_failed, is_found, is_lost};
+ghost use Rattle.answers.specs.Exploring.{none_aborts, process_word, states_line};
 ghost use Rattle.answers.specs.Exploring.{AreDrawnIf, HasExplored, IsExploredText, IsFoundOf, TellsFound};
 ghost use Rattle.std.specs.List.{flat_map};
-ghost use Rattle.answers.specs.Failures.{HasNoMemory, IsRefusalBy};
+ghost use Rattle.answers.specs.Failures.{HasNoMemory, IsRefusalOrMemory};
 
 use crate::answer::{Answer, OutFiles};
 use crate::compiled::compile_checked_by;
@@ -27,7 +28,7 @@ use packed_log::PackedLog;
 use program::{Checked, Names};
 use run_hints::asides_of;
 use scanner::Refusal;
-use source_search::{Blocked, Exploration, Outside, Progress, explore};
+use source_search::{Asked, Blocked, Ending, Exploration, Outside, Progress, explore};
 use source_states::Action;
 use std::alloc::{AllocError, Global};
 use std::fmt::Write as _;
@@ -41,8 +42,20 @@ pub struct ExploredText<'a> {
     pub exploration: Exploration,
 }
 
+/// Which runs of a source text are searched, and what is told of them.
+#[derive(Clone, Copy)]
+pub struct Searched {
+    /// The most states that are kept.
+    pub states: u32,
+    /// What comes from outside in a run, at most.
+    pub outside: Outside,
+    /// What is told besides what always is.
+    pub asked: Asked,
+}
+
 /// Searches all runs of the program of a source text, keeping at most so many states: for one that gets stuck, for one in
-/// which a process aborts, and where nothing comes from outside for one at whose end a process is blocked for good.
+/// which a process aborts, and where nothing comes from outside for one at whose end a process is blocked for good; and
+/// there, where it is asked for, for one that can't end any more.
 /// With strays, processes that wait on a condition are also woken by nobody; with kills, so many processes at most are
 /// killed, wherever they stand, and who was killed doesn't count as one that aborts.
 ///
@@ -63,16 +76,17 @@ pub fn explore_source<'a, P: Progress>(
     exits: Exits,
     most_states: usize,
     outside: Outside,
+    asked: Asked,
     progress: &mut P,
 ) -> Result<ExploredText<'a>, Refusal>
     ensures { MatchResult result
-        (λ explored. IsExploredText (version_by exits) text.now outside most_states explored)
+        (λ explored. IsExploredText (version_by exits) text.now outside asked most_states explored)
         (λ e. (e ≡ out_of_memory) ⊎ RefusesTextAs (version_by exits) text.now e) }
 {
     text_laws();
     image_laws();
     let (checked, _lowered) = compile_checked_by(alloc, text, exits)?;
-    let exploration = explore_checked(alloc, &checked, most_states, outside, progress)?;
+    let exploration = explore_checked(alloc, &checked, most_states, outside, asked, progress)?;
     Ok(ExploredText {
         checked,
         exploration,
@@ -85,41 +99,44 @@ fn explore_checked<P: Progress>(
     checked: &Checked,
     most_states: usize,
     outside: Outside,
+    asked: Asked,
     progress: &mut P,
 ) -> Result<Exploration, AllocError>
-    ensures { IfOk result (IsFoundOf (said_by checked.now) outside most_states) }
+    ensures { IfOk result (IsFoundOf (said_by checked.now) outside asked most_states) }
 {
-    explore(alloc, checked, most_states, outside, progress)
+    explore(alloc, checked, most_states, outside, asked, progress)
 }
 
-/// Searches all runs of a source text, with as much from outside as may be, tells what is found, and shows it in other
-/// files where they are named and anything was found. How far the search has come is told as it goes.
+/// Searches all runs of a source text, with as much from outside as may be, tells what is found and what is asked for,
+/// and shows it in other files where they are named and anything was found. How far the search has come is told as it
+/// goes.
 pub fn answer_explore<'a, P: Progress>(
     alloc: Global,
     text: &SourceText<'_>,
-    most_states: u32,
-    outside: Outside,
+    searched: Searched,
     drawings: Drawings<'a>,
     places: bool,
     told: &mut String,
     progress: &mut P,
 ) -> Result<Answer<'a>, NoAnswer<'a>>
-    ensures done { IfOk result (HasExplored (version_by text.now.exits) outside most_states places
-        drawings.entry.chart drawings.entry.timeline drawings.entry.page text.now.bytes.now) }
+    ensures done { IfOk result (HasExplored (version_by text.now.exits) searched.outside searched.asked
+        searched.states places drawings.entry.chart drawings.entry.timeline drawings.entry.page
+        text.now.bytes.now) }
     ensures refused { IfErr result
-        (IsRefusalBy (RefusesTextAs (version_by text.now.exits) text.now.bytes.now)) }
+        (IsRefusalOrMemory (RefusesTextAs (version_by text.now.exits) text.now.bytes.now)) }
 {
     let explored = explore_source(
         alloc,
         text.bytes,
         text.exits,
-        most_states as usize,
-        outside,
+        searched.states as usize,
+        searched.outside,
+        searched.asked,
         progress,
     )?;
     let found = shown(&explored.exploration);
     tell_found(alloc, told, text, &explored.checked, found);
-    found_answer(alloc, text, &explored, outside, drawings, places)
+    found_answer(alloc, text, &explored, searched.outside, drawings, places)
 }
 
 // Tells what was found, and shows it in other files where they are named.
@@ -168,37 +185,32 @@ fn lines_beside(
 ) -> Result<Vec<u8>, AllocError>
     ensures { IfOk result (λ v. AreTold true lines.now v.items) }
 {
+    let tails = tails_of(alloc, text, explored)?;
+    put_beside(alloc, "", lines, tails.as_slice())
+}
+
+// What stands behind each line of those that are told.
+fn tails_of(
+    alloc: Global,
+    text: &SourceText<'_>,
+    explored: &ExploredText<'_>,
+) -> Result<Vec<String>, AllocError> {
     let found = &explored.exploration;
     let checked = &explored.checked;
     let complete = found.complete;
     let is_never = matches!(found.blocked, Blocked::Never);
+    let can_end = matches!(found.ending, Ending::Never);
+    let stuck = actions_of(&found.stuck);
+    let blocked = blocked_run(&found.blocked);
+    let aborted = actions_of(&found.aborted);
+    let lost = ending_run(&found.ending);
     let mut tails = Vec::new(alloc);
     tails.push(String::new(alloc))?;
-    add_tails(
-        alloc,
-        text,
-        checked,
-        actions_of(&found.stuck),
-        complete,
-        &mut tails,
-    )?;
-    add_tails(
-        alloc,
-        text,
-        checked,
-        blocked_run(&found.blocked),
-        is_never,
-        &mut tails,
-    )?;
-    add_tails(
-        alloc,
-        text,
-        checked,
-        actions_of(&found.aborted),
-        complete,
-        &mut tails,
-    )?;
-    put_beside(alloc, "", lines, tails.as_slice())
+    add_tails(alloc, text, checked, stuck, complete, &mut tails)?;
+    add_tails(alloc, text, checked, blocked, is_never, &mut tails)?;
+    add_tails(alloc, text, checked, aborted, complete, &mut tails)?;
+    add_tails(alloc, text, checked, lost, can_end, &mut tails)?;
+    Ok(tails)
 }
 
 // The actions of a run, where one was found.
@@ -257,7 +269,8 @@ fn drawn_found<'a>(
     drawings.drawn(alloc, &run)
 }
 
-// The run that was found: of several the stuck one, or else the one at whose end some are blocked for good.
+// The run that was found: of several the stuck one, or else the one at whose end some are blocked for good; that which
+// can't end any more only where it is the one.
 fn shown(found: &Exploration) -> Option<&[Action]>
     ensures { is_some result ≡ is_found found.now }
 {
@@ -265,7 +278,7 @@ fn shown(found: &Exploration) -> Option<&[Action]>
         (Some(actions), _, _) => Some(actions.as_slice()),
         (None, Some(actions), _) => Some(actions),
         (None, None, Some(actions)) => Some(actions.as_slice()),
-        (None, None, None) => None,
+        (None, None, None) => ending_run(&found.ending),
     }
 }
 
@@ -275,8 +288,10 @@ fn end_of_found(found: &Exploration) -> &'static str {
         "stuck"
     } else if blocked_run(&found.blocked).is_some() {
         "blocked for good"
-    } else {
+    } else if found.aborted.is_some() {
         "a process aborts"
+    } else {
+        "can't end"
     }
 }
 
@@ -290,11 +305,23 @@ fn blocked_run(blocked: &Blocked) -> Option<&[Action]>
     }
 }
 
+// The run that can't end any more, where one was found.
+fn ending_run(ending: &Ending) -> Option<&[Action]>
+    ensures { is_some result ≡ is_lost ending.now }
+{
+    match ending {
+        Ending::Found(run) => Some(run.as_slice()),
+        Ending::Never | Ending::NotAsked | Ending::NotLookedFor | Ending::NotTold => None,
+    }
+}
+
 // Whether a run was found that fails otherwise than by getting stuck.
 fn is_failed(found: &Exploration) -> bool
     ensures { result ≡ is_failed found.now }
 {
-    blocked_run(&found.blocked).is_some() || found.aborted.is_some()
+    blocked_run(&found.blocked).is_some()
+        || found.aborted.is_some()
+        || ending_run(&found.ending).is_some()
 }
 
 // How a search ended.
@@ -343,6 +370,7 @@ fn lines_of(
         complete,
         &found.aborted,
     )?;
+    append_ending(alloc, &mut lines, names, &found.ending)?;
     Ok(lines)
 }
 
@@ -425,6 +453,29 @@ fn append_blocked(
         Blocked::Never => lines.extend_from_slice("no process is blocked for good\n".as_bytes()),
         Blocked::NotLookedFor => Ok(()),
         Blocked::NotTold => Ok(()),
+    }
+}
+
+// Appends what is told of runs that can't end any more.
+fn append_ending(
+    alloc: Global,
+    lines: &mut Vec<u8>,
+    names: &Names,
+    ending: &Ending,
+) -> Result<(), AllocError>
+    ensures { OnOk result (lines.new.items
+        ≡ lines.old.items ++ ending_lines (naming_of names.now) ending.now) }
+{
+    match ending {
+        Ending::Found(run) => {
+            lines.extend_from_slice("can't end\n".as_bytes())?;
+            let told = action_lines(alloc, names, run.as_slice())?;
+            lines.extend_from_slice(told.as_slice())
+        }
+        Ending::Never => lines.extend_from_slice("every run can end\n".as_bytes()),
+        Ending::NotAsked => Ok(()),
+        Ending::NotLookedFor => Ok(()),
+        Ending::NotTold => Ok(()),
     }
 }
 

@@ -56,6 +56,9 @@ pub enum Failure<'a> {
     /// The step that the entry of the schedule of this number is may not be.
     #[error("schedule entry {0}: fault 4")]
     Broken(u64),
+    /// The run that the schedule leads to doesn't fail.
+    #[error("schedule without a failure")]
+    NoFailure,
     /// The line of the log that has this number is the first that is no entry's.
     #[error("log line {0}")]
     LogLine(u64),

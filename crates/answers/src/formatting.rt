@@ -1,7 +1,7 @@
 ghost use Rattle.std.specs.Prelude.{◌≡◌, [], None, IfOk, IfErr, bytes_eq};
 ghost use Rattle.source_layout.specs.Laid.{RefusesUnit};
 ghost use Rattle.answers.specs.Answers.{ArePuts};
-ghost use Rattle.answers.specs.Failures.{HasNoMemory, IsRefusalBy};
+ghost use Rattle.answers.specs.Failures.{HasNoMemory, IsRefusalOrMemory};
 ghost use Rattle.answers.specs.Formatting.{HasLaidOut, TellsLayout};
 
 use crate::answer::{Answer, OutFiles};
@@ -18,7 +18,7 @@ pub fn answer_fmt<'a>(
     check: bool,
 ) -> Result<Answer<'a>, NoAnswer<'a>>
     ensures done { IfOk result (HasLaidOut check text.now.bytes.now) }
-    ensures refused { IfErr result (IsRefusalBy (RefusesUnit text.now.bytes.now)) }
+    ensures refused { IfErr result (IsRefusalOrMemory (RefusesUnit text.now.bytes.now)) }
 {
     let laid = lay_out(alloc, text.bytes)?;
     let same = laid.as_slice() == text.bytes;

@@ -69,7 +69,7 @@ fn named(alloc: Global, text: &SourceText<'_>) -> Result<String, AllocError> {
 /// # Errors
 ///
 /// Where memory runs out, and for nothing else.
-pub fn explained_hints(
+pub(crate) fn explained_hints(
     alloc: Global,
     text: &SourceText<'_>,
     run: &ExplainedRun<'_>,
@@ -90,7 +90,7 @@ pub fn explained_hints(
 /// # Errors
 ///
 /// Where memory runs out, and for nothing else.
-pub fn report_hints(
+pub(crate) fn report_hints(
     alloc: Global,
     text: &SourceText<'_>,
     report: &Report,

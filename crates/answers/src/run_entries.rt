@@ -77,7 +77,7 @@ fn followed(alloc: Global, text: &SourceText<'_>, turns: &[Turn]) -> Option<Repo
 /// # Errors
 ///
 /// Where memory runs out, and for nothing else.
-pub fn schedule_entry_hints(
+pub(crate) fn schedule_entry_hints(
     alloc: Global,
     text: &SourceText<'_>,
     turns: &[Turn],
@@ -136,7 +136,7 @@ fn hints_at(
 /// # Errors
 ///
 /// Where memory runs out, and for nothing else.
-pub fn log_entry_hints(
+pub(crate) fn log_entry_hints(
     alloc: Global,
     text: &SourceText<'_>,
     lines: &[u8],

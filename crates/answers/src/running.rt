@@ -1,16 +1,17 @@
-ghost use Rattle.std.specs.Prelude.{◌≡◌, IfOk, IfErr};
+ghost use Rattle.std.specs.Prelude.{◌≡◌, ◌≢◌, IfOk, IfErr};
 ghost use Rattle.compiler.specs.Accepts.{RefusesTextAs};
 ghost use Rattle.commandline.specs.CommandLine.{version_by};
-ghost use Rattle.runner.specs.Reports.{IsReport};
-ghost use Rattle.answers.specs.Asked.{IsReplayedAs, IsRunAs, IsRunBy, log_beside, outside_by};
+ghost use Rattle.answers.specs.Asked.{IsImageRunBy, IsReplayedAs, IsRunAs, IsRunBy, log_beside, outside_by};
 ghost use Rattle.answers.specs.Done.{HasExecuted, HasRun, RunsImage};
-ghost use Rattle.answers.specs.Failures.{IsLeftBy, IsRefusalBy};
+ghost use Rattle.answers.specs.Failures.{IsLeftBy, IsRefusalBy, IsRefusalOrMemory};
 ghost use Rattle.answers.specs.Images.{UnassemblesAs};
 ghost use Rattle.answers.specs.Replaying.{IsReplayOfText};
 ghost use Rattle.answers.specs.Running.{IsRefusedRun};
 ghost use Rattle.answers.specs.LogLimits.{HasFewSteps};
 ghost use Rattle.answers.specs.SourceLog.{IsReplayOfLog};
 ghost use Rattle.answers.specs.Turns.{turns_in};
+ghost use Rattle.answers.specs.declared.source_run.RunSourceFault.TheVariants.{Run};
+ghost use Rattle.runner.specs.declared.fault.RunFault.TheVariants.{Broken};
 
 use crate::answer::Answer;
 use crate::failure::{Failure, NoAnswer};
@@ -44,7 +45,7 @@ pub fn answer_run<'a, R: AllocGlobal + Threads + Wait + Sync>(
     ensures done { IfOk result (HasRun (IsRunAs (version_by text.now.exits) options.entry)
         options.entry.trace options.entry.log page.entry text.now.bytes.now) }
     ensures refused { IfErr result
-        (IsRefusalBy (RefusesTextAs (version_by text.now.exits) text.now.bytes.now)) }
+        (IsRefusalOrMemory (RefusesTextAs (version_by text.now.exits) text.now.bytes.now)) }
 {
     let report = run_by(rt, text, options.steps, options.order)?;
     tell_run(rt.alloc(), told, text, &report, way_of(options));
@@ -76,6 +77,7 @@ fn run_by<R: AllocGlobal + Threads + Wait + Sync>(
         text.now.bytes.now report) }
     ensures fault { IfErr result (λ fault. IsRefusedRun (version_by text.now.exits)
         text.now.bytes.now (outside_by order) steps fault) }
+    ensures sound { IfErr result (λ fault. fault ≢ Run Broken) }
 {
     match order {
         Order::Workers => {
@@ -142,7 +144,7 @@ fn run_image<R: AllocGlobal + Threads + Wait + Sync>(
     steps: u32,
     order: Order,
 ) -> Result<Report, RunFault>
-    ensures { IfOk result (λ report. IsReport image.now (outside_by order) steps report) }
+    ensures { IfOk result (λ report. IsImageRunBy order steps image.now report) }
 {
     match order {
         Order::Workers => {

@@ -342,7 +342,8 @@ fn sleeping_file<'a>(
     }
 }
 
-fn schedule_file<'a>(
+/// The file of a schedule, where one is named.
+pub(crate) fn schedule_file<'a>(
     alloc: Global,
     name: Option<&'a str>,
     turns: &[Turn],

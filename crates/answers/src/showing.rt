@@ -36,7 +36,7 @@ fn turns_of(found: &ImageExploration) -> Option<&[Turn]>
 }
 
 /// The lines of the run that a search over an image found, where it found one, and who sleeps at its end.
-pub fn found_run(
+pub(crate) fn found_run(
     alloc: Global,
     file: &str,
     formed: &Assembled<'_>,
@@ -81,7 +81,7 @@ fn picture_of(
 }
 
 /// The file of the picture of a run that was found, where one was and it is wanted.
-pub fn picture_file<'a>(
+pub(crate) fn picture_file<'a>(
     alloc: Global,
     file: &str,
     run: &Option<RunLines>,
@@ -101,7 +101,7 @@ pub fn picture_file<'a>(
 }
 
 /// The file of its timeline.
-pub fn timeline_file<'a>(
+pub(crate) fn timeline_file<'a>(
     alloc: Global,
     run: &Option<RunLines>,
     wanted: Option<&'a str>,

@@ -5,7 +5,7 @@ ghost use Rattle.program.specs.Trees.{Program, as_version};
 ghost use Rattle.commandline.specs.CommandLine.{version_by};
 ghost use Rattle.backend.specs.Refusals.{CodeFits};
 ghost use Rattle.compiler.specs.Accepts.{AcceptsText};
-ghost use Rattle.answers.specs.Running.{IsRunInOrder, IsRunOfText, IsRefusedRun, IsMemory};
+ghost use Rattle.answers.specs.Running.{IsRunBySeed, IsRunInOrder, IsRunOfText, IsRefusedRun, IsMemory};
 ghost use Rattle.answers.specs.declared.source_run.RunSourceFault.TheVariants.{Refused, Run};
 
 use crate::compiled::compile_by;
@@ -112,7 +112,7 @@ pub fn run_by_seed(
     kills: u32,
 ) -> Result<Report, RunSourceFault>
     ensures report { IfOk result
-        (λ report. IsRunOfText (version_by exits) text.now (outside_of (is_some strays) kills) limit report) }
+        (λ report. IsRunBySeed (version_by exits) text.now strays kills limit seed report) }
     ensures fault { IfErr result
         (λ fault. IsRefusedRun (version_by exits) text.now (outside_of (is_some strays) kills) limit fault) }
     ensures sound { IfErr result (λ fault. fault ≢ Run Broken) }

@@ -18,7 +18,8 @@ pub enum Status {
     Memory = 5,
     /// A file could not be read or written, a run failed, or output could not be written.
     Failed = 6,
-    /// A search found a run in which a process or a thread aborts or is blocked for good, or a text isn't laid out.
+    /// A search found a run in which a process or a thread aborts or is blocked for good, or that can't end any more; or a
+    /// text isn't laid out.
     Found = 7,
 }
 

@@ -55,7 +55,7 @@ pub fn tell_more(told: &mut String, left: NoAnswer<'_>) {
 }
 
 /// Appends which bound a search over an image met, where it met one, or why it isn't known whether a thread sleeps for good.
-pub fn tell_bound(told: &mut String, found: &ImageExploration) {
+pub(crate) fn tell_bound(told: &mut String, found: &ImageExploration) {
     let words = match (&found.ending, &found.sleeping) {
         (Ending::Bounded(bound), _) => words_of(*bound),
         (_, Sleeping::Unknown(doubt)) => doubtful_words(*doubt),
@@ -92,7 +92,7 @@ fn words_of(bound: Bound) -> &'static str {
 }
 
 /// Appends the hints to the end of a run of a text, where they are wanted.
-pub fn tell_run(
+pub(crate) fn tell_run(
     alloc: Global,
     told: &mut String,
     text: &SourceText<'_>,
@@ -105,7 +105,7 @@ pub fn tell_run(
 }
 
 /// Appends the hints to the end of a run that was explained, where they are wanted.
-pub fn tell_explained(
+pub(crate) fn tell_explained(
     alloc: Global,
     told: &mut String,
     text: &SourceText<'_>,
@@ -128,7 +128,7 @@ fn way_by(by: ExplainedBy<'_>) -> Way<'_> {
 }
 
 /// Appends the hints to the end of a run that a search found, where one was and they are wanted.
-pub fn tell_found(
+pub(crate) fn tell_found(
     alloc: Global,
     told: &mut String,
     text: &SourceText<'_>,

@@ -51,7 +51,7 @@ fn append_way(out: &mut String, by: ExplainedBy<'_>) -> Result<(), AllocError> {
 /// # Errors
 ///
 /// Where memory runs out, and for nothing else.
-pub fn title_of(
+pub(crate) fn title_of(
     alloc: Global,
     file: &str,
     by: ExplainedBy<'_>,
@@ -81,7 +81,7 @@ fn append_run_way(out: &mut String, way: Way<'_>) -> Result<(), AllocError> {
 /// # Errors
 ///
 /// Where memory runs out, and for nothing else.
-pub fn title_of_run(
+pub(crate) fn title_of_run(
     alloc: Global,
     file: &str,
     way: Way<'_>,
@@ -100,7 +100,7 @@ pub fn title_of_run(
 /// # Errors
 ///
 /// Where memory runs out, and for nothing else.
-pub fn title_of_found(alloc: Global, file: &str, end: &str) -> Result<String, AllocError> {
+pub(crate) fn title_of_found(alloc: Global, file: &str, end: &str) -> Result<String, AllocError> {
     let mut title = String::new(alloc);
     write!(title, "{file}: found by a search, ")?;
     title.push_str(end)?;

@@ -2,7 +2,8 @@
 use Rattle.std.proofs.Common.{◌≡◌, ◌⊎◌, inl, inr, ℕ, Bool, true, false, List, [], ◌∷◌, Option, Some, None, codes}
 use Rattle.clap.specs.Words.{Row, first_of}
 use Rattle.commandline.specs.CommandLine.{IsCheckOf, IsCompileOf, IsEmitOf, IsExplainOf, IsListOf, AsksForExec}
-use Rattle.commandline.specs.CommandLine.{IsAssembleOf, IsExploreOf, ReadsChart, ReadsKills, ReadsStates}
+use Rattle.commandline.specs.CommandLine.{IsAssembleOf, IsExploreOf, IsScheduleOf, IsShrinkOf, ReadsChart, ReadsKills}
+use Rattle.commandline.specs.CommandLine.{ReadsStates, ReadsSteps}
 use Rattle.commandline.specs.declared.options.ChartOptions.{ChartOptions}
 use Rattle.commandline.specs.CommandLine.{AsksForReplay, AsksForRun, IsExplainedBy, IsReplayedBy, ReadsOptions}
 use Rattle.commandline.specs.CommandLine.{ReadsVersion, ReadsWorkers}
@@ -13,7 +14,7 @@ use Rattle.commandline.specs.declared.options.ReplayedBy.{ReplayedBy}
 use Rattle.commandline.specs.declared.options.RunOptions.{RunOptions}
 use Rattle.commandline.specs.declared.job.Job.{Job}
 use Rattle.commandline.specs.declared.job.Job.TheVariants.{Check, Compile, List as List', Run, Exec, Replay, Explain}
-use Rattle.commandline.specs.declared.job.Job.TheVariants.{Emit, Explore, Search, Follow, Assemble, Fmt}
+use Rattle.commandline.specs.declared.job.Job.TheVariants.{Emit, Explore, Search, Follow, Assemble, Fmt, Schedule, Shrink}
 use Rattle.commandline.specs.declared.options.ImageForm.{ImageForm}
 use Rattle.commandline.specs.CommandLine.{IsFmtOf, ReadsExits, ReadsForm, has_any, is_written, of_source}
 use Rattle.commandline.proofs.NoSources.{clash, no_source}
@@ -96,16 +97,16 @@ pub no_explore : (rows : List Row) (job : Job) → ReadsForm rows None
     → (has_any (codes "schedule" ∷ codes "exits" ∷ []) rows ≡ true) ⊎ ((first_of (codes "FILE") rows ≡ None)
     ⊎ (((n : ℕ) → ReadsStates rows n → ⊥) ⊎ (((n : ℕ) → ReadsKills rows n → ⊥)
     ⊎ ((c : Option ChartOptions) → ReadsChart rows c → ⊥)))) → IsExploreOf rows job → ⊥
-no_explore rows (Explore file exits states strays kills chart timeline page places hints) source (inl more) h =
-    clash _ more h.11
-no_explore rows (Explore file exits states strays kills chart timeline page places hints) source (inr (inl none)) h =
+no_explore rows (Explore file exits states strays kills ends chart timeline page places hints) source (inl more) h =
+    clash _ more h.12
+no_explore rows (Explore file exits states strays kills ends chart timeline page places hints) source (inr (inl none)) h =
     no_value _ _ none h.0
-no_explore rows (Explore file exits states strays kills chart timeline page places hints) source (inr (inr (inl none))) h =
+no_explore rows (Explore file exits states strays kills ends chart timeline page places hints) source (inr (inr (inl none))) h =
     none states h.2
-no_explore rows (Explore file exits states strays kills chart timeline page places hints) source (inr (inr (inr (inl none)))) h =
+no_explore rows (Explore file exits states strays kills ends chart timeline page places hints) source (inr (inr (inr (inl none)))) h =
     none kills h.4
-no_explore rows (Explore file exits states strays kills chart timeline page places hints) source (inr (inr (inr (inr none)))) h =
-    none chart h.5
+no_explore rows (Explore file exits states strays kills ends chart timeline page places hints) source (inr (inr (inr (inr none)))) h =
+    none chart h.6
 no_explore rows (Search file form exits states strays kills files hints) source missing h = no_source rows form source h.1
 no_explore rows other source missing h = h
 
@@ -113,8 +114,8 @@ pub no_search : (rows : List Row) (job : Job) (form : ImageForm) → ReadsForm r
     → (has_any of_source rows ≡ true)
     ⊎ ((first_of (codes "FILE") rows ≡ None) ⊎ (((e : Exits) → ReadsExits rows e → ⊥)
     ⊎ (((n : ℕ) → ReadsStates rows n → ⊥) ⊎ ((n : ℕ) → ReadsKills rows n → ⊥)))) → IsExploreOf rows job → ⊥
-no_search rows (Explore file exits states strays kills chart timeline page places hints) form image missing h =
-    no_source rows form h.10 image
+no_search rows (Explore file exits states strays kills ends chart timeline page places hints) form image missing h =
+    no_source rows form h.11 image
 no_search rows (Search file f exits states strays kills files hints) form image (inl more) h = clash _ more h.7
 no_search rows (Search file f exits states strays kills files hints) form image (inr (inl none)) h =
     no_value _ _ none h.0
@@ -127,7 +128,7 @@ no_search rows other form image missing h = h
 
 pub no_formed_search : (rows : List Row) (job : Job) → ((f : Option ImageForm) → ReadsForm rows f → ⊥)
     → IsExploreOf rows job → ⊥
-no_formed_search rows (Explore file exits states strays kills chart timeline page places hints) none h = none None h.10
+no_formed_search rows (Explore file exits states strays kills ends chart timeline page places hints) none h = none None h.11
 no_formed_search rows (Search file form exits states strays kills files hints) none h = none (Some form) h.1
 no_formed_search rows other none h = h
 
@@ -140,3 +141,19 @@ pub no_assemble : (rows : List Row) (job : Job)
 no_assemble rows (Assemble file out hints) (inl none) h = no_value _ _ none h.0
 no_assemble rows (Assemble file out hints) (inr none) h = no_value _ _ none h.1
 no_assemble rows other missing h = h
+
+pub no_schedule : (rows : List Row) (job : Job)
+    → (first_of (codes "LOG") rows ≡ None) ⊎ ((first_of (codes "OUT") rows ≡ None)
+    ⊎ ((n : ℕ) → ReadsSteps rows n → ⊥)) → IsScheduleOf rows job → ⊥
+no_schedule rows (Schedule log out steps hints) (inl none) h = no_value _ _ none h.0
+no_schedule rows (Schedule log out steps hints) (inr (inl none)) h = no_value _ _ none h.1
+no_schedule rows (Schedule log out steps hints) (inr (inr none)) h = none steps h.2
+no_schedule rows other missing h = h
+
+pub no_shrink : (rows : List Row) (job : Job)
+    → (first_of (codes "FILE") rows ≡ None) ⊎ ((first_of (codes "SCHEDULE") rows ≡ None)
+    ⊎ (first_of (codes "OUT") rows ≡ None)) → IsShrinkOf rows job → ⊥
+no_shrink rows (Shrink file exits schedule out hints) (inl none) h = no_value _ _ none h.0
+no_shrink rows (Shrink file exits schedule out hints) (inr (inl none)) h = no_value _ _ none h.2
+no_shrink rows (Shrink file exits schedule out hints) (inr (inr none)) h = no_value _ _ none h.3
+no_shrink rows other missing h = h

@@ -27,7 +27,11 @@ of_command (Some (name, rows)) file out workers version hints
 of_command (Some (name, rows)) file out workers version hints
     (inr (inr (inr (inr (inr (inr (inr (inr (inr (inl (called, h))))))))))) = absurd h
 of_command (Some (name, rows)) file out workers version hints
-    (inr (inr (inr (inr (inr (inr (inr (inr (inr (inr (called, h))))))))))) = absurd h
+    (inr (inr (inr (inr (inr (inr (inr (inr (inr (inr (inl (called, h)))))))))))) = absurd h
+of_command (Some (name, rows)) file out workers version hints
+    (inr (inr (inr (inr (inr (inr (inr (inr (inr (inr (inr (inl (called, h))))))))))))) = absurd h
+of_command (Some (name, rows)) file out workers version hints
+    (inr (inr (inr (inr (inr (inr (inr (inr (inr (inr (inr (inr (called, h))))))))))))) = absurd h
 
 pub compiling_workers : (words : List Text) (job : Job) (file out : Bor (List ℕ)) (workers : ℕ) (version : ImageVersion) (hints : Bool)
     → AsksFor words job → job ≡ Compile file out workers version hints → (1 ≤ workers) × (workers ≤ 64)

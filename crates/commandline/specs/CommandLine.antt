@@ -41,6 +41,7 @@ use Rattle.commandline.specs.declared.options.SearchFiles.{SearchFiles}
 use Rattle.commandline.specs.declared.job.Job.{Job}
 use Rattle.commandline.specs.declared.job.Job.TheVariants.{Check, Compile, List as List', Run, Exec, Replay}
 use Rattle.commandline.specs.declared.job.Job.TheVariants.{Explain, Emit, Explore, Search, Follow, Assemble, Fmt}
+use Rattle.commandline.specs.declared.job.Job.TheVariants.{Schedule, Shrink}
 
 -- an argument that has to stand, told by its position
 abbrev pub positional : Text → Rule
@@ -196,15 +197,15 @@ explain_command =
     strays_option) kills_option) (valued (codes "schedule"))) (valued (codes "log")))) (valued (codes "timeline")))
     (valued (codes "page"))) (flag (codes "places"))) (flag (codes "linux"))) (flag (codes "hints"))
 
--- `explore FILE [--states N] [--strays] [--kills N] [--chart OUT [--from N] [--to N]] [--timeline OUT] [--page OUT]
--- [--places] [--linux] [--hints]`, or of an image
+-- `explore FILE [--states N] [--strays] [--kills N] [--ends] [--chart OUT [--from N] [--to N]] [--timeline OUT]
+-- [--page OUT] [--places] [--linux] [--hints]`, or of an image
 -- `explore FILE [--states N] [--strays] [--kills N] (--assembly | --image) [--schedule OUT] [--chart OUT] [--timeline OUT]
 -- [--exits RULE] [--hints]`
 abbrev pub explore_command : App
 explore_command =
     with_rule (with_exits (with_rule (with_form (with_rule (with_rule (with_rule (with_chart_options (with_rule (with_rule
-    (with_rule (with_rule (new_app (codes "explore")) (positional (codes "FILE"))) states_option)
-    (flag (codes "strays"))) kills_option)) (valued (codes "timeline"))) (valued (codes "page"))) (flag (codes "places"))))
+    (with_rule (with_rule (with_rule (new_app (codes "explore")) (positional (codes "FILE"))) states_option)
+    (flag (codes "strays"))) kills_option) (flag (codes "ends")))) (valued (codes "timeline"))) (valued (codes "page"))) (flag (codes "places"))))
     (valued (codes "schedule")))) (flag (codes "hints"))
 
 -- `assemble FILE OUT [--hints]`
@@ -218,6 +219,18 @@ abbrev pub fmt_command : App
 fmt_command =
     with_rule (with_rule (with_rule (new_app (codes "fmt")) (positional (codes "FILE"))) (flag (codes "check")))
     (flag (codes "hints"))
+
+-- `schedule LOG OUT [--steps N] [--hints]`
+abbrev pub schedule_command : App
+schedule_command =
+    with_rule (with_rule (with_rule (with_rule (new_app (codes "schedule")) (positional (codes "LOG")))
+    (positional (codes "OUT"))) steps_option) (flag (codes "hints"))
+
+-- `shrink FILE SCHEDULE OUT [--linux] [--hints]`
+abbrev pub shrink_command : App
+shrink_command =
+    with_rule (with_rule (with_rule (with_rule (with_rule (new_app (codes "shrink")) (positional (codes "FILE")))
+    (positional (codes "SCHEDULE"))) (positional (codes "OUT"))) (flag (codes "linux"))) (flag (codes "hints"))
 
 -- an option that takes these numbers
 abbrev pub with_numbers : Rule → Numbers → Rule
@@ -333,13 +346,14 @@ top_command =
     let named = new_app (codes "mesamon") in
     record named { top = record named.top { no_binary_name = true; subcommand_required = true } }
 
--- `mesamon` with its eleven commands
+-- `mesamon` with its thirteen commands
 abbrev pub command_line : App
 command_line =
     with_subcommand (with_subcommand (with_subcommand (with_subcommand (with_subcommand (with_subcommand (with_subcommand
-    (with_subcommand (with_subcommand (with_subcommand (with_subcommand top_command check_command.top)
-    compile_command.top) list_command.top) run_command.top) exec_command.top) replay_command.top) explain_command.top)
-    emit_command.top) explore_command.top) assemble_command.top) fmt_command.top
+    (with_subcommand (with_subcommand (with_subcommand (with_subcommand (with_subcommand (with_subcommand top_command
+    check_command.top) compile_command.top) list_command.top) run_command.top) exec_command.top) replay_command.top)
+    explain_command.top) emit_command.top) explore_command.top) assemble_command.top) fmt_command.top)
+    schedule_command.top) shrink_command.top
 
 -- who moves the threads of a run: a worker for each, or one worker in a fixed order or in that of a seed, beside which
 -- alone stray wakes and kills may be asked for
@@ -361,7 +375,7 @@ ReadsOptions rows o =
 
 -- what a search has that is of a source text alone
 abbrev pub of_source : List Text
-of_source = codes "from" ∷ codes "to" ∷ codes "page" ∷ codes "places" ∷ codes "linux" ∷ []
+of_source = codes "from" ∷ codes "to" ∷ codes "page" ∷ codes "places" ∷ codes "linux" ∷ codes "ends" ∷ []
 
 -- the files that show what a search over an image found
 abbrev pub ReadsSearchFiles : List Row → SearchFiles → Type 0
@@ -493,10 +507,10 @@ IsEmitOf rows other = ⊥
 
 -- a job of searching all runs, or all schedules of an image
 abbrev pub IsExploreOf : List Row → Job → Type 0
-IsExploreOf rows (Explore file exits states strays kills chart timeline page places hints) =
+IsExploreOf rows (Explore file exits states strays kills ends chart timeline page places hints) =
     (first_of (codes "FILE") rows ≡ Some file.now) × ReadsLinux rows exits × ReadsStates rows states
-    × ReadsFlag (codes "strays") rows strays × ReadsKills rows kills × ReadsChart rows chart
-    × (first_of (codes "timeline") rows ≡ option_map (λ out. out.now) timeline)
+    × ReadsFlag (codes "strays") rows strays × ReadsKills rows kills × ReadsFlag (codes "ends") rows ends
+    × ReadsChart rows chart × (first_of (codes "timeline") rows ≡ option_map (λ out. out.now) timeline)
     × (first_of (codes "page") rows ≡ option_map (λ out. out.now) page) × ReadsFlag (codes "places") rows places
     × ReadsFlag (codes "hints") rows hints × ReadsForm rows None
     × (has_any (codes "schedule" ∷ codes "exits" ∷ []) rows ≡ false)
@@ -520,6 +534,21 @@ IsFmtOf rows (Fmt file check hints) =
     × ReadsFlag (codes "hints") rows hints
 IsFmtOf rows other = ⊥
 
+-- a job of writing the schedule of a log
+abbrev pub IsScheduleOf : List Row → Job → Type 0
+IsScheduleOf rows (Schedule log out steps hints) =
+    (first_of (codes "LOG") rows ≡ Some log.now) × (first_of (codes "OUT") rows ≡ Some out.now) × ReadsSteps rows steps
+    × ReadsFlag (codes "hints") rows hints
+IsScheduleOf rows other = ⊥
+
+-- a job of making a schedule short
+abbrev pub IsShrinkOf : List Row → Job → Type 0
+IsShrinkOf rows (Shrink file exits schedule out hints) =
+    (first_of (codes "FILE") rows ≡ Some file.now) × ReadsLinux rows exits
+    × (first_of (codes "SCHEDULE") rows ≡ Some schedule.now) × (first_of (codes "OUT") rows ≡ Some out.now)
+    × ReadsFlag (codes "hints") rows hints
+IsShrinkOf rows other = ⊥
+
 -- the job that the command of a name asks for, with these values of its arguments
 abbrev pub IsAskedBy : Option (Text × List Row) → Job → Type 0
 IsAskedBy None job = ⊥
@@ -529,7 +558,8 @@ IsAskedBy (Some (name, rows)) job =
     ⊎ (((name ≡ codes "exec") × AsksForExec rows job) ⊎ (((name ≡ codes "replay") × AsksForReplay rows job)
     ⊎ (((name ≡ codes "explain") × IsExplainOf rows job) ⊎ (((name ≡ codes "emit") × IsEmitOf rows job)
     ⊎ (((name ≡ codes "explore") × IsExploreOf rows job) ⊎ (((name ≡ codes "assemble") × IsAssembleOf rows job)
-    ⊎ ((name ≡ codes "fmt") × IsFmtOf rows job))))))))))
+    ⊎ (((name ≡ codes "fmt") × IsFmtOf rows job) ⊎ (((name ≡ codes "schedule") × IsScheduleOf rows job)
+    ⊎ ((name ≡ codes "shrink") × IsShrinkOf rows job))))))))))))
 
 -- the parser finds nothing wrong with the words: they are those of one of the commands, each option at most once, each
 -- number within its bounds, and nothing is missing

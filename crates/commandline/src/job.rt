@@ -3,7 +3,7 @@ ghost use Rattle.clap.specs.Words.{app_of, found_of, kind_of, subcommand_rows_of
 ghost use Rattle.clap.specs.Walk.{rows_of};
 ghost use Rattle.clap.specs.declared.error.kind.ErrorKind.TheVariants.{OutOfMemory};
 ghost use Rattle.commandline.specs.CommandLine.{AreInOrder, AsksFor, IsAskedBy, IsCheckOf, IsCompileOf, IsEmitOf, IsExplainOf, IsListOf};
-ghost use Rattle.commandline.specs.CommandLine.{IsAssembleOf, IsExploreOf, IsFmtOf, ReadsForm};
+ghost use Rattle.commandline.specs.CommandLine.{IsAssembleOf, IsExploreOf, IsFmtOf, IsScheduleOf, IsShrinkOf, ReadsForm};
 ghost use Rattle.commandline.specs.CommandLine.{AsksForExec, AsksForReplay, AsksForRun, command_line};
 ghost use Rattle.commandline.specs.declared.job.Job.{Job as JobOf};
 
@@ -18,7 +18,7 @@ use crate::sources::{
     search_files_of, searches_image, searches_source,
 };
 use crate::values::{
-    chart_of, is_written, kills_of, options_of, states_of, version_of, workers_of,
+    chart_of, is_written, kills_of, options_of, states_of, steps_of, version_of, workers_of,
 };
 use clap::{ArgMatches, Command, Error};
 use std::alloc::Global;
@@ -139,6 +139,8 @@ pub enum Job<'a> {
         strays: bool,
         /// How many processes may be killed in a run that is searched, at most.
         kills: u32,
+        /// Whether it is told too whether each run can end.
+        ends: bool,
         /// The picture of it, where one is wanted.
         chart: Option<ChartOptions<'a>>,
         /// The name of the timeline's file, where one is wanted.
@@ -201,6 +203,30 @@ pub enum Job<'a> {
         /// Whether it is only looked at.
         check: bool,
         /// Whether hints stand behind a refusal of the source text.
+        hints: bool,
+    },
+    /// Write the schedule of a log.
+    Schedule {
+        /// The name of the log's file.
+        log: &'a str,
+        /// The name of the schedule's file.
+        out: &'a str,
+        /// The most steps that the log may have.
+        steps: u32,
+        /// Whether hints stand behind what is told.
+        hints: bool,
+    },
+    /// Make a schedule short by which the run of a source text fails.
+    Shrink {
+        /// The name of the source text's file.
+        file: &'a str,
+        /// By whose rule the exits of its threads wake.
+        exits: Exits,
+        /// The name of the schedule's file.
+        schedule: &'a str,
+        /// The name of the file that the short one is written to.
+        out: &'a str,
+        /// Whether hints stand behind what is told.
         hints: bool,
     },
 }
@@ -267,6 +293,8 @@ fn job_of<'a>(matches: &ArgMatches<'a>) -> Option<Job<'a>>
         "explore" => explore_of(inner),
         "assemble" => assemble_of(inner),
         "fmt" => fmt_of(inner),
+        "schedule" => schedule_of(inner),
+        "shrink" => shrink_of(inner),
         _ => None,
     }
 }
@@ -477,6 +505,7 @@ fn explored_of<'a>(matches: &ArgMatches<'a>) -> Option<Job<'a>>
     let states = states_of(matches)?;
     let strays = matches.get_flag("strays");
     let kills = kills_of(matches)?;
+    let ends = matches.get_flag("ends");
     let chart = chart_of(matches)?;
     let timeline = matches.get_str("timeline");
     let page = matches.get_str("page");
@@ -488,6 +517,7 @@ fn explored_of<'a>(matches: &ArgMatches<'a>) -> Option<Job<'a>>
         states,
         strays,
         kills,
+        ends,
         chart,
         timeline,
         page,
@@ -545,4 +575,40 @@ fn assemble_of<'a>(matches: &ArgMatches<'a>) -> Option<Job<'a>>
     let out = matches.get_str("OUT")?;
     let hints = matches.get_flag("hints");
     Some(Job::Assemble { file, out, hints })
+}
+
+fn schedule_of<'a>(matches: &ArgMatches<'a>) -> Option<Job<'a>>
+    ensures job { IfSome result (IsScheduleOf (rows_of (found_of matches.now))) }
+    ensures none { result ≡ None → (job : JobOf) → IsScheduleOf (rows_of (found_of matches.now)) job
+        → ⊥ }
+{
+    let log = matches.get_str("LOG")?;
+    let out = matches.get_str("OUT")?;
+    let steps = steps_of(matches)?;
+    let hints = matches.get_flag("hints");
+    Some(Job::Schedule {
+        log,
+        out,
+        steps,
+        hints,
+    })
+}
+
+fn shrink_of<'a>(matches: &ArgMatches<'a>) -> Option<Job<'a>>
+    ensures job { IfSome result (IsShrinkOf (rows_of (found_of matches.now))) }
+    ensures none { result ≡ None → (job : JobOf) → IsShrinkOf (rows_of (found_of matches.now)) job
+        → ⊥ }
+{
+    let file = matches.get_str("FILE")?;
+    let exits = linux_of(matches);
+    let schedule = matches.get_str("SCHEDULE")?;
+    let out = matches.get_str("OUT")?;
+    let hints = matches.get_flag("hints");
+    Some(Job::Shrink {
+        file,
+        exits,
+        schedule,
+        out,
+        hints,
+    })
 }

@@ -37,7 +37,7 @@ const PAGE_OF_IMAGE: &str =
     "the argument '--page <OUT>' cannot be used with '--assembly' or '--image'";
 
 const PICTURE_OF_IMAGE: &str =
-    "the arguments '--from <N>', '--to <N>', '--page <OUT>' and '--places' cannot be used with '--assembly' or '--image'";
+    "the arguments '--from <N>', '--to <N>', '--page <OUT>', '--places' and '--ends' cannot be used with '--assembly' or '--image'";
 
 // What is said of a schedule that is asked for of a source text's runs.
 const SCHEDULE_OF_SOURCE: &str =

@@ -88,6 +88,7 @@ pub fn searches_source(matches: &ArgMatches<'_>) -> bool
         || is_written(matches, "page")
         || is_written(matches, "places")
         || is_written(matches, "linux")
+        || is_written(matches, "ends")
 }
 
 /// Whether the words have what a search has that is of an image alone.

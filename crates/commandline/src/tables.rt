@@ -232,6 +232,13 @@ const EXITS: Argument = Argument {
     help: "Beside --assembly or --image: whose rule of exits holds, machine or linux",
 };
 
+// Where a schedule is written.
+const SCHEDULE_OUT: Argument = Argument {
+    name: "OUT",
+    kind: Kind::Positional,
+    help: "Where the schedule is written",
+};
+
 // Where the log of a run is written.
 const RUN_LOG: Argument = Argument {
     name: "log",
@@ -380,6 +387,11 @@ pub(crate) const EXPLORE: Subcommand = Subcommand {
             help: "Searches the runs too in which at most N processes are killed",
         },
         Argument {
+            name: "ends",
+            kind: Kind::Flag,
+            help: "Says too whether each run can end",
+        },
+        Argument {
             name: "chart",
             kind: Kind::Valued("OUT"),
             help: "Where the picture of what is found is written",
@@ -430,7 +442,47 @@ const ASSEMBLE: Subcommand = Subcommand {
     ],
 };
 
+const SCHEDULE: Subcommand = Subcommand {
+    name: "schedule",
+    about: "Writes the schedule of a log",
+    arguments: &[
+        Argument {
+            name: "LOG",
+            kind: Kind::Positional,
+            help: "The log",
+        },
+        SCHEDULE_OUT,
+        Argument {
+            name: "steps",
+            kind: Kind::Number(Numbers {
+                least: 1,
+                most: u32::MAX as u64,
+                default: Some("1000000"),
+            }),
+            help: "The most steps that the log may have",
+        },
+        HINTS,
+    ],
+};
+
+const SHRINK: Subcommand = Subcommand {
+    name: "shrink",
+    about: "Makes a schedule short by which a source text gets stuck or aborts",
+    arguments: &[
+        FILE,
+        Argument {
+            name: "SCHEDULE",
+            kind: Kind::Positional,
+            help: "The threads of its steps",
+        },
+        SCHEDULE_OUT,
+        LINUX,
+        HINTS,
+    ],
+};
+
 /// The commands below `mesamon`.
 pub(crate) const SUBCOMMANDS: &[Subcommand] = &[
-    CHECK, COMPILE, LIST, RUN, EXEC, REPLAY, EXPLAIN, EMIT, EXPLORE, ASSEMBLE, FMT,
+    CHECK, COMPILE, LIST, RUN, EXEC, REPLAY, EXPLAIN, EMIT, EXPLORE, ASSEMBLE, FMT, SCHEDULE,
+    SHRINK,
 ];

@@ -5,7 +5,7 @@ use Rattle.std.specs.Prelude.{bytes_eq}
 use Rattle.commandline.specs.CommandLine.{AsksFor}
 use Rattle.commandline.specs.declared.job.Job.{Job}
 use Rattle.commandline.specs.declared.job.Job.TheVariants.{Check, Compile, List as ListImage, Run, Exec, Replay, Explain, Emit, Explore}
-use Rattle.commandline.specs.declared.job.Job.TheVariants.{Assemble, Fmt, Follow, Search}
+use Rattle.commandline.specs.declared.job.Job.TheVariants.{Assemble, Fmt, Follow, Search, Shrink, Schedule as ScheduleLog}
 use Rattle.commandline.proofs.Workers.{compiling_workers}
 use Rattle.commandline.specs.declared.options.Exits.{Exits}
 use Rattle.answers.proofs.Told.{ok_so, refused_so}
@@ -18,7 +18,8 @@ use Rattle.runner.specs.declared.report.Verdict.{Verdict}
 use Rattle.runner.specs.declared.report.Verdict.TheVariants as verdict
 use Rattle.answers.specs.Answers.{IsTold, IsToldOrMemory, status_of_verdict}
 use Rattle.mesamon.specs.Asked.{HasWorkers, asks_for_hints, exits_of}
-use Rattle.mesamon.specs.Commands.{Devices, EndsSo, FinishesSo, HasAnswered, HasDone, HasDoneSome, IsNoCommand, IsToldFailed}
+use Rattle.mesamon.specs.Commands.{Devices, EndsSo, FailsJob, FinishesSo, HasAnswered, HasDone, HasDoneSome, IsNoCommand}
+use Rattle.mesamon.specs.Commands.{IsToldFailed}
 use Rattle.mesamon.specs.Commands.{IsToldLeft, RefusesJob, RefusesSome, UnassemblesJob, UnassemblesSome}
 use Rattle.image_search.specs.declared.ending.Ending.{Ending}
 use Rattle.image_search.specs.declared.ending.Ending.TheVariants as ending
@@ -27,9 +28,11 @@ use Rattle.image_search.specs.declared.ending.Sleeping.TheVariants as sleeping
 use Rattle.answers.specs.Exploring.{found_status, is_failed}
 use Rattle.answers.specs.Formatting.{layout_status}
 use Rattle.answers.specs.Images.{search_status, sleeping_status}
-use Rattle.answers.specs.Failures.{IsLeftBy, IsRefusalBy}
+use Rattle.answers.specs.Failures.{IsFailureBy, IsLeftBy, IsRefusalBy, IsRefusalOrMemory}
 use Rattle.mesamon.specs.Overwriting.{overwrites}
 use Rattle.answers.specs.declared.answer.Answer.{Answer}
+use Rattle.answers.specs.declared.failure.Failure.{Failure}
+use Rattle.answers.specs.declared.failure.Failure.TheVariants.{Memory as NoMemory}
 use Rattle.answers.specs.declared.failure.NoAnswer.{NoAnswer}
 use Rattle.answers.specs.declared.failure.NoAnswer.TheVariants as left
 use Rattle.answers.specs.declared.status.Status.{Status}
@@ -56,6 +59,17 @@ is_left (left.Refused e) job bytes second h = h
 is_left (left.Unassembled e) job bytes second h = absurd h
 is_left (left.Failed f) job bytes second h = tt
 
+failure_so : (n : NoAnswer) (Refuses : Refusal → Type 0) (job : Job) → ((f : Failure) → f ≡ NoMemory → FailsJob job f)
+    → IsRefusalOrMemory Refuses n → IsFailureBy (λ f. FailsJob job f) n
+failure_so (left.Refused e) Refuses job on h = tt
+failure_so (left.Unassembled e) Refuses job on h = tt
+failure_so (left.Failed f) Refuses job on h = on f h
+
+failure_any : (n : NoAnswer) (job : Job) → ((f : Failure) → FailsJob job f) → IsFailureBy (λ f. FailsJob job f) n
+failure_any (left.Refused e) job on = tt
+failure_any (left.Unassembled e) job on = tt
+failure_any (left.Failed f) job on = on f
+
 all_left : {T : Type 0} (r : Result T NoAnswer) (job : Job) (bytes second : List ℕ)
     → IfErr r (IsRefusalBy (RefusesJob job bytes second))
     → IfErr r (IsLeftBy (RefusesJob job bytes second) (UnassemblesJob job bytes))
@@ -78,6 +92,20 @@ refused_by r job same bytes second e Refuses is by on h =
     refused_as r job same bytes second is
     (refused_so r (Refuses (exits_of same)) (RefusesJob same bytes second) on
     (subst (λ (x : Exits). IfErr r (IsRefusalBy (Refuses x))) (by ∙ ap exits_of is) h))
+
+-- and why it fails: for want of memory alone, or in any way
+pub fails_as : {T : Type 0} (r : Result T NoAnswer) (Refuses : Refusal → Type 0) (job same : Job) → job ≡ same
+    → ((f : Failure) → f ≡ NoMemory → FailsJob same f) → IfErr r (IsRefusalOrMemory Refuses)
+    → IfErr r (IsFailureBy (λ f. FailsJob job f))
+fails_as (Ok x) Refuses job same is on h = tt
+fails_as (Err n) Refuses job same is on h =
+    subst (λ (j : Job). IsFailureBy (λ f. FailsJob j f) n) (sym is) (failure_so n Refuses same on h)
+
+pub fails_freely : {T : Type 0} (r : Result T NoAnswer) (job same : Job) → job ≡ same
+    → ((f : Failure) → FailsJob same f) → IfErr r (IsFailureBy (λ f. FailsJob job f))
+fails_freely (Ok x) job same is on = tt
+fails_freely (Err n) job same is on =
+    subst (λ (j : Job). IsFailureBy (λ f. FailsJob j f) n) (sym is) (failure_any n same on)
 
 -- the same of an assembly text: no source text is refused
 unassembled : (n : NoAnswer) (U : AssemblyRefusal → Type 0) (job : Job) (bytes second : List ℕ)
@@ -112,11 +140,13 @@ has_workers ws (Exec image form exits options) asks = tt
 has_workers ws (Replay file exits by trace page hints) asks = tt
 has_workers ws (Explain file exits by chart timeline page places hints) asks = tt
 has_workers ws (Emit file out hints) asks = tt
-has_workers ws (Explore file exits states strays kills chart timeline page places hints) asks = tt
+has_workers ws (Explore file exits states strays kills ends chart timeline page places hints) asks = tt
 has_workers ws (Search file form exits states strays kills files hints) asks = tt
 has_workers ws (Follow file form exits by trace hints) asks = tt
 has_workers ws (Assemble file out hints) asks = tt
 has_workers ws (Fmt file check hints) asks = tt
+has_workers ws (ScheduleLog log out steps hints) asks = tt
+has_workers ws (Shrink file exits schedule out hints) asks = tt
 
 -- a status with which a job that was done ends
 abbrev IsEnd : Status → Type 0
@@ -170,8 +200,8 @@ ends (Exec image form exits options) bytes second a h = end_as a.status _ h.runs
 ends (Replay file exits by trace page hints) bytes second a h = end_as a.status _ h.tells.ended (verdict_end h.report.verdict)
 ends (Explain file exits by chart timeline page places hints) bytes second a h =
     end_as a.status _ h.tells.ended (verdict_end h.explained_run.report.verdict)
-ends (Emit file out hints) bytes second a h = end_as a.status Done h.tells.1.ended tt
-ends (Explore file exits states strays kills chart timeline page places hints) bytes second a h =
+ends (Emit file out hints) bytes second a h = end_as a.status Done h.tells.ended tt
+ends (Explore file exits states strays kills ends chart timeline page places hints) bytes second a h =
     let e = h.explored_text.exploration in
     end_as a.status _ h.tells.ended (found_end (is_some e.stuck) (is_failed e) e.complete)
 ends (Search file form exits states strays kills files hints) bytes second a h =
@@ -182,6 +212,8 @@ ends (Follow file form exits by trace hints) bytes second a h =
 ends (Fmt file check hints) bytes second a h =
     end_as a.status _ h.tells.ended (layout_end check (bytes_eq h.laid bytes))
 ends (Assemble file out hints) bytes second a h = end_as a.status Done h.tells.ended tt
+ends (ScheduleLog log out steps hints) bytes second a h = end_as a.status Done h.tells.ended tt
+ends (Shrink file exits schedule out hints) bytes second a h = end_as a.status Done h.tells.ended tt
 
 -- by what is known of the devices; F says that one of them failed
 module _ (ws : List (List ℕ)) (on : Devices) where

@@ -6,13 +6,15 @@ use Rattle.commandline.specs.declared.options.ExplainedBy.{ExplainedBy}
 use Rattle.commandline.specs.declared.options.ExplainedBy.TheVariants.{Order, Seed, Schedule, Log}
 use Rattle.commandline.specs.declared.job.Job.{Job}
 use Rattle.commandline.specs.declared.job.Job.TheVariants.{Check, Compile, List as ListImage, Run, Exec, Replay, Explain, Emit, Explore}
-use Rattle.commandline.specs.declared.job.Job.TheVariants.{Assemble, Fmt, Follow, Search}
+use Rattle.commandline.specs.declared.job.Job.TheVariants.{Assemble, Fmt, Follow, Search, Shrink, Schedule as ScheduleLog}
 use Rattle.commandline.specs.declared.options.Exits.{Exits}
 use Rattle.commandline.specs.declared.options.Exits.TheVariants as rule
 use Rattle.commandline.specs.declared.options.ImageForm.{ImageForm}
 use Rattle.commandline.specs.declared.options.ImageForm.TheVariants as form
 use Rattle.commandline.specs.declared.options.ReplayedBy.{ReplayedBy}
 use Rattle.commandline.specs.declared.options.ReplayedBy.TheVariants.{Schedule as BySchedule, Log as ByLog}
+use Rattle.mesamon.specs.declared.jobs.First.{First}
+use Rattle.mesamon.specs.declared.jobs.First.TheVariants as own
 use Rattle.mesamon.specs.declared.jobs.Second.{Second}
 use Rattle.mesamon.specs.declared.jobs.Second.TheVariants as also
 use Rattle.answers.specs.LogLimits.{log_bytes}
@@ -27,11 +29,13 @@ asks_for_hints (Exec image form exits options) = false
 asks_for_hints (Replay file exits by trace page hints) = hints
 asks_for_hints (Explain file exits by chart timeline page places hints) = hints
 asks_for_hints (Emit file out hints) = hints
-asks_for_hints (Explore file exits states strays kills chart timeline page places hints) = hints
+asks_for_hints (Explore file exits states strays kills ends chart timeline page places hints) = hints
 asks_for_hints (Search file form exits states strays kills files hints) = hints
 asks_for_hints (Follow file form exits by trace hints) = hints
 asks_for_hints (Assemble file out hints) = hints
 asks_for_hints (Fmt file check hints) = hints
+asks_for_hints (ScheduleLog log out steps hints) = hints
+asks_for_hints (Shrink file exits schedule out hints) = hints
 
 -- by whose rule the exits of the threads wake that a job runs: where it runs none, by this machine's
 abbrev pub exits_of : Job → Exits
@@ -43,11 +47,13 @@ exits_of (Exec image form exits options) = exits
 exits_of (Replay file exits by trace page hints) = exits
 exits_of (Explain file exits by chart timeline page places hints) = exits
 exits_of (Emit file out hints) = rule.Machine
-exits_of (Explore file exits states strays kills chart timeline page places hints) = exits
+exits_of (Explore file exits states strays kills ends chart timeline page places hints) = exits
 exits_of (Search file form exits states strays kills files hints) = exits
 exits_of (Follow file form exits by trace hints) = exits
 exits_of (Assemble file out hints) = rule.Machine
 exits_of (Fmt file check hints) = rule.Machine
+exits_of (ScheduleLog log out steps hints) = rule.Machine
+exits_of (Shrink file exits schedule out hints) = exits
 
 -- how many bytes are read, at most, of a text, a schedule or an image
 abbrev pub most_read : ℕ
@@ -78,11 +84,13 @@ read_second (Compile file out workers version hints) = None
 read_second (Run file exits options page hints) = None
 read_second (Exec image form exits options) = None
 read_second (Emit file out hints) = None
-read_second (Explore file exits states strays kills chart timeline page places hints) = None
+read_second (Explore file exits states strays kills ends chart timeline page places hints) = None
 read_second (Search file form exits states strays kills files hints) = None
 read_second (Follow file form exits by trace hints) = read_of_replay by
 read_second (Assemble file out hints) = None
 read_second (Fmt file check hints) = None
+read_second (ScheduleLog log out steps hints) = None
+read_second (Shrink file exits schedule out hints) = Some most_read
 
 -- of this one
 abbrev pub most_of : Second → Option ℕ
@@ -95,6 +103,12 @@ abbrev pub most_formed : ImageForm → ℕ
 most_formed form.Assembly = 2 ^ 62
 most_formed form.Image = most_read
 
+-- of the file that a job is about, by what that is
+abbrev pub most_first : First → ℕ
+most_first own.Text = most_read
+most_first own.All = 2 ^ 62
+most_first (own.Log steps) = log_bytes steps + 1
+
 -- how many bytes are read of the file that a job is about, at most: of an assembly text all
 abbrev pub first_most : Job → ℕ
 first_most (Check file hints) = most_read
@@ -105,11 +119,13 @@ first_most (Exec image form exits options) = most_formed form
 first_most (Replay file exits by trace page hints) = most_read
 first_most (Explain file exits by chart timeline page places hints) = most_read
 first_most (Emit file out hints) = most_read
-first_most (Explore file exits states strays kills chart timeline page places hints) = most_read
+first_most (Explore file exits states strays kills ends chart timeline page places hints) = most_read
 first_most (Search file form exits states strays kills files hints) = most_formed form
 first_most (Follow file form exits by trace hints) = most_formed form
 first_most (Assemble file out hints) = 2 ^ 62
 first_most (Fmt file check hints) = most_read
+first_most (ScheduleLog log out steps hints) = log_bytes steps + 1
+first_most (Shrink file exits schedule out hints) = most_read
 
 -- these bytes were read of the two files of a job; where it has no second one, they are any
 pub record AreRead (IsOf : (most : ℕ) → List ℕ → Type 0) (job : Job) (bytes second : List ℕ) : Type 0 where

@@ -1,6 +1,7 @@
 -- What a command has done, of the bytes of the file that it is about, and how the program ends.
-use Rattle.std.specs.Prelude.{codes, ◌≡◌, ◌⊎◌, ◌++◌, ℕ, Bool, true, false, List, [], Option, Some, is_some}
+use Rattle.std.specs.Prelude.{codes, ◌≡◌, ◌⊎◌, ◌++◌, ℕ, Bool, true, false, List, [], Option, Some, is_some, ⊤}
 use Rattle.clap.specs.Words.{takes}
+use Rattle.words.specs.declared.version.ImageVersion.TheVariants.{Linux}
 use Rattle.scanner.specs.declared.refusal.Refusal.{Refusal}
 use Rattle.scanner.specs.Refusals.{refusal_text}
 use Rattle.assembler.specs.Listings.{RefusesText as RefusesAssembly}
@@ -10,9 +11,11 @@ use Rattle.log_text.specs.LogLines.{line_feed}
 use Rattle.commandline.specs.CommandLine.{AsksFor, command_line, version_by}
 use Rattle.commandline.specs.declared.job.Job.{Job}
 use Rattle.commandline.specs.declared.job.Job.TheVariants.{Check, Compile, List as ListImage, Run, Exec, Replay, Explain, Emit, Explore}
-use Rattle.commandline.specs.declared.job.Job.TheVariants.{Assemble, Fmt, Follow, Search}
-use Rattle.compiler.specs.Accepts.{RefusesProgram, RefusesText, RefusesTextAs}
+use Rattle.commandline.specs.declared.job.Job.TheVariants.{Assemble, Fmt, Follow, Search, Shrink, Schedule as ScheduleLog}
+use Rattle.compiler.specs.Accepts.{RefusesProgram, RefusesTextAs}
 use Rattle.answers.specs.declared.answer.Answer.{Answer}
+use Rattle.answers.specs.declared.failure.Failure.{Failure}
+use Rattle.answers.specs.declared.failure.Failure.TheVariants.{Memory as NoMemory}
 use Rattle.answers.specs.declared.failure.NoAnswer.{NoAnswer}
 use Rattle.answers.specs.declared.failure.NoAnswer.TheVariants as left
 use Rattle.answers.specs.declared.status.Status.{Status}
@@ -27,6 +30,8 @@ use Rattle.answers.specs.Done.{RefusesListing}
 use Rattle.mesamon.specs.Asked.{AreRead, asks_for_hints}
 use Rattle.answers.specs.Exploring.{HasExplored}
 use Rattle.answers.specs.Formatting.{HasLaidOut}
+use Rattle.answers.specs.Scheduling.{HasScheduled}
+use Rattle.answers.specs.Shrinking.{HasShrunk}
 use Rattle.answers.specs.Images.{HasFollowed, HasSearched, UnassemblesAs}
 use Rattle.source_layout.specs.Laid.{RefusesUnit}
 use Rattle.mesamon.specs.Overwriting.{overwrites}
@@ -45,13 +50,16 @@ HasDone (Replay file exits by trace page hints) bytes second a =
 HasDone (Explain file exits by chart timeline page places hints) bytes second a =
     HasExplained (version_by exits) by second places chart timeline page bytes a
 HasDone (Emit file out hints) bytes second a = HasEmitted out bytes a
-HasDone (Explore file exits states strays kills chart timeline page places hints) bytes second a =
-    HasExplored (version_by exits) (record { strays = strays; kills = kills }) states places chart timeline page bytes a
+HasDone (Explore file exits states strays kills ends chart timeline page places hints) bytes second a =
+    HasExplored (version_by exits) (record { strays = strays; kills = kills }) (record { ends = ends }) states places chart
+    timeline page bytes a
 HasDone (Search file form exits states strays kills files hints) bytes second a =
     HasSearched exits form (record { strays = strays; kills = kills }) states files bytes a
 HasDone (Follow file form exits by trace hints) bytes second a = HasFollowed exits form by trace bytes second a
 HasDone (Assemble file out hints) bytes second a = HasAssembled out bytes a
 HasDone (Fmt file check hints) bytes second a = HasLaidOut check bytes a
+HasDone (ScheduleLog log out steps hints) bytes second a = HasScheduled steps out bytes a
+HasDone (Shrink file exits schedule out hints) bytes second a = HasShrunk (version_by exits) out bytes second a
 
 -- this is the refusal of the text that the job is about: with these bytes in its file, or for a listing in the source's
 abbrev pub RefusesJob : Job → (bytes second : List ℕ) → Refusal → Type 0
@@ -63,13 +71,15 @@ RefusesJob (Run file exits options page hints) bytes second e = RefusesTextAs (v
 RefusesJob (Replay file exits by trace page hints) bytes second e = RefusesTextAs (version_by exits) bytes e
 RefusesJob (Explain file exits by chart timeline page places hints) bytes second e =
     RefusesTextAs (version_by exits) bytes e
-RefusesJob (Emit file out hints) bytes second e = RefusesText bytes e
-RefusesJob (Explore file exits states strays kills chart timeline page places hints) bytes second e =
+RefusesJob (Emit file out hints) bytes second e = RefusesTextAs Linux bytes e
+RefusesJob (Explore file exits states strays kills ends chart timeline page places hints) bytes second e =
     RefusesTextAs (version_by exits) bytes e
 RefusesJob (Search file form exits states strays kills files hints) bytes second e = ⊥
 RefusesJob (Follow file form exits by trace hints) bytes second e = ⊥
 RefusesJob (Assemble file out hints) bytes second e = ⊥
 RefusesJob (Fmt file check hints) bytes second e = RefusesUnit bytes e
+RefusesJob (ScheduleLog log out steps hints) bytes second e = ⊥
+RefusesJob (Shrink file exits schedule out hints) bytes second e = RefusesTextAs (version_by exits) bytes e
 
 -- this is the refusal of the assembly text that the job is about
 abbrev pub UnassemblesJob : Job → (bytes : List ℕ) → AssemblyRefusal → Type 0
@@ -81,11 +91,31 @@ UnassemblesJob (Run file exits options page hints) bytes e = ⊥
 UnassemblesJob (Replay file exits by trace page hints) bytes e = ⊥
 UnassemblesJob (Explain file exits by chart timeline page places hints) bytes e = ⊥
 UnassemblesJob (Emit file out hints) bytes e = ⊥
-UnassemblesJob (Explore file exits states strays kills chart timeline page places hints) bytes e = ⊥
+UnassemblesJob (Explore file exits states strays kills ends chart timeline page places hints) bytes e = ⊥
 UnassemblesJob (Search file form exits states strays kills files hints) bytes e = UnassemblesAs form bytes e
 UnassemblesJob (Follow file form exits by trace hints) bytes e = UnassemblesAs form bytes e
 UnassemblesJob (Assemble file out hints) bytes e = RefusesAssembly bytes e
 UnassemblesJob (Fmt file check hints) bytes e = ⊥
+UnassemblesJob (ScheduleLog log out steps hints) bytes e = ⊥
+UnassemblesJob (Shrink file exits schedule out hints) bytes e = ⊥
+
+-- why a job may fail: one on a source text that makes no run by a schedule or a log for want of memory alone
+abbrev pub FailsJob : Job → Failure → Type 0
+FailsJob (Check file hints) f = f ≡ NoMemory
+FailsJob (Compile file out workers version hints) f = f ≡ NoMemory
+FailsJob (ListImage image linux source hints) f = ⊤
+FailsJob (Run file exits options page hints) f = f ≡ NoMemory
+FailsJob (Exec image form exits options) f = ⊤
+FailsJob (Replay file exits by trace page hints) f = ⊤
+FailsJob (Explain file exits by chart timeline page places hints) f = ⊤
+FailsJob (Emit file out hints) f = f ≡ NoMemory
+FailsJob (Explore file exits states strays kills ends chart timeline page places hints) f = f ≡ NoMemory
+FailsJob (Search file form exits states strays kills files hints) f = ⊤
+FailsJob (Follow file form exits by trace hints) f = ⊤
+FailsJob (Assemble file out hints) f = ⊤
+FailsJob (Fmt file check hints) f = f ≡ NoMemory
+FailsJob (ScheduleLog log out steps hints) f = ⊤
+FailsJob (Shrink file exits schedule out hints) f = ⊤
 
 -- the job was done on bytes that were read of its files
 pub record HasDoneSome (IsOf : (most : ℕ) → List ℕ → Type 0) (job : Job) (a : Answer) : Type 0 where

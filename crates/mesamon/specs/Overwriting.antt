@@ -3,7 +3,7 @@ use Rattle.std.proofs.Common.{Bor}
 use Rattle.std.specs.Prelude.{ℕ, Bool, false, List, Option, Some, None, ◌||◌, bytes_eq}
 use Rattle.commandline.specs.declared.job.Job.{Job}
 use Rattle.commandline.specs.declared.job.Job.TheVariants.{Check, Compile, List as ListImage, Run, Exec, Replay, Explain, Emit, Explore}
-use Rattle.commandline.specs.declared.job.Job.TheVariants.{Assemble, Fmt, Follow, Search}
+use Rattle.commandline.specs.declared.job.Job.TheVariants.{Assemble, Fmt, Follow, Search, Shrink, Schedule as ScheduleLog}
 use Rattle.answers.specs.Answers.{out_of}
 use Rattle.commandline.specs.declared.options.ExplainedBy.{ExplainedBy}
 use Rattle.commandline.specs.declared.options.ExplainedBy.TheVariants.{Order, Seed, Schedule, Log}
@@ -49,8 +49,10 @@ overwrites (Search file form exits states strays kills files hints) =
 overwrites (Follow file form exits by trace hints) = replay_overwrites file by None
 overwrites (Assemble file out hints) = is_twice (Some file) None (Some out) None
 overwrites (Fmt file check hints) = false
+overwrites (ScheduleLog log out steps hints) = is_twice (Some log) None (Some out) None
+overwrites (Shrink file exits schedule out hints) = is_twice (Some file) (Some schedule) (Some out) None
 overwrites (Exec image form exits options) = is_twice (Some image) None options.log None
 overwrites (Replay file exits by trace page hints) = replay_overwrites file by page
 overwrites (Explain file exits by chart timeline page places hints) = draws_over (Some file) (read_by by) (out_of chart) timeline page
-overwrites (Explore file exits states strays kills chart timeline page places hints) =
+overwrites (Explore file exits states strays kills ends chart timeline page places hints) =
     draws_over (Some file) None (out_of chart) timeline page

@@ -1,20 +1,21 @@
-ghost use Rattle.std.specs.Prelude.{◌≡◌, ◌^◌, if◌then◌else◌, IfOk, IfErr, IfSome};
+ghost use Rattle.std.specs.Prelude.{◌≡◌, IfOk, IfErr, IfSome};
 ghost use Rattle.devices.specs.Files.{IsOfFile};
-ghost use Rattle.mesamon.specs.Asked.{HasWorkers, asks_for_hints, exits_of, first_most, most_formed, most_of, most_read};
+ghost use Rattle.mesamon.specs.Asked.{HasWorkers, asks_for_hints, exits_of, first_most, most_first, most_formed, most_of};
 ghost use Rattle.mesamon.specs.Asked.{read_of_explained, read_of_replay, read_of_source, read_second};
-ghost use Rattle.mesamon.specs.Commands.{HasDone, HasDoneSome, RefusesJob, RefusesSome};
+ghost use Rattle.mesamon.specs.Commands.{FailsJob, HasDone, HasDoneSome, RefusesJob, RefusesSome};
 ghost use Rattle.mesamon.specs.Commands.{UnassemblesJob, UnassemblesSome};
-ghost use Rattle.answers.specs.Failures.{IsLeftBy};
+ghost use Rattle.answers.specs.Failures.{IsFailureBy, IsLeftBy};
 
 use crate::files::{bytes_of, front_of, whole_bytes_of};
 use answers::{
-    Answer, Drawings, Failure, NoAnswer, SourceText, answer_assemble, answer_check, answer_compile,
-    answer_emit, answer_exec, answer_explain, answer_explore, answer_fmt, answer_follow,
-    answer_list, answer_replay, answer_run, answer_search, log_bytes, tell_refused,
+    Answer, Drawings, Failure, NoAnswer, Searched, SourceText, answer_assemble, answer_check,
+    answer_compile, answer_emit, answer_exec, answer_explain, answer_explore, answer_fmt,
+    answer_follow, answer_list, answer_replay, answer_run, answer_schedule, answer_search,
+    answer_shrink, log_bytes, tell_refused,
 };
 use commandline::{Exits, ExplainedBy, ImageForm, Job, ReplayedBy};
 use image_states::Outside as ImageOutside;
-use source_search::{Outside, Progress};
+use source_search::{Asked, Outside, Progress};
 use std::rt::Files;
 use std::sync::Wait;
 use std::thread::Threads;
@@ -35,7 +36,9 @@ pub fn asks_for_hints(job: &Job<'_>) -> bool
         | Job::Search { hints, .. }
         | Job::Follow { hints, .. }
         | Job::Assemble { hints, .. }
-        | Job::Fmt { hints, .. } => hints,
+        | Job::Fmt { hints, .. }
+        | Job::Schedule { hints, .. }
+        | Job::Shrink { hints, .. } => hints,
         Job::Exec { .. } => false,
     }
 }
@@ -51,13 +54,15 @@ fn exits_of(job: Job<'_>) -> Exits
         | Job::Explain { exits, .. }
         | Job::Explore { exits, .. }
         | Job::Search { exits, .. }
-        | Job::Follow { exits, .. } => exits,
+        | Job::Follow { exits, .. }
+        | Job::Shrink { exits, .. } => exits,
         Job::Check { .. }
         | Job::Compile { .. }
         | Job::List { .. }
         | Job::Emit { .. }
         | Job::Assemble { .. }
-        | Job::Fmt { .. } => Exits::Machine,
+        | Job::Fmt { .. }
+        | Job::Schedule { .. } => Exits::Machine,
     }
 }
 
@@ -74,16 +79,22 @@ fn file_of<'a>(job: Job<'a>) -> &'a str {
         | Job::Search { file, .. }
         | Job::Follow { file, .. }
         | Job::Assemble { file, .. }
-        | Job::Fmt { file, .. } => file,
+        | Job::Fmt { file, .. }
+        | Job::Shrink { file, .. } => file,
         Job::List { image, .. } | Job::Exec { image, .. } => image,
+        Job::Schedule { log, .. } => log,
     }
 }
 
-// Whether that file is an image's or an assembly text's, and not a source text's.
+// Whether that file is an image's, an assembly text's or a log's, and not a source text's.
 fn is_of_image(job: Job<'_>) -> bool {
     matches!(
         job,
-        Job::List { .. } | Job::Exec { .. } | Job::Search { .. } | Job::Follow { .. }
+        Job::List { .. }
+            | Job::Exec { .. }
+            | Job::Search { .. }
+            | Job::Follow { .. }
+            | Job::Schedule { .. }
     )
 }
 
@@ -137,6 +148,7 @@ fn second_of<'a>(job: Job<'a>) -> Second<'a>
         Job::List { source, .. } => second_of_list(source),
         Job::Replay { by, .. } | Job::Follow { by, .. } => second_of_replay(by),
         Job::Explain { by, .. } => second_of_explained(by),
+        Job::Shrink { schedule, .. } => Second::Text(schedule),
         Job::Check { .. }
         | Job::Compile { .. }
         | Job::Run { .. }
@@ -145,18 +157,31 @@ fn second_of<'a>(job: Job<'a>) -> Second<'a>
         | Job::Explore { .. }
         | Job::Search { .. }
         | Job::Assemble { .. }
-        | Job::Fmt { .. } => Second::None,
+        | Job::Fmt { .. }
+        | Job::Schedule { .. } => Second::None,
     }
 }
 
-// Whether all bytes of the file that a job is about are read: a listing may be longer than a source text.
-fn reads_all(job: Job<'_>) -> bool
-    ensures { first_most job.entry ≡ (if result then 2 ^ 62 else most_read) }
+// How much is read of the file that a job is about.
+#[derive(Clone, Copy)]
+enum First {
+    // What a source text or an image may have.
+    Text,
+    // All: an assembly text may be longer.
+    All,
+    // What a log of at most so many steps may have.
+    Log { steps: u32 },
+}
+
+// That of a job.
+fn first_of(job: Job<'_>) -> First
+    ensures { first_most job.entry ≡ most_first result }
 {
     match job {
-        Job::Assemble { .. } => true,
+        Job::Assemble { .. } => First::All,
+        Job::Schedule { steps, .. } => First::Log { steps },
         Job::Exec { form, .. } | Job::Search { form, .. } | Job::Follow { form, .. } => {
-            is_assembly(form)
+            first_formed(form)
         }
         Job::Check { .. }
         | Job::Compile { .. }
@@ -166,17 +191,18 @@ fn reads_all(job: Job<'_>) -> bool
         | Job::Explain { .. }
         | Job::Emit { .. }
         | Job::Explore { .. }
-        | Job::Fmt { .. } => false,
+        | Job::Fmt { .. }
+        | Job::Shrink { .. } => First::Text,
     }
 }
 
-// Whether an image is given as an assembly text.
-fn is_assembly(form: ImageForm) -> bool
-    ensures { most_formed form ≡ (if result then 2 ^ 62 else most_read) }
+// That of an image in this form.
+fn first_formed(form: ImageForm) -> First
+    ensures { most_formed form ≡ most_first result }
 {
     match form {
-        ImageForm::Assembly => true,
-        ImageForm::Image => false,
+        ImageForm::Assembly => First::All,
+        ImageForm::Image => First::Text,
     }
 }
 
@@ -184,10 +210,10 @@ fn is_assembly(form: ImageForm) -> bool
 fn first_bytes<'a, R: Files + AllocGlobal>(rt: &R, job: Job<'a>) -> Result<Vec<u8>, Failure<'a>>
     ensures { IfOk result (λ v. IsOfFile R.File.remaining (first_most job.entry) v.items) }
 {
-    if reads_all(job) {
-        whole_bytes_of(rt, file_of(job))
-    } else {
-        bytes_of(rt, file_of(job))
+    match first_of(job) {
+        First::Text => bytes_of(rt, file_of(job)),
+        First::All => whole_bytes_of(rt, file_of(job)),
+        First::Log { steps } => front_of(rt, file_of(job), log_bytes(steps) + 1),
     }
 }
 
@@ -234,8 +260,9 @@ pub fn do_job<'a, R: Files + AllocGlobal + Threads + Wait + Sync, P: Progress>(
 ///
 /// The refusal of the text that the job is about, or of the source text beside an image. Else the failure: bytes that are
 /// no image, the image of another text, or one of the first version that is to be run by Linux's rule of exits; an
-/// entry of the schedule or of the log, or a line of the log, that is refused; a fault of the run of an image; or want
-/// of memory.
+/// entry of the schedule or of the log, or a line of the log, that is refused, or a log that is too long; a schedule whose
+/// run doesn't fail; a fault of the run of an image; or want of memory. A job on a source text that makes no run by a
+/// schedule or a log fails for want of memory alone.
 pub fn answer_job<'a, R: AllocGlobal + Threads + Wait + Sync, P: Progress>(
     rt: &R,
     job: Job<'a>,
@@ -248,6 +275,7 @@ pub fn answer_job<'a, R: AllocGlobal + Threads + Wait + Sync, P: Progress>(
     ensures done { IfOk result (HasDone job.entry bytes.now second.now) }
     ensures refused { IfErr result (IsLeftBy (RefusesJob job.entry bytes.now second.now)
         (UnassemblesJob job.entry bytes.now)) }
+    ensures failed { IfErr result (IsFailureBy (λ f. FailsJob job.entry f)) }
 {
     let text = SourceText {
         file: file_of(job),
@@ -276,6 +304,7 @@ fn answer_of<'a, R: AllocGlobal + Threads + Wait + Sync, P: Progress>(
     ensures done { IfOk result (HasDone job.entry text.now.bytes.now second.now) }
     ensures refused { IfErr result (IsLeftBy (RefusesJob job.entry text.now.bytes.now second.now)
         (UnassemblesJob job.entry text.now.bytes.now)) }
+    ensures failed { IfErr result (IsFailureBy (λ f. FailsJob job.entry f)) }
 {
     let alloc = rt.alloc();
     match job {
@@ -318,6 +347,8 @@ fn answer_of<'a, R: AllocGlobal + Threads + Wait + Sync, P: Progress>(
         Job::Emit { out, .. } => answer_emit(alloc, text, out),
         Job::Assemble { out, .. } => answer_assemble(alloc, text, out),
         Job::Fmt { check, .. } => answer_fmt(alloc, text, check),
+        Job::Schedule { out, steps, .. } => answer_schedule(alloc, text.bytes, steps, out),
+        Job::Shrink { out, .. } => answer_shrink(alloc, text, second, out, told),
         Job::Follow {
             form,
             by,
@@ -339,6 +370,7 @@ fn answer_of<'a, R: AllocGlobal + Threads + Wait + Sync, P: Progress>(
             states,
             strays,
             kills,
+            ends,
             chart,
             timeline,
             page,
@@ -350,10 +382,12 @@ fn answer_of<'a, R: AllocGlobal + Threads + Wait + Sync, P: Progress>(
                 timeline,
                 page,
             };
-            let outside = Outside { strays, kills };
-            answer_explore(
-                alloc, text, states, outside, drawings, places, told, progress,
-            )
+            let searched = Searched {
+                states,
+                outside: Outside { strays, kills },
+                asked: Asked { ends },
+            };
+            answer_explore(alloc, text, searched, drawings, places, told, progress)
         }
     }
 }

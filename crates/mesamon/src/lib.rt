@@ -24,5 +24,5 @@ pub use compiler::{
 pub use devices::Counted;
 pub use jobs::answer_job;
 pub use progress::ProgressLines;
-pub use source_search::{Progress, Untold};
+pub use source_search::{Asked, Progress, Untold};
 pub use workers::Calls;

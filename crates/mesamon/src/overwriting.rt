@@ -81,6 +81,13 @@ pub fn overwrites(job: &Job<'_>) -> bool
             ..
         } => is_twice(Some(file), None, options.log, page),
         Job::Assemble { file, out, .. } => is_twice(Some(file), None, Some(out), None),
+        Job::Schedule { log, out, .. } => is_twice(Some(log), None, Some(out), None),
+        Job::Shrink {
+            file,
+            schedule,
+            out,
+            ..
+        } => is_twice(Some(file), Some(schedule), Some(out), None),
         Job::Search { file, files, .. } => {
             draws_over(
                 Some(file),

@@ -1,3 +1,5 @@
+ghost use Rattle.std.specs.Prelude.{◌≡◌};
+
 use source_search::Progress;
 use std::io::Write;
 
@@ -14,7 +16,11 @@ pub struct ProgressLines<W> {
 
 impl<W> ProgressLines<W> {
     /// Lines on this writer, one for each so many states.
-    pub fn new(writer: W, each: usize) -> ProgressLines<W> {
+    pub fn new(writer: W, each: usize) -> ProgressLines<W>
+        ensures writer { result.writer ≡ writer }
+        ensures each { result.each ≡ each }
+        ensures due { result.due ≡ each }
+    {
         ProgressLines {
             writer,
             each,
@@ -23,7 +29,9 @@ impl<W> ProgressLines<W> {
     }
 
     /// The writer itself.
-    pub fn into_inner(self) -> W {
+    pub fn into_inner(self) -> W
+        ensures { result ≡ self.writer }
+    {
         let ProgressLines {
             writer,
             each: _,

@@ -68,7 +68,8 @@ fn text_of<'a>(job: Job<'a>) -> Option<&'a str> {
         | Job::Replay { file, .. }
         | Job::Explain { file, .. }
         | Job::Emit { file, .. }
-        | Job::Explore { file, .. } => Some(file),
+        | Job::Explore { file, .. }
+        | Job::Shrink { file, .. } => Some(file),
         Job::List {
             image,
             linux: true,

@@ -8,9 +8,10 @@
 //! pieces COUNT NUMBER ..    empty pieces of these numbers are handed to a collector of so many
 //! times COUNT N TEXT        the code of the text's pieces is made so often, by N workers, or by `generate` where N is 0
 //! emit TEXT                 the C of the program
-//! search MOST RUNS TEXT     a search over all runs that keeps so many states at most; RUNS is `own`, or `strays`
-//!                           where those who wait may resume by themselves too, or `kills1`, `kills2` and so on where at
-//!                           most so many processes may be killed
+//! search MOST RUNS TEXT     a search over all runs that keeps so many states at most; RUNS is `own`, or `ends`
+//!                           where it is asked too whether each run can end, or `strays` where those who wait may
+//!                           resume by themselves too, or `kills1`, `kills2` and so on where at most so many
+//!                           processes may be killed
 //! timeline SEED STEPS STRAYS | TEXT     the timeline of a run in the order of a seed, of so many steps at most, in
 //!                                       which about one entry in so many is a stray wake, or none where that is 0
 //! show SEED STEPS STRAYS | TEXT         the same, and the timeline is printed too

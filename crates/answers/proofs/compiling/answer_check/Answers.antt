@@ -1,12 +1,12 @@
 use Rattle.compiler.specs.Accepts.{RefusesProgram}
-use Rattle.answers.proofs.Refusing.{left_by, refused_by}
-use Rattle.answers.proofs.Told.{no_memory, ok_so}
+use Rattle.answers.proofs.Refusing.{left_by, refused_or_memory}
+use Rattle.answers.proofs.Told.{memory_alone, ok_so}
 use Rattle.answers.proofs.compiling.answer_check.Goals as goal
 
 pub returns-in_err-check_text-clause-refused : goal.returns-in_err-check_text-clause-refused
 returns-in_err-check_text-clause-refused c =
     left_by _ _ _ c.from_residual.ensures
-    (λ n gives. refused_by (RefusesProgram c.args.text.now.bytes.now) c.in_err-check_text.field-0.0 n c.in_err-check_text.ensures gives)
+    (λ n gives. refused_or_memory (RefusesProgram c.args.text.now.bytes.now) c.in_err-check_text.field-0.0 n c.in_err-check_text.ensures gives)
 
 pub returns-clause-done : goal.returns-clause-done
 returns-clause-done c =
@@ -18,4 +18,4 @@ returns-clause-done c =
     }) c.ok.ensures.told
 
 pub returns-clause-refused : goal.returns-clause-refused
-returns-clause-refused c = no_memory _ _ c.ok.ensures.failed
+returns-clause-refused c = memory_alone _ _ c.ok.ensures.failed

@@ -1,10 +1,8 @@
 use Rattle.std.proofs.Common.{◌<◌, ◌^◌, arith, subst, sym}
 use Rattle.program.specs.Names.{said_by}
 use Rattle.commandline.specs.CommandLine.{version_by}
-use Rattle.answers.proofs.RunsExplained.{of_code, of_own_version, run_explained, run_in_order_explained}
-use Rattle.answers.specs.declared.explained_run.Alone.{Alone}
-use Rattle.runner.specs.Reports.{IsReport}
-use Rattle.answers.specs.Alone.{outside_alone}
+use Rattle.piece_machine.specs.PieceViews.{parts}
+use Rattle.answers.proofs.RunsExplained.{explained_saying, of_own_version, run_alone_explained}
 use Rattle.answers.specs.Explaining.{IsRefusedExplanation, IsWantOfMemory}
 use Rattle.answers.proofs.Failing.{passed}
 use Rattle.answers.proofs.explained_run.explain_alone.Goals as goal
@@ -17,29 +15,20 @@ explain_run-requires-clause-own c =
 pub returns-clause-explained : goal.returns-clause-explained
 returns-clause-explained c =
     let small : c.args.limit < 2 ^ 32 = omega (arith, c.ranges.limit.fits) in
+    let v = version_by c.args.exits in
+    let p = said_by c.in_ok-checked.checked in
+    let image = c.in_ok-checked.lowered.image in
+    let report = c.in_ok-report.report in
     let read = c.in_ok-checked.ensures.compiled in
+    let reported = c.in_ok-report.ensures.report in
+    let own = explained_saying v p image _ _ _ (parts report.last) report.verdict read.code.image c.iter.ensures
+    reported.legal reported.verdict c.in_ok-actions.ensures in
     record {
       accepts = read.accepts;
-      run = run_explained c.logs_are_machine_runs.ensures.runs (version_by c.args.exits) c.args.text.now
-          c.in_ok-checked.lowered.image (outside_alone c.args.order) c.args.limit c.in_ok-report.report read.compiled small
-          c.in_ok-report.ensures.report;
-      explained = of_code (version_by c.args.exits) (said_by c.in_ok-checked.checked) c.in_ok-checked.lowered.image _ _ _
-          read.code.image c.iter.ensures c.in_ok-actions.ensures;
-    }
-
-pub returns-clause-order : goal.returns-clause-order
-returns-clause-order c in_order =
-    let small : c.args.limit < 2 ^ 32 = omega (arith, c.ranges.limit.fits) in
-    let read = c.in_ok-checked.ensures.compiled in
-    let reported = subst (λ (o : Alone). IsReport c.in_ok-checked.lowered.image (outside_alone o) c.args.limit
-    c.in_ok-report.report) in_order c.in_ok-report.ensures.report in
-    record {
-      accepts = read.accepts;
-      run = run_in_order_explained c.logs_are_machine_runs.ensures.runs (version_by c.args.exits) c.args.text.now
-          c.in_ok-checked.lowered.image c.args.limit c.in_ok-report.report read.compiled small reported
-          (c.in_ok-report.ensures.order in_order);
-      explained = of_code (version_by c.args.exits) (said_by c.in_ok-checked.checked) c.in_ok-checked.lowered.image _ _ _
-          read.code.image c.iter.ensures c.in_ok-actions.ensures;
+      run = run_alone_explained c.logs_are_machine_runs.ensures.runs v c.args.text.now image c.args.order c.args.limit
+          report read.compiled small c.in_ok-report.ensures.order;
+      explained = own.0;
+      says = own.1;
     }
 
 pub returns-in_err-actions-clause-only : goal.returns-in_err-actions-clause-only

@@ -1,7 +1,7 @@
 use Rattle.commandline.specs.CommandLine.{version_by}
 use Rattle.answers.specs.Asked.{outside_by}
 use Rattle.answers.proofs.Refusing.{left_by, run_left}
-use Rattle.answers.proofs.Told.{no_memory, ok_so}
+use Rattle.answers.proofs.Told.{memory_alone, ok_so}
 use Rattle.answers.proofs.running.answer_run.Goals as goal
 
 pub returns-in_err-report-clause-refused : goal.returns-in_err-report-clause-refused
@@ -9,7 +9,7 @@ returns-in_err-report-clause-refused g c =
     left_by _ _ _ c.from_residual.ensures
     (λ n gives. run_left (version_by c.args.text.now.exits) c.args.text.now.bytes.now
     (outside_by c.args.options.order) c.args.options.steps c.in_err-report.field-0.0 n c.in_err-report.ensures.fault
-    gives)
+    c.in_err-report.ensures.sound gives)
 
 pub returns-clause-done : goal.returns-clause-done
 returns-clause-done g c =
@@ -18,4 +18,4 @@ returns-clause-done g c =
     c.report_answer.ensures.told
 
 pub returns-clause-refused : goal.returns-clause-refused
-returns-clause-refused g c = no_memory _ _ c.report_answer.ensures.failed
+returns-clause-refused g c = memory_alone _ _ c.report_answer.ensures.failed

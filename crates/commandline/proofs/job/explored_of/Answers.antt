@@ -30,6 +30,7 @@ returns-clause-job c =
     let found = found_of c.args.matches.now in
     let file = first_value-rows found (codes "FILE") in
     let strays = one_text-rows found (codes "strays") in
+    let ends = one_text-rows found (codes "ends") in
     let timeline = first_value-rows found (codes "timeline") in
     let page = first_value-rows found (codes "page") in
     let places = one_text-rows found (codes "places") in
@@ -39,6 +40,7 @@ returns-clause-job c =
       c.in_ok-states.ensures.number,
       (search rules, search rules),
       c.in_ok-kills.ensures.number,
+      (search rules, search rules),
       c.in_ok-chart.ensures.chart,
       sym timeline ∙ sym c.get_str-timeline.ensures,
       sym page ∙ sym c.get_str-page.ensures,

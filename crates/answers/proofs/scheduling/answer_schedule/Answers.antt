@@ -1,0 +1,30 @@
+use Rattle.std.proofs.Common.{List, subst}
+use Rattle.std.specs.Prelude.{Some, length}
+use Rattle.machine.specs.declared.event.Entry.{Entry}
+use Rattle.schedules.specs.OfLog.{log_turns}
+use Rattle.answers.specs.Answers.{TellsAlone}
+use Rattle.answers.specs.Images.{schedule_text}
+use Rattle.answers.specs.Scheduling.{steps_line}
+use Rattle.answers.proofs.Refusing.{left_by, not_read}
+use Rattle.answers.proofs.Told.{no_memory_left, ok_so}
+use Rattle.answers.proofs.scheduling.answer_schedule.Goals as goal
+
+pub returns-in_err-entries-clause-refused : goal.returns-in_err-entries-clause-refused
+returns-in_err-entries-clause-refused c =
+    left_by _ _ _ c.from_residual.ensures
+    (λ n gives. not_read c.args.lines.now c.args.steps c.in_err-entries.field-0.0 n c.in_err-entries.ensures gives)
+
+pub returns-clause-done : goal.returns-clause-done
+returns-clause-done c =
+    ok_so c.schedule_answer.result _ _
+    (λ a tells. record {
+      entries = c.in_ok-entries.entries.items;
+      reads = c.in_ok-entries.ensures.0;
+      few = c.in_ok-entries.ensures.1;
+      tells = subst
+          (λ (es : List Entry). TellsAlone (steps_line (length (log_turns es))) (Some (c.args.out, schedule_text (log_turns es))) a)
+          c.iter.ensures tells;
+    }) c.schedule_answer.ensures.told
+
+pub returns-clause-refused : goal.returns-clause-refused
+returns-clause-refused c = no_memory_left c.schedule_answer.result _ _ c.schedule_answer.ensures.failed
