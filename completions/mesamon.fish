@@ -57,7 +57,7 @@ complete -c mesamon -n '__fish_seen_subcommand_from explore' -l ends -d 'Says to
 complete -c mesamon -n '__fish_seen_subcommand_from exec' -l assembly -d 'IMAGE is an assembly text'
 complete -c mesamon -n '__fish_seen_subcommand_from replay explore' -l assembly -d 'FILE is an assembly text'
 complete -c mesamon -n '__fish_seen_subcommand_from replay explore' -l image -d 'FILE is an image'
-complete -c mesamon -n '__fish_seen_subcommand_from explore' -l schedule -r -F -d 'Beside --assembly or --image, where a schedule of what is found is written'
+complete -c mesamon -n '__fish_seen_subcommand_from explore' -l schedule -r -F -d 'Where a schedule of what is found is written'
 complete -c mesamon -n '__fish_seen_subcommand_from list' -l linux -d "IMAGE is a source text, whose code for Linux's rule of exits is listed"
 complete -c mesamon -n '__fish_seen_subcommand_from run replay explain explore shrink' -l linux -d "Compiles FILE for Linux's rule of exits, and goes by it"
 complete -c mesamon -n '__fish_seen_subcommand_from exec' -l exits -x -a 'machine linux' -d 'Whose rule of exits holds: machine or linux'

@@ -36,7 +36,8 @@ use Rattle.actionlines.specs.Lines.{line}
 use Rattle.commandline.specs.declared.options.ChartOptions.{ChartOptions}
 use Rattle.compiler.specs.Accepts.{AcceptsText}
 use Rattle.log_text.specs.LogLines.{line_feed}
-use Rattle.answers.specs.Answers.{AreDrawn, ArePuts, AreTold}
+use Rattle.answers.specs.Answers.{AreTold, name_of, out_of, put_of}
+use Rattle.answers.specs.FoundSchedule.{IsScheduled}
 use Rattle.answers.specs.declared.answer.Answer.{Answer}
 use Rattle.answers.specs.declared.answer.OutFiles.{OutFiles}
 use Rattle.answers.specs.declared.exploring.ExploredText.{ExploredText}
@@ -169,25 +170,29 @@ is_found e = is_some e.stuck || is_failed e
 -- the run that was found is drawn, timed and shown on a page, to the files of these names; where none was, no file is
 -- written
 abbrev pub AreDrawnIf : Bool → Option ChartOptions → (timeline page : Option (Bor (List ℕ))) → OutFiles → Type 0
-AreDrawnIf true chart timeline page files = AreDrawn chart timeline page files
-AreDrawnIf false chart timeline page files = ArePuts None files
+AreDrawnIf true chart timeline page files =
+    (name_of files.out ≡ out_of chart) × (name_of files.timeline ≡ timeline) × (name_of files.page ≡ page)
+AreDrawnIf false chart timeline page files =
+    (put_of files.out ≡ None) × (name_of files.timeline ≡ None) × (name_of files.page ≡ None)
 
--- what was found is told alone, with the places of actions where those are asked for
-pub record TellsFound (may : Outside) (places : Bool) (chart : Option ChartOptions) (timeline page : Option (Bor (List ℕ)))
-    (r : ExploredText) (a : Answer)
+-- what was found is told alone, with the places of actions where those are asked for; of the text a schedule of its image of
+-- this version is written that fails alike, where it is asked for and one is known
+pub record TellsFound (version : ImageVersion) (may : Outside) (places : Bool) (chart : Option ChartOptions)
+    (timeline page schedule : Option (Bor (List ℕ))) (text : List ℕ) (r : ExploredText) (a : Answer)
     : Type 0
   where
     pub ended : a.status ≡ explored_status r.exploration
     pub are_told : AreTold places (explored_lines may r) a.output.items
-    pub account : a.account.items ≡ []
     pub files : AreDrawnIf (is_found r.exploration) chart timeline page a.files
+    pub scheduled : IsScheduled version text r.exploration (is_found r.exploration) schedule (put_of a.files.schedule)
+        a.account.items
 
 -- all runs of the text's program were searched, with as much from outside as may be and keeping so many states at most, and
 -- what was found was told, and what was asked for; of the image of this version that says what it says
 pub record HasExplored (version : ImageVersion) (may : Outside) (asked : Asked) (most : ℕ) (places : Bool)
-    (chart : Option ChartOptions) (timeline page : Option (Bor (List ℕ))) (text : List ℕ) (a : Answer)
+    (chart : Option ChartOptions) (timeline page schedule : Option (Bor (List ℕ))) (text : List ℕ) (a : Answer)
     : Type 0
   where
     pub explored_text : ExploredText
     pub explored : IsExploredText version text may asked most explored_text
-    pub tells : TellsFound may places chart timeline page explored_text a
+    pub tells : TellsFound version may places chart timeline page schedule text explored_text a

@@ -13,6 +13,7 @@ pub mod Hinting
 pub mod Failures
 pub mod Answers
 pub mod Exploring
+pub mod FoundSchedule
 pub mod Formatting
 pub mod Images
 pub mod Scheduling

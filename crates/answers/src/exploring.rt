@@ -9,12 +9,13 @@ ghost use Rattle.answers.specs.Exploring.{explored_status, is_blocked, is_failed
 ghost use Rattle.answers.specs.Exploring.{none_aborts, process_word, states_line};
 ghost use Rattle.answers.specs.Exploring.{AreDrawnIf, HasExplored, IsExploredText, IsFoundOf, TellsFound};
 ghost use Rattle.std.specs.List.{flat_map};
-ghost use Rattle.answers.specs.Failures.{HasNoMemory, IsRefusalOrMemory};
+ghost use Rattle.answers.specs.Failures.{IsRefusalOrMemory};
 
 use crate::answer::{Answer, OutFiles};
 use crate::compiled::compile_checked_by;
 use crate::drawing::{Drawings, ShownRun};
 use crate::failure::NoAnswer;
+use crate::found_schedule::schedule_of_found;
 use crate::hinting::SourceText;
 use crate::status::Status;
 use crate::telling::tell_found;
@@ -108,20 +109,22 @@ fn explore_checked<P: Progress>(
 }
 
 /// Searches all runs of a source text, with as much from outside as may be, tells what is found and what is asked for,
-/// and shows it in other files where they are named and anything was found. How far the search has come is told as it
-/// goes.
+/// and shows it in other files where they are named and anything was found. A schedule by which the text's image fails as
+/// that run does is for the file of `schedule`; where none is known, standard error is told. How far the search has come is
+/// told as it goes.
 pub fn answer_explore<'a, P: Progress>(
     alloc: Global,
     text: &SourceText<'_>,
     searched: Searched,
     drawings: Drawings<'a>,
+    schedule: Option<&'a str>,
     places: bool,
     told: &mut String,
     progress: &mut P,
 ) -> Result<Answer<'a>, NoAnswer<'a>>
     ensures done { IfOk result (HasExplored (version_by text.now.exits) searched.outside searched.asked
         searched.states places drawings.entry.chart drawings.entry.timeline drawings.entry.page
-        text.now.bytes.now) }
+        schedule.entry text.now.bytes.now) }
     ensures refused { IfErr result
         (IsRefusalOrMemory (RefusesTextAs (version_by text.now.exits) text.now.bytes.now)) }
 {
@@ -136,7 +139,15 @@ pub fn answer_explore<'a, P: Progress>(
     )?;
     let found = shown(&explored.exploration);
     tell_found(alloc, told, text, &explored.checked, found);
-    found_answer(alloc, text, &explored, searched.outside, drawings, places)
+    found_answer(
+        alloc,
+        text,
+        &explored,
+        searched.outside,
+        drawings,
+        schedule,
+        places,
+    )
 }
 
 // Tells what was found, and shows it in other files where they are named.
@@ -146,16 +157,31 @@ fn found_answer<'a>(
     explored: &ExploredText<'_>,
     outside: Outside,
     drawings: Drawings<'a>,
+    schedule: Option<&'a str>,
     places: bool,
 ) -> Result<Answer<'a>, NoAnswer<'a>>
-    ensures told { IfOk result (TellsFound outside places drawings.entry.chart
-        drawings.entry.timeline drawings.entry.page explored.now) }
-    ensures failed { IfErr result HasNoMemory }
+    ensures told { IfOk result (TellsFound (version_by text.now.exits) outside places
+        drawings.entry.chart drawings.entry.timeline drawings.entry.page schedule.entry
+        text.now.bytes.now explored.now) }
+    ensures refused { IfErr result
+        (IsRefusalOrMemory (RefusesTextAs (version_by text.now.exits) text.now.bytes.now)) }
 {
+    let found = shown(&explored.exploration).is_some();
+    let scheduled = schedule_of_found(alloc, text, &explored.exploration, found, schedule)?;
     let lines = told_lines(alloc, text, explored, outside, places)?;
     let files = drawn_found(alloc, drawings, text, explored)?;
-    let status = status_of_found(&explored.exploration);
-    Ok(Answer::quiet(alloc, status, lines, files))
+    let account = Vec::from_slice(alloc, scheduled.account.as_bytes())?;
+    Ok(Answer {
+        status: status_of_found(&explored.exploration),
+        output: lines,
+        account,
+        files: OutFiles {
+            out: files.out,
+            timeline: files.timeline,
+            page: files.page,
+            schedule: scheduled.file,
+        },
+    })
 }
 
 // What is told, with the places of the actions behind them where those are wanted.

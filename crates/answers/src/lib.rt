@@ -10,6 +10,7 @@ mod explaining;
 mod exploring;
 mod failure;
 mod following;
+mod found_schedule;
 mod formatting;
 mod hinting;
 mod images;

@@ -94,18 +94,18 @@ no_emit rows (Emit file out hints) (inr none) h = no_value _ _ none h.1
 no_emit rows other missing h = h
 
 pub no_explore : (rows : List Row) (job : Job) → ReadsForm rows None
-    → (has_any (codes "schedule" ∷ codes "exits" ∷ []) rows ≡ true) ⊎ ((first_of (codes "FILE") rows ≡ None)
+    → (is_written (codes "exits") rows ≡ true) ⊎ ((first_of (codes "FILE") rows ≡ None)
     ⊎ (((n : ℕ) → ReadsStates rows n → ⊥) ⊎ (((n : ℕ) → ReadsKills rows n → ⊥)
     ⊎ ((c : Option ChartOptions) → ReadsChart rows c → ⊥)))) → IsExploreOf rows job → ⊥
-no_explore rows (Explore file exits states strays kills ends chart timeline page places hints) source (inl more) h =
-    clash _ more h.12
-no_explore rows (Explore file exits states strays kills ends chart timeline page places hints) source (inr (inl none)) h =
+no_explore rows (Explore file exits states strays kills ends chart timeline page schedule places hints) source (inl more) h =
+    clash _ more h.13
+no_explore rows (Explore file exits states strays kills ends chart timeline page schedule places hints) source (inr (inl none)) h =
     no_value _ _ none h.0
-no_explore rows (Explore file exits states strays kills ends chart timeline page places hints) source (inr (inr (inl none))) h =
+no_explore rows (Explore file exits states strays kills ends chart timeline page schedule places hints) source (inr (inr (inl none))) h =
     none states h.2
-no_explore rows (Explore file exits states strays kills ends chart timeline page places hints) source (inr (inr (inr (inl none)))) h =
+no_explore rows (Explore file exits states strays kills ends chart timeline page schedule places hints) source (inr (inr (inr (inl none)))) h =
     none kills h.4
-no_explore rows (Explore file exits states strays kills ends chart timeline page places hints) source (inr (inr (inr (inr none)))) h =
+no_explore rows (Explore file exits states strays kills ends chart timeline page schedule places hints) source (inr (inr (inr (inr none)))) h =
     none chart h.6
 no_explore rows (Search file form exits states strays kills files hints) source missing h = no_source rows form source h.1
 no_explore rows other source missing h = h
@@ -114,8 +114,8 @@ pub no_search : (rows : List Row) (job : Job) (form : ImageForm) → ReadsForm r
     → (has_any of_source rows ≡ true)
     ⊎ ((first_of (codes "FILE") rows ≡ None) ⊎ (((e : Exits) → ReadsExits rows e → ⊥)
     ⊎ (((n : ℕ) → ReadsStates rows n → ⊥) ⊎ ((n : ℕ) → ReadsKills rows n → ⊥)))) → IsExploreOf rows job → ⊥
-no_search rows (Explore file exits states strays kills ends chart timeline page places hints) form image missing h =
-    no_source rows form h.11 image
+no_search rows (Explore file exits states strays kills ends chart timeline page schedule places hints) form image missing h =
+    no_source rows form h.12 image
 no_search rows (Search file f exits states strays kills files hints) form image (inl more) h = clash _ more h.7
 no_search rows (Search file f exits states strays kills files hints) form image (inr (inl none)) h =
     no_value _ _ none h.0
@@ -128,7 +128,7 @@ no_search rows other form image missing h = h
 
 pub no_formed_search : (rows : List Row) (job : Job) → ((f : Option ImageForm) → ReadsForm rows f → ⊥)
     → IsExploreOf rows job → ⊥
-no_formed_search rows (Explore file exits states strays kills ends chart timeline page places hints) none h = none None h.11
+no_formed_search rows (Explore file exits states strays kills ends chart timeline page schedule places hints) none h = none None h.12
 no_formed_search rows (Search file form exits states strays kills files hints) none h = none (Some form) h.1
 no_formed_search rows other none h = h
 

@@ -198,7 +198,7 @@ explain_command =
     (valued (codes "page"))) (flag (codes "places"))) (flag (codes "linux"))) (flag (codes "hints"))
 
 -- `explore FILE [--states N] [--strays] [--kills N] [--ends] [--chart OUT [--from N] [--to N]] [--timeline OUT]
--- [--page OUT] [--places] [--linux] [--hints]`, or of an image
+-- [--page OUT] [--schedule OUT] [--places] [--linux] [--hints]`, or of an image
 -- `explore FILE [--states N] [--strays] [--kills N] (--assembly | --image) [--schedule OUT] [--chart OUT] [--timeline OUT]
 -- [--exits RULE] [--hints]`
 abbrev pub explore_command : App
@@ -507,13 +507,14 @@ IsEmitOf rows other = ⊥
 
 -- a job of searching all runs, or all schedules of an image
 abbrev pub IsExploreOf : List Row → Job → Type 0
-IsExploreOf rows (Explore file exits states strays kills ends chart timeline page places hints) =
+IsExploreOf rows (Explore file exits states strays kills ends chart timeline page schedule places hints) =
     (first_of (codes "FILE") rows ≡ Some file.now) × ReadsLinux rows exits × ReadsStates rows states
     × ReadsFlag (codes "strays") rows strays × ReadsKills rows kills × ReadsFlag (codes "ends") rows ends
     × ReadsChart rows chart × (first_of (codes "timeline") rows ≡ option_map (λ out. out.now) timeline)
-    × (first_of (codes "page") rows ≡ option_map (λ out. out.now) page) × ReadsFlag (codes "places") rows places
-    × ReadsFlag (codes "hints") rows hints × ReadsForm rows None
-    × (has_any (codes "schedule" ∷ codes "exits" ∷ []) rows ≡ false)
+    × (first_of (codes "page") rows ≡ option_map (λ out. out.now) page)
+    × (first_of (codes "schedule") rows ≡ option_map (λ out. out.now) schedule)
+    × ReadsFlag (codes "places") rows places × ReadsFlag (codes "hints") rows hints × ReadsForm rows None
+    × (is_written (codes "exits") rows ≡ false)
 IsExploreOf rows (Search file form exits states strays kills files hints) =
     (first_of (codes "FILE") rows ≡ Some file.now) × ReadsForm rows (Some form) × ReadsExits rows exits
     × ReadsStates rows states × ReadsFlag (codes "strays") rows strays × ReadsKills rows kills

@@ -15,7 +15,7 @@ use crate::options::{
 use crate::refusing::refusal_of;
 use crate::sources::{
     exits_of, explained_by, form_of, image_form_of, linux_of, replayed_by, replays_source,
-    search_files_of, searches_image, searches_source,
+    search_files_of, searches_source,
 };
 use crate::values::{
     chart_of, is_written, kills_of, options_of, states_of, steps_of, version_of, workers_of,
@@ -147,6 +147,8 @@ pub enum Job<'a> {
         timeline: Option<&'a str>,
         /// The name of the page's file, where one is wanted.
         page: Option<&'a str>,
+        /// The name of the file of a schedule by which the text's image goes there, where one is wanted.
+        schedule: Option<&'a str>,
         /// Whether each action goes on with its place.
         places: bool,
         /// Whether hints stand behind a refusal of the source text.
@@ -497,7 +499,7 @@ fn explored_of<'a>(matches: &ArgMatches<'a>) -> Option<Job<'a>>
     ensures none { result ≡ None → (job : JobOf) → IsExploreOf (rows_of (found_of matches.now)) job
         → ⊥ }
 {
-    if searches_image(matches) {
+    if is_written(matches, "exits") {
         return None;
     }
     let file = matches.get_str("FILE")?;
@@ -509,6 +511,7 @@ fn explored_of<'a>(matches: &ArgMatches<'a>) -> Option<Job<'a>>
     let chart = chart_of(matches)?;
     let timeline = matches.get_str("timeline");
     let page = matches.get_str("page");
+    let schedule = matches.get_str("schedule");
     let places = matches.get_flag("places");
     let hints = matches.get_flag("hints");
     Some(Job::Explore {
@@ -521,6 +524,7 @@ fn explored_of<'a>(matches: &ArgMatches<'a>) -> Option<Job<'a>>
         chart,
         timeline,
         page,
+        schedule,
         places,
         hints,
     })

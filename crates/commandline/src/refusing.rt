@@ -39,10 +39,6 @@ const PAGE_OF_IMAGE: &str =
 const PICTURE_OF_IMAGE: &str =
     "the arguments '--from <N>', '--to <N>', '--page <OUT>', '--places' and '--ends' cannot be used with '--assembly' or '--image'";
 
-// What is said of a schedule that is asked for of a source text's runs.
-const SCHEDULE_OF_SOURCE: &str =
-    "the argument '--schedule <OUT>' cannot be used without '--assembly' or '--image'";
-
 // What is said of actions that no picture has.
 const NO_CHART_FROM: &str = "the argument '--from <N>' cannot be used without '--chart <OUT>'";
 
@@ -135,8 +131,6 @@ fn no_search(matches: &ArgMatches<'_>) -> (ErrorKind, &'static str) {
         (ErrorKind::ArgumentConflict, TWO_FORMS)
     } else if is_assembly || is_image {
         no_search_of_image(matches)
-    } else if is_written(matches, "schedule") {
-        (ErrorKind::MissingRequiredArgument, SCHEDULE_OF_SOURCE)
     } else if is_written(matches, "exits") {
         (ErrorKind::MissingRequiredArgument, EXITS_OF_SOURCE)
     } else {

@@ -91,14 +91,6 @@ pub fn searches_source(matches: &ArgMatches<'_>) -> bool
         || is_written(matches, "ends")
 }
 
-/// Whether the words have what a search has that is of an image alone.
-pub fn searches_image(matches: &ArgMatches<'_>) -> bool
-    ensures { result
-        ≡ has_any (codes "schedule" ∷ codes "exits" ∷ []) (rows_of (found_of matches.now)) }
-{
-    is_written(matches, "schedule") || is_written(matches, "exits")
-}
-
 /// Whether the words have what a replay has that is of a source text alone.
 pub fn replays_source(matches: &ArgMatches<'_>) -> bool
     ensures { result

@@ -406,7 +406,7 @@ pub(crate) const EXPLORE: Subcommand = Subcommand {
         Argument {
             name: "schedule",
             kind: Kind::Valued("OUT"),
-            help: "Beside --assembly or --image, where a schedule of what is found is written",
+            help: "Where a schedule of what is found is written",
         },
         LINUX,
         EXITS,

@@ -140,7 +140,7 @@ has_workers ws (Exec image form exits options) asks = tt
 has_workers ws (Replay file exits by trace page hints) asks = tt
 has_workers ws (Explain file exits by chart timeline page places hints) asks = tt
 has_workers ws (Emit file out hints) asks = tt
-has_workers ws (Explore file exits states strays kills every chart timeline page places hints) asks = tt
+has_workers ws (Explore file exits states strays kills every chart timeline page schedule places hints) asks = tt
 has_workers ws (Search file form exits states strays kills files hints) asks = tt
 has_workers ws (Follow file form exits by trace hints) asks = tt
 has_workers ws (Assemble file out hints) asks = tt
@@ -201,7 +201,7 @@ ends (Replay file exits by trace page hints) bytes second a h = end_as a.status 
 ends (Explain file exits by chart timeline page places hints) bytes second a h =
     end_as a.status _ h.tells.ended (verdict_end h.explained_run.report.verdict)
 ends (Emit file out hints) bytes second a h = end_as a.status Done h.tells.ended tt
-ends (Explore file exits states strays kills every chart timeline page places hints) bytes second a h =
+ends (Explore file exits states strays kills every chart timeline page schedule places hints) bytes second a h =
     let e = h.explored_text.exploration in
     end_as a.status _ h.tells.ended (found_end (is_some e.stuck) (is_failed e) e.complete)
 ends (Search file form exits states strays kills files hints) bytes second a h =

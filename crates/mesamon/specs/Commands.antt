@@ -50,9 +50,9 @@ HasDone (Replay file exits by trace page hints) bytes second a =
 HasDone (Explain file exits by chart timeline page places hints) bytes second a =
     HasExplained (version_by exits) by second places chart timeline page bytes a
 HasDone (Emit file out hints) bytes second a = HasEmitted out bytes a
-HasDone (Explore file exits states strays kills ends chart timeline page places hints) bytes second a =
+HasDone (Explore file exits states strays kills ends chart timeline page schedule places hints) bytes second a =
     HasExplored (version_by exits) (record { strays = strays; kills = kills }) (record { ends = ends }) states places chart
-    timeline page bytes a
+    timeline page schedule bytes a
 HasDone (Search file form exits states strays kills files hints) bytes second a =
     HasSearched exits form (record { strays = strays; kills = kills }) states files bytes a
 HasDone (Follow file form exits by trace hints) bytes second a = HasFollowed exits form by trace bytes second a
@@ -72,7 +72,7 @@ RefusesJob (Replay file exits by trace page hints) bytes second e = RefusesTextA
 RefusesJob (Explain file exits by chart timeline page places hints) bytes second e =
     RefusesTextAs (version_by exits) bytes e
 RefusesJob (Emit file out hints) bytes second e = RefusesTextAs Linux bytes e
-RefusesJob (Explore file exits states strays kills ends chart timeline page places hints) bytes second e =
+RefusesJob (Explore file exits states strays kills ends chart timeline page schedule places hints) bytes second e =
     RefusesTextAs (version_by exits) bytes e
 RefusesJob (Search file form exits states strays kills files hints) bytes second e = ⊥
 RefusesJob (Follow file form exits by trace hints) bytes second e = ⊥
@@ -91,7 +91,7 @@ UnassemblesJob (Run file exits options page hints) bytes e = ⊥
 UnassemblesJob (Replay file exits by trace page hints) bytes e = ⊥
 UnassemblesJob (Explain file exits by chart timeline page places hints) bytes e = ⊥
 UnassemblesJob (Emit file out hints) bytes e = ⊥
-UnassemblesJob (Explore file exits states strays kills ends chart timeline page places hints) bytes e = ⊥
+UnassemblesJob (Explore file exits states strays kills ends chart timeline page schedule places hints) bytes e = ⊥
 UnassemblesJob (Search file form exits states strays kills files hints) bytes e = UnassemblesAs form bytes e
 UnassemblesJob (Follow file form exits by trace hints) bytes e = UnassemblesAs form bytes e
 UnassemblesJob (Assemble file out hints) bytes e = RefusesAssembly bytes e
@@ -109,7 +109,7 @@ FailsJob (Exec image form exits options) f = ⊤
 FailsJob (Replay file exits by trace page hints) f = ⊤
 FailsJob (Explain file exits by chart timeline page places hints) f = ⊤
 FailsJob (Emit file out hints) f = f ≡ NoMemory
-FailsJob (Explore file exits states strays kills ends chart timeline page places hints) f = f ≡ NoMemory
+FailsJob (Explore file exits states strays kills ends chart timeline page schedule places hints) f = f ≡ NoMemory
 FailsJob (Search file form exits states strays kills files hints) f = ⊤
 FailsJob (Follow file form exits by trace hints) f = ⊤
 FailsJob (Assemble file out hints) f = ⊤

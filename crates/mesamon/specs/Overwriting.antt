@@ -27,6 +27,12 @@ abbrev pub draws_over : (read also_read chart timeline page : Option (Bor (List 
 draws_over read also_read chart timeline page =
     is_twice read also_read chart timeline || is_twice read also_read chart page || is_same timeline page
 
+-- the same of what shows a run of the text in a file: its picture, its timeline, its page and a schedule
+abbrev pub finds_over : (file : Bor (List ℕ)) (chart timeline page schedule : Option (Bor (List ℕ))) → Bool
+finds_over file chart timeline page schedule =
+    draws_over (Some file) None chart timeline page || is_same schedule (Some file) || is_same schedule chart
+    || is_same schedule timeline || is_same schedule page
+
 -- the file that says which run is explained
 abbrev pub read_by : ExplainedBy → Option (Bor (List ℕ))
 read_by (Order steps) = None
@@ -54,5 +60,5 @@ overwrites (Shrink file exits schedule out hints) = is_twice (Some file) (Some s
 overwrites (Exec image form exits options) = is_twice (Some image) None options.log None
 overwrites (Replay file exits by trace page hints) = replay_overwrites file by page
 overwrites (Explain file exits by chart timeline page places hints) = draws_over (Some file) (read_by by) (out_of chart) timeline page
-overwrites (Explore file exits states strays kills ends chart timeline page places hints) =
-    draws_over (Some file) None (out_of chart) timeline page
+overwrites (Explore file exits states strays kills ends chart timeline page schedule places hints) =
+    finds_over file (out_of chart) timeline page schedule

@@ -374,6 +374,7 @@ fn answer_of<'a, R: AllocGlobal + Threads + Wait + Sync, P: Progress>(
             chart,
             timeline,
             page,
+            schedule,
             places,
             ..
         } => {
@@ -387,7 +388,7 @@ fn answer_of<'a, R: AllocGlobal + Threads + Wait + Sync, P: Progress>(
                 outside: Outside { strays, kills },
                 asked: Asked { ends },
             };
-            answer_explore(alloc, text, searched, drawings, places, told, progress)
+            answer_explore(alloc, text, searched, drawings, schedule, places, told, progress)
         }
     }
 }

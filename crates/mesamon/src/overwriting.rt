@@ -1,6 +1,6 @@
 ghost use Rattle.std.specs.Prelude.{◌≡◌};
 ghost use Rattle.answers.specs.Answers.{out_of};
-ghost use Rattle.mesamon.specs.Overwriting.{draws_over, is_same, is_twice, overwrites, read_by, replay_overwrites};
+ghost use Rattle.mesamon.specs.Overwriting.{draws_over, finds_over, is_same, is_twice, overwrites, read_by, replay_overwrites};
 
 use commandline::{ChartOptions, ExplainedBy, Job, ReplayedBy};
 
@@ -44,6 +44,23 @@ fn draws_over(
     is_twice(read, also_read, chart, timeline)
         || is_twice(read, also_read, chart, page)
         || is_same(timeline, page)
+}
+
+// The same of what shows a run of the text in a file: its picture, its timeline, its page and a schedule.
+fn finds_over(
+    file: &str,
+    chart: Option<&str>,
+    timeline: Option<&str>,
+    page: Option<&str>,
+    schedule: Option<&str>,
+) -> bool
+    ensures { result ≡ finds_over file.entry chart.entry timeline.entry page.entry schedule.entry }
+{
+    draws_over(Some(file), None, chart, timeline, page)
+        || is_same(schedule, Some(file))
+        || is_same(schedule, chart)
+        || is_same(schedule, timeline)
+        || is_same(schedule, page)
 }
 
 // The file of a picture.
@@ -113,8 +130,9 @@ pub fn overwrites(job: &Job<'_>) -> bool
             chart,
             timeline,
             page,
+            schedule,
             ..
-        } => draws_over(Some(file), None, out_of(chart), timeline, page),
+        } => finds_over(file, out_of(chart), timeline, page, schedule),
     }
 }
 

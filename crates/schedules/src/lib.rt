@@ -12,5 +12,5 @@ mod switching;
 
 pub use failing::{RunFailure, failure_of};
 pub use of_log::schedule_of_log;
-pub use shrinking::{ShrinkFault, ShrunkSchedule, shrink};
+pub use shrinking::{ShrinkFault, ShrunkSchedule, fails_on, shrink};
 pub use switching::switches;

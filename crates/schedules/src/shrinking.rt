@@ -121,8 +121,8 @@ fn is_shorter(
     fails_on(alloc, image, turns, failure)
 }
 
-/// Whether the run of an image by a schedule fails so.
-pub(crate) fn fails_on(
+/// Whether an image follows a schedule to its end and its run fails so. True only where that is so.
+pub fn fails_on(
     alloc: Global,
     image: &Image,
     schedule: &[Turn],

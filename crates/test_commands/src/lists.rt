@@ -19,9 +19,10 @@ pub fn take_line(rt: &HostRuntime, line: &str) -> io::Result<bool> {
     let shown = match key {
         "actions" => show_actions(rt, row),
         "actions-as-one" => show_actions_as_one(rt, row),
-        "logs" => show_logs(rt, row, Outside::Nothing),
-        "strays" => show_logs(rt, row, Outside::Strays),
-        "kills" => show_logs(rt, row, Outside::Kills),
+        "logs" => show_logs(rt, row, Outside::Nothing, Exits::Machine),
+        "strays" => show_logs(rt, row, Outside::Strays, Exits::Machine),
+        "kills" => show_logs(rt, row, Outside::Kills, Exits::Machine),
+        "kills-linux" => show_logs(rt, row, Outside::Kills, Exits::Linux),
         "seeds" => show_seeds(rt, row, Exits::Machine),
         "seeds-linux" => show_seeds(rt, row, Exits::Linux),
         _ => return Ok(false),

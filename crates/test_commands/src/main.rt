@@ -36,6 +36,7 @@
 //! logs COUNT MOST | TEXT      so many logs of the program's image, each of so many entries at most
 //! strays COUNT MOST | TEXT    the same with wakes from outside of threads that sleep
 //! kills COUNT MOST | TEXT     so many logs of one run, with a thread killed behind the first step, the second ..
+//! kills-linux ..              the same by Linux's rule of exits, of the image for it
 //! seeds COUNT STEPS STRAYS KILLS | TEXT
 //!                             the runs by the seeds from 1 to COUNT, of so many steps at most, with about one wake from
 //!                             outside in so many entries, or none where that is 0, and with so many kills at most

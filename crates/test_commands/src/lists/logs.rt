@@ -1,6 +1,7 @@
 use crate::lists::failure::Failure;
-use compiler::{compile, compile_checked};
+use compiler::{compile, compile_checked_as};
 use isa::Image;
+use mesamon::Exits;
 use program::Checked;
 use std::io;
 use test_logs::{KillTrial, StrayTrial, Subject, Trial, try_kills, try_logs, try_strays};
@@ -37,11 +38,16 @@ pub enum Outside {
     Kills,
 }
 
-/// Prints what comes of logs of the image of the program whose text stands in the row, behind how many logs there are,
-/// and of how many entries each at most.
-pub fn show_logs(rt: &HostRuntime, row: &str, outside: Outside) -> Result<(), Failure> {
+/// Prints what comes of logs of the image, for this rule of exits, of the program whose text stands in the row, behind
+/// how many logs there are, and of how many entries each at most.
+pub fn show_logs(
+    rt: &HostRuntime,
+    row: &str,
+    outside: Outside,
+    exits: Exits,
+) -> Result<(), Failure> {
     let row = row_of(row)?;
-    let (checked, lowered) = compile_checked(rt.alloc(), row.text)?;
+    let (checked, lowered) = compile_checked_as(rt.alloc(), row.text, exits.version())?;
     show_of(rt, &checked, &lowered.image, row, outside)
 }
 

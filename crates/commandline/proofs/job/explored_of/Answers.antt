@@ -33,6 +33,7 @@ returns-clause-job c =
     let ends = one_text-rows found (codes "ends") in
     let timeline = first_value-rows found (codes "timeline") in
     let page = first_value-rows found (codes "page") in
+    let schedule = first_value-rows found (codes "schedule") in
     let places = one_text-rows found (codes "places") in
     let hints = one_text-rows found (codes "hints") in (
       search rules,
@@ -44,6 +45,7 @@ returns-clause-job c =
       c.in_ok-chart.ensures.chart,
       sym timeline ∙ sym c.get_str-timeline.ensures,
       sym page ∙ sym c.get_str-page.ensures,
+      sym schedule ∙ sym c.get_str-schedule.ensures,
       (search rules, search rules),
       (search rules, search rules),
       c.requires,

@@ -113,7 +113,7 @@ returns-in-Explore-clause-done g c =
     done_by _ _ _ _ _ _
     (λ e. HasExplored (version_by e) (record { strays = c.in-Explore.strays; kills = c.in-Explore.kills })
     (record { ends = c.in-Explore.ends }) c.in-Explore.states c.in-Explore.places c.in-Explore.chart c.in-Explore.timeline c.in-Explore.page
-    c.args.text.now.bytes.now)
+    c.in-Explore.schedule c.args.text.now.bytes.now)
     c.in-Explore.is c.requires.exits (λ a h. h) c.answer_explore.ensures.done
 
 pub returns-in-Explore-clause-refused : goal.returns-in-Explore-clause-refused
