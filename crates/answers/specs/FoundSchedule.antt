@@ -43,7 +43,7 @@ SpellsGuided version text e Unknown = Unit {0}
 -- what standard error gets where no schedule was found: a notify of the run resumes another process than this machine does,
 -- or why is not known
 abbrev pub other_choice : List ℕ
-other_choice = codes "no schedule: only by another choice of a NOTIFY\n"
+other_choice = codes "no schedule was found: a NOTIFY resumes another process than the machine would\n"
 
 abbrev pub no_schedule : List ℕ
 no_schedule = codes "no schedule was found\n"

@@ -53,7 +53,7 @@ pub(crate) fn schedule_of_found<'a>(
         }),
         GuidedSchedule::OtherChoice => Ok(ScheduleFound {
             file: None,
-            account: "no schedule: only by another choice of a NOTIFY\n",
+            account: "no schedule was found: a NOTIFY resumes another process than the machine would\n",
         }),
         GuidedSchedule::Unknown => Ok(ScheduleFound {
             file: None,
@@ -77,7 +77,14 @@ fn guided_by(
     };
     let (checked, lowered) = compile_checked_by(alloc, text.bytes, text.exits)?;
     let monitors = checked.program().monitors.len() as u32;
-    let guided = schedule_of_run(alloc, &lowered.image, &lowered.layout, monitors, actions, failure);
+    let guided = schedule_of_run(
+        alloc,
+        &lowered.image,
+        &lowered.layout,
+        monitors,
+        actions,
+        failure,
+    );
     Ok(guided?)
 }
 

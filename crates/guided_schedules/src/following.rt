@@ -15,8 +15,7 @@ use std::alloc::{AllocError, Global};
 pub enum GuidedSchedule {
     /// A schedule.
     Found(Vec<Turn>),
-    /// There is none along these actions in this machine's order of sleepers: a notify resumes a process that isn't the one
-    /// that has slept longest.
+    /// None was found: a notify resumes a process, and this machine would wake another one, which has slept longer.
     OtherChoice,
     /// None was found, and why isn't known.
     Unknown,
@@ -63,7 +62,10 @@ fn guided(
     schedule_of(guide, done)
 }
 
-fn schedule_of(guide: Guide<'_>, done: Result<Followed, AllocError>) -> Result<GuidedSchedule, AllocError> {
+fn schedule_of(
+    guide: Guide<'_>,
+    done: Result<Followed, AllocError>,
+) -> Result<GuidedSchedule, AllocError> {
     let turns = guide.into_turns();
     Ok(match done? {
         Followed::OtherChoice => GuidedSchedule::OtherChoice,
@@ -89,6 +91,7 @@ fn follow_all(
     failure: RunFailure,
 ) -> Result<Followed, AllocError> {
     let followed = follow_each(guide, actions)?;
+    guide.sleep_all()?;
     match failure {
         RunFailure::Stuck => guide.settle()?,
         RunFailure::Aborted { thread, .. } => guide.settle_one(thread)?,
@@ -97,8 +100,8 @@ fn follow_all(
 }
 
 fn follow_each(guide: &mut Guide<'_>, actions: &[Action]) -> Result<Followed, AllocError> {
-    for action in actions {
-        let followed = follow(guide, action)?;
+    for place in 0..actions.len() {
+        let followed = follow(guide, &actions[place], &actions[place + 1..])?;
         if followed != Followed::Whole {
             return Ok(followed);
         }
@@ -106,29 +109,74 @@ fn follow_each(guide: &mut Guide<'_>, actions: &[Action]) -> Result<Followed, Al
     Ok(Followed::Whole)
 }
 
-// Goes along an action. What others don't see is left to the next one that they see.
-fn follow(guide: &mut Guide<'_>, action: &Action) -> Result<Followed, AllocError> {
+// Goes along an action, which these come after. What others don't see is left to the next one that they see.
+fn follow(
+    guide: &mut Guide<'_>,
+    action: &Action,
+    later: &[Action],
+) -> Result<Followed, AllocError> {
     let Ok(t) = u32::try_from(action.process) else {
         return Ok(Followed::Part);
     };
     let is_done = match &action.kind {
-        ActionKind::Wait(_) => guide.drive_to_sleep(t)?,
         ActionKind::Enter(_)
         | ActionKind::Resume(_)
         | ActionKind::Exit(_)
-        | ActionKind::Notify(..)
-        | ActionKind::Broadcast(..)
         | ActionKind::Fork(_)
         | ActionKind::Abandon(_) => guide.drive(t)?,
+        ActionKind::Wait(_) => guide.drive_to_wait(t)?,
+        ActionKind::Notify(_, resumed) => return notify(guide, t, resumed.as_slice(), later),
+        ActionKind::Broadcast(..) => sleep_and_drive(guide, t, later)?,
         ActionKind::Kill(..) => guide.kill(t)?,
-        ActionKind::Stray(_) => guide.wake(t)?,
+        ActionKind::Stray(_) => sleep_and_wake(guide, t, later)?,
         _ => true,
     };
-    if !is_done {
+    Ok(if is_done {
+        Followed::Whole
+    } else {
+        Followed::Part
+    })
+}
+
+// Goes along a NOTIFY that resumes these processes. A thread on its way to sleep finds the condition's word changed; of those
+// that sleep the machine wakes the first. So one that is resumed goes to sleep before the others, and the rest of them don't.
+fn notify(
+    guide: &mut Guide<'_>,
+    t: u32,
+    resumed: &[u64],
+    later: &[Action],
+) -> Result<Followed, AllocError> {
+    guide.put_first_to_sleep(resumed)?;
+    put_to_sleep(guide, later)?;
+    if !guide.drive(t)? {
         return Ok(Followed::Part);
     }
-    Ok(match &action.kind {
-        ActionKind::Notify(_, resumed) if !guide.has_woken(resumed.as_slice()) => Followed::OtherChoice,
-        _ => Followed::Whole,
+    Ok(if guide.has_woken(resumed) {
+        Followed::Whole
+    } else {
+        Followed::OtherChoice
     })
+}
+
+fn sleep_and_drive(guide: &mut Guide<'_>, t: u32, later: &[Action]) -> Result<bool, AllocError> {
+    put_to_sleep(guide, later)?;
+    guide.drive(t)
+}
+
+fn sleep_and_wake(guide: &mut Guide<'_>, t: u32, later: &[Action]) -> Result<bool, AllocError> {
+    put_to_sleep(guide, later)?;
+    guide.wake(t)
+}
+
+// Has all that are on their way to sleep fall asleep, in the order in which they are resumed later.
+fn put_to_sleep(guide: &mut Guide<'_>, later: &[Action]) -> Result<(), AllocError> {
+    for action in later {
+        if guide.is_all_asleep() {
+            return Ok(());
+        }
+        if let ActionKind::Notify(_, resumed) | ActionKind::Broadcast(_, resumed) = &action.kind {
+            guide.sleep_each(resumed.as_slice())?;
+        }
+    }
+    guide.sleep_all()
 }

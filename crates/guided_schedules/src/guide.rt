@@ -29,6 +29,8 @@ enum Gone {
 pub(crate) struct Guide<'a> {
     locks: Locks<'a>,
     turns: Vec<Turn>,
+    // The threads that have given a monitor up to wait, and don't sleep yet.
+    waiting: Vec<u32>,
     taken: Event,
     machine: PieceMachine,
 }
@@ -43,22 +45,25 @@ impl<'a> Guide<'a> {
         Ok(Guide {
             locks,
             turns: Vec::new(alloc),
+            waiting: Vec::new(alloc),
             taken: Event::new(EventName::Local, 0),
             machine: PieceMachine::new(alloc, image, BUCKETS)?,
         })
     }
 
-    /// Whether the last step, a wake of one thread at most, woke just these.
+    /// Whether the last step, a wake of one thread at most, woke one of these and left none of them asleep.
     pub(crate) fn has_woken(&self, threads: &[u64]) -> bool {
+        let mut is_one = self.taken.woken.is_empty();
         for thread in threads {
             let Ok(t) = u32::try_from(*thread) else {
                 return false;
             };
-            if !self.taken.woken.contains(t) {
+            if self.machine.machine().asleep(t).is_some() {
                 return false;
             }
+            is_one = is_one || self.taken.woken.contains(t);
         }
-        threads.is_empty() == self.taken.woken.is_empty()
+        is_one
     }
 
     /// The turns of the run.
@@ -104,7 +109,12 @@ impl<'a> Guide<'a> {
             return Ok(Gone::Nowhere);
         }
         // A piece after which its futex call goes on hands nothing over yet.
-        if hands && !matches!(self.taken.name, EventName::FutexLock | EventName::FutexCompare) {
+        if hands
+            && !matches!(
+                self.taken.name,
+                EventName::FutexLock | EventName::FutexCompare
+            )
+        {
             return Ok(Gone::Handed);
         }
         Ok(Gone::Further)
@@ -170,13 +180,60 @@ impl<'a> Guide<'a> {
         Ok(false)
     }
 
-    /// Takes thread `t` on until it has given a lock up, and then to where it sleeps.
-    pub(crate) fn drive_to_sleep(&mut self, t: u32) -> Result<bool, AllocError> {
-        if !self.drive(t)? {
-            return Ok(false);
+    /// Takes thread `t` on until it has given a lock up, behind which it is on its way to sleep. False where it can't come there.
+    pub(crate) fn drive_to_wait(&mut self, t: u32) -> Result<bool, AllocError> {
+        self.waiting.push(t)?;
+        self.drive(t)
+    }
+
+    /// Whether no thread is on its way to sleep.
+    pub(crate) fn is_all_asleep(&self) -> bool {
+        self.waiting.is_empty()
+    }
+
+    // Takes a thread off those that are on their way to sleep. Whether it was one.
+    fn take_waiting(&mut self, thread: u64) -> Option<u32> {
+        for place in 0..self.waiting.len() {
+            if u64::from(self.waiting[place]) == thread {
+                return Some(self.waiting.remove(place));
+            }
         }
-        self.settle_one(t)?;
-        Ok(true)
+        None
+    }
+
+    /// Has these fall asleep, one after the other, as far as they are on their way.
+    pub(crate) fn sleep_each(&mut self, threads: &[u64]) -> Result<(), AllocError> {
+        for thread in threads {
+            if let Some(t) = self.take_waiting(*thread) {
+                self.settle_one(t)?;
+            }
+        }
+        Ok(())
+    }
+
+    /// Has the first of these fall asleep that is on its way, and leaves the others of them awake.
+    pub(crate) fn put_first_to_sleep(&mut self, threads: &[u64]) -> Result<(), AllocError> {
+        let mut is_first = true;
+        for thread in threads {
+            if let Some(t) = self.take_waiting(*thread) {
+                if is_first {
+                    self.settle_one(t)?;
+                }
+                is_first = false;
+            }
+        }
+        Ok(())
+    }
+
+    /// Has all fall asleep that are on their way.
+    pub(crate) fn sleep_all(&mut self) -> Result<(), AllocError> {
+        for _ in 0..self.waiting.len() {
+            let Some(t) = self.waiting.pop() else {
+                return Ok(());
+            };
+            self.settle_one(t)?;
+        }
+        Ok(())
     }
 
     /// Wakes thread `t` from outside. False where it doesn't sleep.

@@ -41,7 +41,9 @@ impl Locks<'_> {
     fn is_handed_by(&self, machine: &Machine, request: Request) -> bool {
         match request {
             Request::CompareSwap {
-                address, expected, ..
+                address,
+                expected,
+                ..
             } => self.has(address) && tid(expected) == 0 && word_at(machine, address) == expected,
             Request::Swap(address, new) => {
                 self.has(address) && (new == 0 || word_at(machine, address) == 0)

@@ -388,7 +388,9 @@ fn answer_of<'a, R: AllocGlobal + Threads + Wait + Sync, P: Progress>(
                 outside: Outside { strays, kills },
                 asked: Asked { ends },
             };
-            answer_explore(alloc, text, searched, drawings, schedule, places, told, progress)
+            answer_explore(
+                alloc, text, searched, drawings, schedule, places, told, progress,
+            )
         }
     }
 }
