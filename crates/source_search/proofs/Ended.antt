@@ -30,6 +30,7 @@ use Rattle.source_search.specs.Packed.{some_process, unpacked}
 use Rattle.source_search.specs.declared.outside.Outside.{Outside}
 use Rattle.source_search.specs.declared.packed.Packed.{Packed as PackedOf}
 use Rattle.source_search.specs.declared.parts.Parts.{Parts as PartsOf}
+use Rattle.source_search.proofs.Keeping.{none_whole}
 use Rattle.source_search.proofs.Searched.{are_own, closed}
 
 one_process : (a c : Process) → Some a ≡ Some c → a ≡ c
@@ -110,7 +111,8 @@ lost_here p wf kept s over none actions run may =
 pub each_may_end : (p : Program) → WellFormed p → (may : Outside) (kept : List SourceState) → AreAll p may kept
     → is_any may ≡ false → All (IsEndable p) kept → EachMayEnd p may
 each_may_end p wf may kept all none endable actions s run from =
-    let opens : (n : ℕ) × IsCovered p kept n (opening p) = subst (λ b. IsSeen p b kept (opening p)) none all.opens in
+    let opens : (n : ℕ) × IsCovered p kept n (opening p) = 
+    subst (λ b. IsSeen p b kept (opening p)) (none_whole may none) all.opens in
     let own : LeadsAlone p (opening p) actions s =
     own_leads p (opening p) s actions run (are_own may actions none from.0 from.1) in
     let is : Arrives p kept s =
