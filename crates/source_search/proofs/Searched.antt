@@ -237,9 +237,9 @@ module _ (p : Program) (wf : WellFormed p) (may : Outside) (kept : List SourceSt
     no_stuck true any opens none actions s run from bad =
         let is : IsKept kept s = all_kept opens expanded any actions s run from in
         All-contains (λ s. IsStuck p s → ⊥) kept is.0 none is.1 (like_stuck p s is.0 (like_back is.0 s is.2) bad)
-    no_stuck false any opens none =
+    no_stuck false any opens none actions s run from bad =
         by_turns (IsStuck p) may.strays refl any (λ complete. never_stuck p kept wf complete tested)
-        (λ complete. never_stuck_waking p kept wf complete tested) opens
+        (λ complete. never_stuck_waking p kept wf complete tested) opens actions s run from bad
       where
         tested : (r : SourceState) → Contains kept r → IsStuck p r → ⊥
         tested r is = All-contains (λ s. IsStuck p s → ⊥) kept r none is

@@ -251,8 +251,8 @@ impl<'a> Kept<'a> {
         };
         let mut moves = false;
         for place in 0..packed.processes.len() {
-            let turn = self.follow_turn(alloc, checked, memo, packed, origin, place, strays)?;
-            let Some(able) = turn else {
+            let Some(able) = self.follow_turn(alloc, checked, memo, packed, origin, place, strays)?
+            else {
                 return Ok(None);
             };
             moves = either(moves, able);
@@ -355,7 +355,8 @@ impl Findings {
             return Ok(false);
         };
         self.note_failed(&kept.parts, &packed, place, outside);
-        let Some(moves) = kept.expand_turns(alloc, checked, memo, &packed, place, outside.strays)? else {
+        let Some(moves) = kept.expand_turns(alloc, checked, memo, &packed, place, outside.strays)?
+        else {
             return Ok(false);
         };
         let told = self.note_stuck(alloc, checked, &kept.parts, &packed, place, moves)?;

@@ -49,7 +49,7 @@ impl<'a> Parts<'a> {
 
     // A kept state in which the process at this place, which waits at this spot, was woken though nobody notified it; None
     // where there are too many parts.
-    fn woken(
+    fn wake_at(
         &mut self,
         alloc: Global,
         program: &Program,
@@ -63,12 +63,12 @@ impl<'a> Parts<'a> {
     {
         match self.small(alloc, spot)? {
             None => Ok(None),
-            Some(mut small) => self.woken_from(alloc, program, packed, place, spot, &mut small),
+            Some(mut small) => self.wake_from(alloc, program, packed, place, spot, &mut small),
         }
     }
 
     // The same, where the process is alone at its spot.
-    fn woken_from(
+    fn wake_from(
         &mut self,
         alloc: Global,
         program: &Program,
@@ -129,7 +129,7 @@ impl<'a> Kept<'a> {
             (states_of self.new) (awake true (suc place) (unpacked self.old.parts packed.now)) (suc place)) }
     {
         let program = checked.program();
-        let Some(woken) = self.parts.woken(alloc, program, packed, place, spot)? else {
+        let Some(woken) = self.parts.wake_at(alloc, program, packed, place, spot)? else {
             return Ok(false);
         };
         let from = Origin {
