@@ -1,14 +1,14 @@
 -- States that are the same but for what was printed have the same runs.
-use Rattle.std.proofs.Common.{◌≡◌, ℕ, List, [], ◌∷◌, Option, Some, refl, sym, ap, ◌∙◌, subst}
+use Rattle.std.proofs.Common.{◌≡◌, ℕ, Bool, true, false, List, [], ◌∷◌, Option, Some, None, refl, sym, ap, ◌∙◌, subst}
 use Rattle.program.specs.Trees.{Program}
 use Rattle.meaning.specs.Labels.{Action}
-use Rattle.meaning.specs.Table.{Allows}
+use Rattle.meaning.specs.Table.{Allows, Table}
 use Rattle.meaning.specs.Processes.{Process}
 use Rattle.meaning.specs.Offers.{offer, TakesUp}
 use Rattle.meaning.specs.States.{SourceState, variables_after, printed_after, processes_after}
 use Rattle.words.specs.Updates.{put}
 use Rattle.meaning.specs.Runs.{CanMove, IsAction}
-use Rattle.proof_exploration.specs.Exploring.{IsLike, IsStuck, HasAborted, LeadsAlone}
+use Rattle.proof_exploration.specs.Exploring.{IsLike, IsStuck, HasAborted, LeadsBy, awake}
 
 pub like_self : (s : SourceState) → IsLike s s
 like_self s = record { table = refl; variable = refl; process = refl }
@@ -49,16 +49,34 @@ module _ (p : Program) (s r : SourceState) (like : IsLike s r) (a : Action) (s' 
   pub like_after : (x : IsAction p s a s') → IsLike s' (printing x)
   like_after x = record { table = refl; variable = refl; process = refl }
 
-abbrev pub Alike : Program → SourceState → List Action → SourceState → Type 0
-Alike p r actions e = (e' : SourceState) × LeadsAlone p r actions e' × IsLike e' e
+-- states that are alike stay so where a process wakes
+pub like_awake : (strays : Bool) (t : ℕ) (s r : SourceState) → IsLike s r
+    → IsLike (awake strays t s) (awake strays t r)
+like_awake false t s r like = like
+like_awake true t s r like = record {
+  table = ap (λ (T : Table). record T { waits = put T.waits t None }) like.table;
+  variable = like.variable;
+  process = like.process;
+}
 
-pub like_run : (p : Program) (actions : List Action) (s r e : SourceState) → IsLike s r → LeadsAlone p s actions e
-    → Alike p r actions e
-like_run p [] s r e like led = (r, refl, like_back e r (subst (λ x. IsLike x r) led like))
-like_run p (a ∷ actions) s r e like led =
-    let next : Alike p (printing p s r like a led.0 led.1) actions e =
-    like_run p actions led.0 (printing p s r like a led.0 led.1) e (like_after p s r like a led.0 led.1) led.2 in
-    (next.0, (printing p s r like a led.0 led.1, like_action p s r like a led.0 led.1, next.1), next.2)
+abbrev pub Alike : Program → Bool → SourceState → List Action → SourceState → Type 0
+Alike p strays r actions e = (e' : SourceState) × LeadsBy p strays r actions e' × IsLike e' e
+
+pub like_run : (p : Program) (strays : Bool) (actions : List Action) (s r e : SourceState) → IsLike s r
+    → LeadsBy p strays s actions e → Alike p strays r actions e
+like_run p strays [] s r e like led = (r, refl, like_back e r (subst (λ x. IsLike x r) led like))
+like_run p strays (a ∷ actions) s r e like led =
+    let like' : IsLike (awake strays a.process s) (awake strays a.process r) =
+    like_awake strays a.process s r like in
+    let mid : SourceState =
+    printing p (awake strays a.process s) (awake strays a.process r) like' a led.0 led.1 in
+    let next : Alike p strays mid actions e =
+    like_run p strays actions led.0 mid e
+    (like_after p (awake strays a.process s) (awake strays a.process r) like' a led.0 led.1) led.2 in (
+      next.0,
+      (mid, like_action p (awake strays a.process s) (awake strays a.process r) like' a led.0 led.1, next.1),
+      next.2,
+    )
 
 pub like_moves : (p : Program) (s r : SourceState) (t : ℕ) → IsLike s r → CanMove p s t → CanMove p r t
 like_moves p s r t like can = record {

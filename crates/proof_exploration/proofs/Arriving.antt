@@ -1,5 +1,5 @@
 -- From each state that a run leads to calm actions lead to one that a search keeps, where the search is complete.
-use Rattle.std.proofs.Common.{◌≡◌, ◌⊎◌, ℕ, zero, suc, List, Contains, [], ◌∷◌, ◌++◌, length, refl, sym, ◌∙◌, subst}
+use Rattle.std.proofs.Common.{false, ◌≡◌, ◌⊎◌, ℕ, zero, suc, List, Contains, [], ◌∷◌, ◌++◌, length, refl, sym, ◌∙◌, subst}
 use Rattle.std.proofs.Common.{inl, inr, arith}
 use Rattle.program.specs.Trees.{Program}
 use Rattle.program.specs.WellFormed.{WellFormed}
@@ -69,7 +69,7 @@ module _ (p : Program) (wf : WellFormed p) (kept : List SourceState)
   kept_more : (n : ℕ) → Fewer n → FromKept (suc n)
   kept_more n fewer [] done s e long run is led = absurd (omega (arith, long))
   kept_more n fewer (b ∷ actions) done s e long run is led =
-      let next : (k : ℕ) × IsCovered p kept k led.0 = kept_next p kept expanded s is b led.0 led.1 in
+      let next : (k : ℕ) × IsCovered p kept k led.0 = kept_next p kept false expanded s is b led.0 led.1 in
       fewer next.0 actions (done ++ b ∷ []) led.0 e (one_less (length actions) n long)
       (leads_more p (opening p) s led.0 done b run (inl led.1)) next.1 led.2
 
@@ -82,9 +82,9 @@ module _ (p : Program) (wf : WellFormed p) (kept : List SourceState)
     step : (k : ℕ) → Chained n k → Chained n (suc k)
     step k chained actions done s e long run (inl is) led = from actions done s e long run is led
     step k chained actions done s e long run (inr (t, calm, all)) led =
-        by_front (front p wf actions done s t calm.kind calm.after e run calm.moves calm.calm led)
+        by_front (front p wf false actions done s t calm.kind calm.after e run calm.moves calm.calm led)
       where
-        by_front : Idle p t calm.kind calm.after actions e ⊎ Busy p t s actions e → Arrives p kept e
+        by_front : Idle p false t calm.kind calm.after actions e ⊎ Busy p false t s actions e → Arrives p kept e
         by_front (inl idle) =
             let behind : Arrives p kept (idle.later).0 =
             chained actions (done ++ act t calm.kind ∷ []) calm.after (idle.later).0 long

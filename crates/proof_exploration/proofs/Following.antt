@@ -1,5 +1,5 @@
 -- Runs in which one process alone is followed, where one is.
-use Rattle.std.proofs.Common.{◌≡◌, ◌⊎◌, ℕ, zero, suc, List, [], ◌∷◌, ◌++◌, length, Option, Some, None}
+use Rattle.std.proofs.Common.{false, ◌≡◌, ◌⊎◌, ℕ, zero, suc, List, [], ◌∷◌, ◌++◌, length, Option, Some, None}
 use Rattle.std.proofs.Common.{refl, sym, ap, ◌∙◌, subst, inl, inr, arith}
 use Rattle.program.specs.Trees.{Program}
 use Rattle.program.specs.WellFormed.{WellFormed}
@@ -51,7 +51,7 @@ module _ (p : Program) (wf : WellFormed p) (pick : SourceState → Option ℕ) (
     }
 
     by_front : (t : ℕ) (k : Kind) (s1 : SourceState) → pick s ≡ Some t
-        → Idle p t k s1 (b ∷ actions) e ⊎ Busy p t s (b ∷ actions) e → Followed p pick s (suc n) e
+        → Idle p false t k s1 (b ∷ actions) e ⊎ Busy p false t s (b ∷ actions) e → Followed p pick s (suc n) e
     by_front t k s1 is (inl idle) =
         absurd (stuck.rests t (record { kind = k; after = idle.after; moves = idle.moves }))
     by_front t k s1 is (inr busy) = more (act t busy.kind) busy.next busy.moves (somebody s t is) (busy.later).0
@@ -68,7 +68,7 @@ module _ (p : Program) (wf : WellFormed p) (pick : SourceState → Option ℕ) (
     by_pick (Some t) is =
         let calm : MovesCalmly p s t = picks s t is in
         by_front t calm.kind calm.after is
-        (front p wf (b ∷ actions) done s t calm.kind calm.after e run calm.moves calm.calm led)
+        (front p wf false (b ∷ actions) done s t calm.kind calm.after e run calm.moves calm.calm led)
 
   pub followed : (n : ℕ) → Shorter n
   followed zero [] done s e long run led stuck =

@@ -1,5 +1,5 @@
 -- Which processes are blocked for good, and which may do something still.
-use Rattle.std.proofs.Common.{◌≡◌, ◌≢◌, ℕ, zero, suc, ◌+◌, List, Contains, [], ◌∷◌, ◌++◌, Option, Some, None}
+use Rattle.std.proofs.Common.{false, ◌≡◌, ◌≢◌, ℕ, zero, suc, ◌+◌, List, Contains, [], ◌∷◌, ◌++◌, Option, Some, None}
 use Rattle.std.specs.Prelude.{⊤}
 use Rattle.std.proofs.Common.{refl, sym, ap, ◌∙◌, subst, inl, inr, arith}
 use Rattle.std.proofs.lemmas.Bool.{cases_eq}
@@ -76,7 +76,7 @@ module _ (p : Program) where
 
   pub live_back : (s r : SourceState) (q : ℕ) → ComesTo p s r → IsLive p r q → IsLive p s q
   live_back s r q comes live actions e run like on =
-      let moved : Alike p e comes.0 comes.1 = like_run p comes.0 s e comes.1 (like_back e s like) comes.2 in
+      let moved : Alike p false e comes.0 comes.1 = like_run p false comes.0 s e comes.1 (like_back e s like) comes.2 in
       carry comes.0 actions e moved.0 q run moved.1
       (live (actions ++ comes.0) moved.0
       (leads_on p (opening p) e moved.0 actions comes.0 run (alone_leads p e moved.0 comes.0 moved.1))
@@ -118,8 +118,8 @@ module _ (p : Program) where
 
   pub comes_then : (s r q : SourceState) → ComesTo p s r → ComesTo p r q → ComesTo p s q
   comes_then s r q first second =
-      let moved : Alike p first.1 second.0 second.1 =
-      like_run p second.0 r first.1 second.1 (like_back first.1 r first.3) second.2 in (
+      let moved : Alike p false first.1 second.0 second.1 =
+      like_run p false second.0 r first.1 second.1 (like_back first.1 r first.3) second.2 in (
         first.0 ++ second.0,
         moved.0,
         leads_then s first.1 moved.0 first.0 second.0 first.2 moved.1,
@@ -141,7 +141,7 @@ module _ (p : Program) where
   blocked_like s r q like is = record {
     goes_on = on_like s r q like is.goes_on;
     rests = λ may.
-        let moved : Alike p s may.0 may.1 = like_run p may.0 r s may.1 (like_back s r like) may.2 in
+        let moved : Alike p false s may.0 may.1 = like_run p false may.0 r s may.1 (like_back s r like) may.2 in
         is.rests (
           may.0,
           moved.0,
@@ -151,7 +151,7 @@ module _ (p : Program) where
   }
 
 -- where each process may act in each kept state, none is blocked in any run
-pub never_blocked : (p : Program) (kept : List SourceState) → WellFormed p → IsComplete p kept
+pub never_blocked : (p : Program) (kept : List SourceState) → WellFormed p → IsComplete p false kept
     → ((r : SourceState) → Contains kept r → (q : ℕ) → IsLive p r q)
     → (actions : List Action) (s : SourceState) (q : ℕ) → LeadsAlone p (opening p) actions s → IsBlocked p s q → ⊥
 never_blocked p kept wf complete live actions s q led blocked =

@@ -1,5 +1,5 @@
 -- It is enough to know what comes next after one of the states that are alike, and a search may go on to keep states.
-use Rattle.std.proofs.Common.{ℕ, zero, suc, List, [], ◌∷◌, Contains, sym, subst, inl, inr}
+use Rattle.std.proofs.Common.{ℕ, zero, suc, Bool, List, [], ◌∷◌, Contains, sym, subst, inl, inr}
 use Rattle.program.specs.Trees.{Program}
 use Rattle.meaning.specs.Labels.{Action, Kind, kind_of, Label, Alone, Stores, Forks, FindsFull, Claims}
 use Rattle.meaning.specs.Labels.{FindsClaimed, Joins, Enters, Resumes, Exits, Waits, Notifies, Broadcasts, Abandons}
@@ -8,9 +8,10 @@ use Rattle.meaning.specs.States.{SourceState}
 use Rattle.meaning.specs.Runs.{IsAction, IsStep, Leads}
 use Rattle.proof_commutation.proofs.Behind.{act}
 use Rattle.proof_exploration.specs.Exploring.{IsLike, MovesCalmly, LeadsAlone, IsFromOutside, AreOwn, IsCalm}
+use Rattle.proof_exploration.specs.Exploring.{awake}
 use Rattle.proof_exploration.specs.Exploring.{IsCalmKind}
-use Rattle.proof_exploration.specs.Searching.{IsKept, IsCovered, IsExpanded}
-use Rattle.proof_exploration.proofs.Alike.{like_back, like_trans, printing, like_action, like_after}
+use Rattle.proof_exploration.specs.Searching.{IsKept, IsCovered, IsExpandedBy}
+use Rattle.proof_exploration.proofs.Alike.{like_awake, like_back, like_trans, printing, like_action, like_after}
 
 module _ (p : Program) (kept : List SourceState) where
   pub like_kept : (s r : SourceState) → IsLike s r → IsKept kept s → IsKept kept r
@@ -39,15 +40,18 @@ module _ (p : Program) (kept : List SourceState) where
         (like_action p r s (like_back s r like) (act t kind) after x)),
   )
 
-  pub kept_next : ((s : SourceState) → Contains kept s → IsExpanded p kept s) → (s : SourceState) → IsKept kept s
-      → IsExpanded p kept s
-  kept_next expanded s (r, is, like) a s' x =
-      let back : IsLike s r = like_back r s like in
-      let next : (n : ℕ) × IsCovered p kept n (printing p s r back a s' x) =
-      expanded r is a (printing p s r back a s' x) (like_action p s r back a s' x) in (
+  pub kept_next : (strays : Bool) → ((s : SourceState) → Contains kept s → IsExpandedBy p strays kept s)
+      → (s : SourceState) → IsKept kept s → IsExpandedBy p strays kept s
+  kept_next strays expanded s (r, is, like) a s' x =
+      let back : IsLike (awake strays a.process s) (awake strays a.process r) =
+      like_awake strays a.process s r (like_back r s like) in
+      let mid : SourceState = printing p (awake strays a.process s) (awake strays a.process r) back a s' x in
+      let next : (n : ℕ) × IsCovered p kept n mid =
+      expanded r is a mid (like_action p (awake strays a.process s) (awake strays a.process r) back a s' x) in (
         next.0,
-        like_covered next.0 (printing p s r back a s' x) s'
-            (like_back s' (printing p s r back a s' x) (like_after p s r back a s' x)) next.1,
+        like_covered next.0 mid s'
+            (like_back s' mid
+            (like_after p (awake strays a.process s) (awake strays a.process r) back a s' x)) next.1,
       )
 
 -- what is covered stays so when more is kept

@@ -8,7 +8,7 @@ use Rattle.words.proofs.Updates.{at_put}
 use Rattle.proof_exploration.specs.Exploring.{SameMembers}
 use Rattle.proof_exploration.proofs.Tables.{without_out}
 
-within : (qs : List ℕ) (q : ℕ) → Contains qs q ⊎ (Contains qs q → ⊥)
+pub within : (qs : List ℕ) (q : ℕ) → Contains qs q ⊎ (Contains qs q → ⊥)
 within [] q = inr (λ c. (let less : c.0 < 0 = c.1 in absurd (omega (arith, less))))
 within (r ∷ qs) q = elim (cases_eq r q) [
   | inl e ↦ inl (0, omega arith, e)
@@ -22,7 +22,7 @@ within (r ∷ qs) q = elim (cases_eq r q) [
     later o (zero, less, is) = absurd (o is)
     later o (suc k, less, is) = (k, omega (arith, less), is)
 
-without_in : (qs : List ℕ) (w : ℕ → Option Member) (q : ℕ) → Contains qs q → without_waiters qs w q ≡ None
+pub without_in : (qs : List ℕ) (w : ℕ → Option Member) (q : ℕ) → Contains qs q → without_waiters qs w q ≡ None
 without_in [] w q (k, less, is) = absurd (omega (arith, less))
 without_in (r ∷ qs) w q (zero, less, is) =
     at_put (without_waiters qs w) r None q (λ x. x ≡ None) (λ e. refl) (λ o. absurd (o (sym is)))

@@ -259,7 +259,7 @@ without_out (r ∷ qs) w q out =
     put_other (without_waiters qs w) r None q (λ e. out (0, omega arith, sym e))
     ∙ without_out qs w q (λ c. out (suc c.0, (let less : c.0 < length qs = c.1 in omega (arith, less)), c.2))
 
-without_none : (qs : List ℕ) (w : ℕ → Option Member) (q : ℕ) → w q ≡ None → without_waiters qs w q ≡ None
+pub without_none : (qs : List ℕ) (w : ℕ → Option Member) (q : ℕ) → w q ≡ None → without_waiters qs w q ≡ None
 without_none [] w q is = is
 without_none (r ∷ qs) w q is =
     at_put (without_waiters qs w) r None q (λ x. x ≡ None) (λ e. refl) (λ o. without_none qs w q is)
@@ -280,7 +280,7 @@ none_twice f i j k = elim (cases_eq i j) [
   | inr o ↦ put_swap f i j None None k o
 ]
 
-without_one : (qs : List ℕ) (w : ℕ → Option Member) (r q : ℕ)
+pub without_one : (qs : List ℕ) (w : ℕ → Option Member) (r q : ℕ)
     → without_waiters qs (put w r None) q ≡ put (without_waiters qs w) r None q
 without_one [] w r q = refl
 without_one (x ∷ qs) w r q =

@@ -1,5 +1,6 @@
 -- Runs in which not all processes are interleaved: in some states one process alone is followed.
-use Rattle.std.specs.Prelude.{ℕ, ◌≡◌, List, [], ◌∷◌, Option, Some, None, Contains, ⊤}
+use Rattle.std.specs.Prelude.{ℕ, ◌≡◌, Bool, true, false, List, [], ◌∷◌, Option, Some, None, Contains, ⊤}
+use Rattle.words.specs.Updates.{put}
 use Rattle.program.specs.Trees.{Program}
 use Rattle.meaning.specs.Labels.{Action, Aborted, Cause, Kind, Stray, Kill, Label, Forks, FindsFull, Claims}
 use Rattle.meaning.specs.Labels.{FindsClaimed, Enters, Resumes, Enter, Resume, Fork, Claim, Fails}
@@ -58,10 +59,23 @@ pub record MovesCalmly (p : Program) (s : SourceState) (t : ℕ) : Type 0 where
   pub moves : IsAction p s (record { process = t; kind = kind }) after
   pub calm : IsCalm moves.label
 
--- processes' own actions lead from a state to another
+-- where a process acts: with strays one that waits may wake, though nobody notified it
+abbrev pub awake : Bool → ℕ → SourceState → SourceState
+awake false t s = s
+awake true t s = record s { table = record s.table { waits = put s.table.waits t None } }
+
+-- a turn of a process: an action of its own, with strays behind a stray wake-up of it
+abbrev pub IsTurn : Program → Bool → SourceState → Action → SourceState → Type 0
+IsTurn p strays s a s' = IsAction p (awake strays a.process s) a s'
+
+-- turns lead from a state to another
+abbrev pub LeadsBy : Program → Bool → SourceState → List Action → SourceState → Type 0
+LeadsBy p strays s [] s' = s ≡ s'
+LeadsBy p strays s (a ∷ as') s' = (mid : SourceState) × IsTurn p strays s a mid × LeadsBy p strays mid as' s'
+
+-- processes' own actions do
 abbrev pub LeadsAlone : Program → SourceState → List Action → SourceState → Type 0
-LeadsAlone p s [] s' = s ≡ s'
-LeadsAlone p s (a ∷ as') s' = (mid : SourceState) × IsAction p s a mid × LeadsAlone p mid as' s'
+LeadsAlone p s actions s' = LeadsBy p false s actions s'
 
 -- a process that is followed, where one is, does the action
 abbrev pub IsFollowed : Option ℕ → ℕ → Type 0
@@ -88,6 +102,16 @@ IsFromOutside other = ⊥
 abbrev pub AreOwn : List Action → Type 0
 AreOwn [] = ⊤
 AreOwn (a ∷ actions) = (IsFromOutside a.kind → ⊥) × AreOwn actions
+
+-- an action of a process's own, or its stray wake-up
+abbrev pub IsUnkilled : Kind → Type 0
+IsUnkilled (Kill resumed last) = ⊥
+IsUnkilled other = ⊤
+
+-- none of these actions is a kill
+abbrev pub AreUnkilled : List Action → Type 0
+AreUnkilled [] = ⊤
+AreUnkilled (a ∷ actions) = IsUnkilled a.kind × AreUnkilled actions
 
 -- the same numbers stand in both lists
 abbrev pub SameMembers : List ℕ → List ℕ → Type 0

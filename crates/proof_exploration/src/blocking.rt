@@ -1,4 +1,4 @@
-ghost use Rattle.std.specs.Prelude.{◌≡◌, ℕ, List, Option, Some, Contains, ◌∷◌, []};
+ghost use Rattle.std.specs.Prelude.{◌≡◌, ℕ, List, Option, Some, Contains, ◌∷◌, [], false};
 ghost use Rattle.program.specs.Trees.{Program};
 ghost use Rattle.program.specs.WellFormed.{WellFormed};
 ghost use Rattle.meaning.specs.Labels.{Action};
@@ -20,7 +20,7 @@ pub fn blocking_laws()
     ensures back { (p : Program) (s r : SourceState) (q : ℕ) → ComesTo p s r → IsLive p r q → IsLive p s q }
     ensures comes { (p : Program) (n : ℕ) (s r : SourceState) → IsCovered p (r ∷ []) n s → ComesTo p s r }
     ensures never { (p : Program) (kept : List SourceState) (actions : List Action) (s : SourceState) (q : ℕ)
-        → WellFormed p → IsComplete p kept → ((r : SourceState) → Contains kept r → (t : ℕ) → IsLive p r t)
+        → WellFormed p → IsComplete p false kept → ((r : SourceState) → Contains kept r → (t : ℕ) → IsLive p r t)
         → LeadsAlone p (opening p) actions s → IsBlocked p s q → ⊥ }
     ensures here { (p : Program) (kept : List SourceState) (actions : List Action) (s : SourceState) (q : ℕ)
         (at : Process)

@@ -1,10 +1,10 @@
-ghost use Rattle.std.specs.Prelude.{◌≡◌, ℕ, List, Option, Contains, length};
+ghost use Rattle.std.specs.Prelude.{◌≡◌, ℕ, List, Option, Contains, length, false, true};
 ghost use Rattle.program.specs.Trees.{Program};
 ghost use Rattle.program.specs.WellFormed.{WellFormed};
 ghost use Rattle.meaning.specs.Labels.{Action, Kind};
 ghost use Rattle.meaning.specs.Runs.{IsAction, IsRun};
 ghost use Rattle.meaning.specs.States.{SourceState, opening};
-ghost use Rattle.proof_exploration.specs.Exploring.{AreOwn, Follows, HasAborted, IsCalm, IsCalmKind, IsLike, IsStuck};
+ghost use Rattle.proof_exploration.specs.Exploring.{AreOwn, AreUnkilled, Follows, HasAborted, IsCalm, IsCalmKind, IsLike, IsStuck};
 ghost use Rattle.proof_exploration.specs.Exploring.{LeadsAlone, MovesCalmly, PicksCalm};
 ghost use Rattle.proof_exploration.specs.Searching.{IsComplete, IsCovered};
 
@@ -29,21 +29,30 @@ pub fn following_laws()
         × (length others ≡ length actions) }
 {}
 
-/// A search is complete where the states that it keeps are closed under what may come next, and between them one
-/// process
+/// A search is complete where the states that it keeps are closed under what may come next, and between them one process
 /// with a calm next action may be followed alone. Then no run gets stuck where no kept state is stuck, and no process
-/// aborts in any run where none has in a kept state. What is covered stays so while more is kept. By its name an action
-/// is calm. A run without actions from outside is one of processes' own actions.
+/// aborts in any run where none has in a kept state. It is so of runs with stray wake-ups too, where a process that waits
+/// may take its monitor again at once: each stray wake-up may be put off until then. What is covered stays so while more
+/// is kept. By its name an action is calm. A run without actions from outside is one of processes' own actions.
 pub fn searching_laws()
     ensures stuck { (p : Program) (kept : List SourceState) (actions : List Action)
         (s : SourceState)
-        → WellFormed p → IsComplete p kept → ((r : SourceState) → Contains kept r → IsStuck p r → ⊥)
+        → WellFormed p → IsComplete p false kept → ((r : SourceState) → Contains kept r → IsStuck p r → ⊥)
         → LeadsAlone p (opening p) actions s → IsStuck p s → ⊥ }
     ensures aborted { (p : Program) (kept : List SourceState) (actions : List Action)
         (s : SourceState)
-        → WellFormed p → IsComplete p kept
+        → WellFormed p → IsComplete p false kept
         → ((r : SourceState) → Contains kept r → HasAborted r → ⊥)
         → LeadsAlone p (opening p) actions s → HasAborted s → ⊥ }
+    ensures stuck_waking { (p : Program) (kept : List SourceState) (actions : List Action)
+        (s : SourceState)
+        → WellFormed p → IsComplete p true kept → ((r : SourceState) → Contains kept r → IsStuck p r → ⊥)
+        → IsRun p actions s → AreUnkilled actions → IsStuck p s → ⊥ }
+    ensures aborted_waking { (p : Program) (kept : List SourceState) (actions : List Action)
+        (s : SourceState)
+        → WellFormed p → IsComplete p true kept
+        → ((r : SourceState) → Contains kept r → HasAborted r → ⊥)
+        → IsRun p actions s → AreUnkilled actions → HasAborted s → ⊥ }
     ensures grows { (p : Program) (kept more : List SourceState) (n : ℕ) (s : SourceState)
         → ((r : SourceState) → Contains kept r → Contains more r)
         → IsCovered p kept n s → IsCovered p more n s }

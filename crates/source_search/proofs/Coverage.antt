@@ -1,7 +1,7 @@
 -- What is covered behind the actions of one process, and behind those of all.
 use Rattle.std.proofs.Common.{◌≡◌, ◌<◌, ◌+◌, not, ℕ, zero, suc, List, [], ◌∷◌, ◌++◌, length, get_or, map, slice_get, take}
 use Rattle.std.proofs.Common.{Option, Some, None, All, Bool, refl, sym, ap, ◌∙◌, subst, arith, false, true, inl, inr}
-use Rattle.std.specs.Prelude.{IsSome}
+use Rattle.std.specs.Prelude.{IsSome, is_some}
 use Rattle.std.proofs.lemmas.List.{map_more}
 use Rattle.std.proofs.lemmas.List.Elements.{All-push, All-weaker}
 use Rattle.std.proofs.lemmas.Option.{slice_get_within}
@@ -9,8 +9,8 @@ use Rattle.program.specs.Trees.{Program}
 use Rattle.meaning.specs.Processes.{Process}
 use Rattle.meaning.specs.Runs.{CanMove}
 use Rattle.meaning.specs.States.{SourceState}
-use Rattle.proof_exploration.specs.Exploring.{IsLike}
-use Rattle.proof_exploration.specs.Searching.{IsCovered}
+use Rattle.proof_exploration.specs.Exploring.{IsLike, awake}
+use Rattle.proof_exploration.specs.Searching.{IsCovered, IsExpandedBy}
 use Rattle.proof_exploration.proofs.Representing.{grown, like_covered}
 use Rattle.source_reaching.specs.Among.{AreCovered, AreEnds, IsAheadAmong, LeadsOwn, among}
 use Rattle.source_reaching.specs.Choices.{by}
@@ -18,15 +18,15 @@ use Rattle.source_reaching.specs.Covered.{IsAhead}
 use Rattle.source_reaching.proofs.Ahead.{ahead_none, ahead_then, covered_to}
 use Rattle.source_reaching.proofs.Among.{can_up}
 use Rattle.source_search.specs.Covered.{IsAheadOf, IsCoveredSo, IsFollowedOwn}
-use Rattle.source_search.specs.Found.{IsFrom, is_any, killed_in}
+use Rattle.source_search.specs.Found.{interleaves}
 use Rattle.source_search.specs.declared.outside.Outside.{Outside}
 use Rattle.source_search.specs.Packed.{IsGrown, IsWithin, some_process, unpacked}
 use Rattle.source_search.specs.Spots.{IsAlone, IsMergedOf, IsSpotOf}
-use Rattle.source_search.specs.Kept.{IsExpanded, IsLonger}
+use Rattle.source_search.specs.Kept.{IsExpanded, IsExpandedSo, IsLonger}
 use Rattle.source_search.specs.declared.packed.Packed.{Packed as PackedOf}
 use Rattle.source_search.specs.declared.parts.Parts.{Parts as PartsOf}
 use Rattle.source_search.specs.declared.spot.Spot.{Spot as SpotOf}
-use Rattle.source_search.proofs.Keeping.{all_contained, none_kills, none_strays, seen_covered}
+use Rattle.source_search.proofs.Keeping.{all_contained}
 use Rattle.source_search.proofs.Merged.{among_spot}
 use Rattle.source_search.proofs.Packing.{unpacked_still, within_still}
 
@@ -121,28 +121,35 @@ module _ (p : Program) where
       (ap (among (unpacked parts x).process) single.same ∙ among_spot parts x place spot is)
       (can_up (unpacked parts x).process p s spot.process can))
 
-  -- of all processes, where nothing from outside is searched
-  module _ (may : Outside) (none : is_any may ≡ false) (kept : List SourceState) (parts : PartsOf) (x : PackedOf)
-      (all : (place : ℕ) → place < length x.processes.items → IsFollowedOwn p kept (unpacked parts x) (suc place)) where
-    own_at : (t : ℕ) → IsSome ((unpacked parts x).process t) → IsFollowedOwn p kept (unpacked parts x) t
-    own_at zero is = absurd (let no : false ≡ true = is in cc)
-    own_at (suc j) is = here (slice_get x.processes.items j) refl is
+  -- of all processes, where not all actions are interleaved
+  module _ (may : Outside) (turns : interleaves may ≡ false) (kept : List SourceState) (parts : PartsOf) (x : PackedOf)
+      (all : (place : ℕ) → place < length x.processes.items
+      → IsFollowedOwn p kept (awake may.strays (suc place) (unpacked parts x)) (suc place)) where
+    turn_at : (t : ℕ) → IsSome ((unpacked parts x).process t)
+        → IsFollowedOwn p kept (awake may.strays t (unpacked parts x)) t
+    turn_at zero is = absurd (let no : false ≡ true = is in cc)
+    turn_at (suc j) is = here (slice_get x.processes.items j) refl is
       where
         here : (o : Option ℕ) → slice_get x.processes.items j ≡ o
             → IsSome (some_process parts.processes.items (slice_get x.processes.items j))
-            → IsFollowedOwn p kept (unpacked parts x) (suc j)
+            → IsFollowedOwn p kept (awake may.strays (suc j) (unpacked parts x)) (suc j)
         here (Some n) e is = all j (slice_get_within x.processes.items j n e)
         here None e is = absurd (let no : false ≡ true =
             subst (λ o. IsSome (some_process parts.processes.items o)) e is in cc)
 
-    pub expanded_own : IsExpanded p may kept (unpacked parts x)
-    expanded_own a there from s' (inl y) =
-        let leads : LeadsOwn p kept (unpacked parts x) a = own_at a.process there a.kind in
-        seen_covered p (is_any may) kept s' none (leads.0, leads.1 s' y)
-    expanded_own a there from s' (inr (inl y)) =
-        absurd (none_strays may none (subst (IsFrom may (unpacked parts x)) y.1 from))
-    expanded_own a there from s' (inr (inr y)) =
-        absurd (none_kills may (killed_in (unpacked parts x)) none (subst (IsFrom may (unpacked parts x)) y.2 from))
+    there : (strays : Bool) (t : ℕ) (s : SourceState) → (awake strays t s).process ≡ s.process
+    there false t s = refl
+    there true t s = refl
+
+    expanded : IsExpandedBy p may.strays kept (unpacked parts x)
+    expanded a s' y =
+        let leads : LeadsOwn p kept (awake may.strays a.process (unpacked parts x)) a =
+        turn_at a.process (subst (λ (f : ℕ → Option Process). IsSome (f a.process))
+        (there may.strays a.process (unpacked parts x)) (ap is_some y.stands)) a.kind in
+        (leads.0, leads.1 s' y)
+
+    pub expanded_turns : IsExpanded p may kept (unpacked parts x)
+    expanded_turns = subst (λ b. IsExpandedSo p may b kept (unpacked parts x)) (sym turns) expanded
 
 -- what is denied is false
 pub denied : (b : Bool) → not b ≡ true → b ≡ false

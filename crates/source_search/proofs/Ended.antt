@@ -30,6 +30,7 @@ use Rattle.source_search.specs.Packed.{some_process, unpacked}
 use Rattle.source_search.specs.declared.outside.Outside.{Outside}
 use Rattle.source_search.specs.declared.packed.Packed.{Packed as PackedOf}
 use Rattle.source_search.specs.declared.parts.Parts.{Parts as PartsOf}
+use Rattle.source_search.proofs.Keeping.{none_whole}
 use Rattle.source_search.proofs.Searched.{are_own, closed}
 
 one_process : (a c : Process) → Some a ≡ Some c → a ≡ c
@@ -86,7 +87,7 @@ module _ (p : Program) where
 
   pub end_back : (s r : SourceState) → ComesTo p s r → IsEndable p r → IsEndable p s
   end_back s r comes endable actions e run like =
-      let moved : Alike p e comes.0 comes.1 = like_run p comes.0 s e comes.1 (like_back e s like) comes.2 in
+      let moved : Alike p false e comes.0 comes.1 = like_run p false comes.0 s e comes.1 (like_back e s like) comes.2 in
       may_back comes.0 e moved.0 moved.1
       (endable (actions ++ comes.0) moved.0
       (leads_on p (opening p) e moved.0 actions comes.0 run (alone_leads p e moved.0 comes.0 moved.1))
@@ -110,7 +111,8 @@ lost_here p wf kept s over none actions run may =
 pub each_may_end : (p : Program) → WellFormed p → (may : Outside) (kept : List SourceState) → AreAll p may kept
     → is_any may ≡ false → All (IsEndable p) kept → EachMayEnd p may
 each_may_end p wf may kept all none endable actions s run from =
-    let opens : (n : ℕ) × IsCovered p kept n (opening p) = subst (λ b. IsSeen p b kept (opening p)) none all.opens in
+    let opens : (n : ℕ) × IsCovered p kept n (opening p) =
+    subst (λ b. IsSeen p b kept (opening p)) (none_whole may none) all.opens in
     let own : LeadsAlone p (opening p) actions s =
     own_leads p (opening p) s actions run (are_own may actions none from.0 from.1) in
     let is : Arrives p kept s =

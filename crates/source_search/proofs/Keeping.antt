@@ -18,13 +18,15 @@ use Rattle.proof_exploration.proofs.Alike.{like_self, like_trans}
 use Rattle.proof_exploration.proofs.Representing.{grown, like_covered}
 use Rattle.source_states.specs.Actions.{action_of}
 use Rattle.source_states.specs.declared.action.Action.{Action as ActionOf}
+use Rattle.source_reaching.specs.Choices.{by}
 use Rattle.source_search.specs.Choices.{AreChoices}
-use Rattle.source_search.specs.Found.{is_any}
+use Rattle.source_search.specs.Found.{interleaves, is_any}
 use Rattle.source_search.specs.declared.outside.Outside.{Outside}
 use Rattle.source_search.specs.Packed.{HasKey, IsGrown, IsSameKey, IsWithin, unpacked}
 use Rattle.source_search.specs.declared.packed.Packed.{Packed as PackedOf}
 use Rattle.source_search.specs.declared.parts.Parts.{Parts as PartsOf}
-use Rattle.source_search.specs.Kept.{IsExpanded, IsFollowed, IsLonger, IsSeen, LeadsToKept, states_in}
+use Rattle.source_search.specs.Kept.{IsExpanded, IsExpandedSo, IsFollowed, IsInterleaved, IsLonger, IsSeen, LeadsToKept}
+use Rattle.source_search.specs.Kept.{states_in}
 use Rattle.source_search.proofs.Packing.{same_key, states_still}
 use Rattle.source_reaching.proofs.Subsets.{contains_map}
 
@@ -80,21 +82,16 @@ pub kept_like : (kept : List SourceState) (s r : SourceState) → IsKept kept s 
 kept_like kept s r is like = (is.0, is.1, like_trans is.0 s r is.2 like)
 
 -- what is kept, in place of what is covered
-pub seen_kept : (p : Program) (strays : Bool) (kept : List SourceState) (s : SourceState) → IsKept kept s
-    → IsSeen p strays kept s
+pub seen_kept : (p : Program) (whole : Bool) (kept : List SourceState) (s : SourceState) → IsKept kept s
+    → IsSeen p whole kept s
 seen_kept p true kept s is = is
 seen_kept p false kept s is = (zero, is)
 
--- where nothing from outside is searched, what is covered is seen
-pub seen_covered : (p : Program) (strays : Bool) (kept : List SourceState) (s : SourceState) → strays ≡ false
-    → (n : ℕ) × IsCovered p kept n s → IsSeen p strays kept s
+-- where not all actions are interleaved, what is covered is seen
+pub seen_covered : (p : Program) (whole : Bool) (kept : List SourceState) (s : SourceState) → whole ≡ false
+    → (n : ℕ) × IsCovered p kept n s → IsSeen p whole kept s
 seen_covered p true kept s e is = absurd (let differ : true ≡ false = e in cc)
 seen_covered p false kept s e is = is
-
-pub seen_like : (p : Program) (strays : Bool) (kept : List SourceState) (s r : SourceState) → IsSeen p strays kept s
-    → IsLike s r → IsSeen p strays kept r
-seen_like p true kept s r is like = kept_like kept s r is like
-seen_like p false kept s r is like = (is.0, like_covered p kept is.0 s r like is.1)
 
 pub all_contained : (kept kept' : List SourceState) → IsLonger kept kept' → (s : SourceState) → Contains kept s
     → Contains kept' s
@@ -112,28 +109,30 @@ one_more_action P actions i a less is all one =
     (All-push P (map action_of (take i actions)) (action_of a) all one)
 
 -- where nothing from outside is searched
-pub none_strays : (may : Outside) → is_any may ≡ false → may.strays ≡ true → ⊥
-none_strays may none is = true_false may.strays (nat_lt 0 may.kills) is none
-  where
-    true_false : (b c : Bool) → b ≡ true → (b || c) ≡ false → ⊥
-    true_false true c is e = let differ : true ≡ false = e in cc
-    true_false false c is e = let differ : false ≡ true = is in cc
+both_false : (b c : Bool) → (b || c) ≡ false → (b ≡ false) × (c ≡ false)
+both_false true c e = absurd (let differ : true ≡ false = e in cc)
+both_false false c e = (refl, e)
 
-pub none_kills : (may : Outside) (n : ℕ) → is_any may ≡ false → n < may.kills → ⊥
-none_kills may n none less = by_second may.strays (nat_lt 0 may.kills) refl none
+pub none_strays : (may : Outside) → is_any may ≡ false → may.strays ≡ false
+none_strays may none = (both_false may.strays (nat_lt 0 may.kills) none).0
+
+pub none_whole : (may : Outside) → is_any may ≡ false → interleaves may ≡ false
+none_whole may none = (both_false may.strays (nat_lt 0 may.kills) none).1
+
+-- and where no kills are
+pub none_kills : (may : Outside) → interleaves may ≡ false → may.kills ≤ 0
+none_kills may is = few (nat_lt 0 may.kills) refl is
   where
-    by_second : (b c : Bool) → nat_lt 0 may.kills ≡ c → (b || c) ≡ false → ⊥
-    by_second true c is e = let differ : true ≡ false = e in cc
-    by_second false true is e = let differ : true ≡ false = e in cc
-    by_second false false is e =
-        let few : may.kills ≤ 0 = grind (arith, nat_tests, is) in omega (arith, few, less)
+    few : (b : Bool) → nat_lt 0 may.kills ≡ b → b ≡ false → may.kills ≤ 0
+    few true is e = absurd (let differ : true ≡ false = e in cc)
+    few false is e = grind (arith, nat_tests, is)
 
 module _ (kept kept' : List SourceState) (longer : IsLonger kept kept') where
   pub kept_still : (s : SourceState) → IsKept kept s → IsKept kept' s
   kept_still s is =
       (is.0, subst (λ l. Contains l is.0) (sym longer.1) (Contains-append_left kept longer.0 is.0 is.1), is.2)
 
-  pub seen_still : (p : Program) (strays : Bool) (s : SourceState) → IsSeen p strays kept s → IsSeen p strays kept' s
+  pub seen_still : (p : Program) (whole : Bool) (s : SourceState) → IsSeen p whole kept s → IsSeen p whole kept' s
   seen_still p true s is = kept_still s is
   seen_still p false s is = (is.0, grown p kept kept' (all_contained kept kept' longer) is.0 s is.1)
 
@@ -153,7 +152,7 @@ module _ (kept kept' : List SourceState) (longer : IsLonger kept kept') where
 
   pub followed_still : (p : Program) (may : Outside) (s : SourceState) (n : ℕ) → IsFollowed p may kept s n
       → IsFollowed p may kept' s n
-  followed_still p may s n leads kind from s' x = seen_still p (is_any may) s' (leads kind from s' x)
+  followed_still p may s n leads kind from = leads_still p s (by n kind) (leads kind from)
 
   -- one process more
   pub followed_more : (p : Program) (may : Outside) (s : SourceState) (ns : List ℕ) (i : ℕ) → i < length ns
@@ -166,7 +165,12 @@ module _ (kept kept' : List SourceState) (longer : IsLonger kept kept') where
 
   pub expanded_still : (p : Program) (may : Outside) (s : SourceState) → IsExpanded p may kept s
       → IsExpanded p may kept' s
-  expanded_still p may s leads a there from s' x = seen_still p (is_any may) s' (leads a there from s' x)
+  expanded_still p may s = still (interleaves may)
+    where
+      still : (b : Bool) → IsExpandedSo p may b kept s → IsExpandedSo p may b kept' s
+      still true leads a there from = leads_still p s a (leads a there from)
+      still false leads a s' x = let n = (leads a s' x).0 in
+          (n, grown p kept kept' (all_contained kept kept' longer) n s' (leads a s' x).1)
 
 -- what a process may do was all tried
 pub all_followed : (p : Program) (may : Outside) (kept : List SourceState) (s : SourceState) (n : ℕ)
@@ -174,11 +178,11 @@ pub all_followed : (p : Program) (may : Outside) (kept : List SourceState) (s : 
     → IsFollowed p may kept s n
 all_followed p may kept s n actions are all kind from s' x =
     let tried : (a : Action) × Contains actions a × IsStep p s a s' = are kind s' from x in
-    seen_kept p (is_any may) kept s' (All-contains (LeadsToKept p kept s) actions tried.0 all tried.1 s' tried.2)
+    All-contains (LeadsToKept p kept s) actions tried.0 all tried.1 s' tried.2
 
 -- and that of each process that is there
 pub all_expanded : (p : Program) (may : Outside) (kept : List SourceState) (s : SourceState) (ns : List ℕ)
     → ((q : ℕ) → Contains ns q ↔ IsSome (s.process q)) → All (IsFollowed p may kept s) ns
-    → IsExpanded p may kept s
+    → IsInterleaved p may kept s
 all_expanded p may kept s ns is_there all a there from s' x =
     All-contains (IsFollowed p may kept s) ns a.process all ((is_there a.process).1 there) a.kind from s' x

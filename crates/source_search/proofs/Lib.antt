@@ -7,6 +7,7 @@ pub mod Endings
 pub mod Packing
 pub mod Merged
 pub mod Keeping
+pub mod Woken
 pub mod Coverage
 pub mod Remembered
 pub mod Searched

@@ -45,7 +45,7 @@ use Rattle.source_search.specs.Spots.{IsSpotOf}
 use Rattle.source_reaching.proofs.Subsets.{contains_map}
 use Rattle.source_search.proofs.Coverage.{covered_like}
 use Rattle.source_search.proofs.Ended.{end_back}
-use Rattle.source_search.proofs.Keeping.{kept_key}
+use Rattle.source_search.proofs.Keeping.{kept_key, none_whole}
 use Rattle.source_search.proofs.Packing.{same_key, sound_still, states_still, unpacked_still}
 use Rattle.source_search.proofs.Searched.{are_own, complete}
 
@@ -288,7 +288,7 @@ module _ (p : Program) where
 module _ (p : Program) (wf : WellFormed p) (may : Outside) (kept : List SourceState) (all : AreAll p may kept)
     (none : is_any may ≡ false) where
   opens : IsSeen p false kept (opening p)
-  opens = subst (λ b. IsSeen p b kept (opening p)) none all.opens
+  opens = subst (λ b. IsSeen p b kept (opening p)) (none_whole may none) all.opens
 
   nowhere_blocked : AreLiveFor p None kept → LeadsNowhere p may (HasBlocked p)
   nowhere_blocked live actions s run from blocked =

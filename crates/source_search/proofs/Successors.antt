@@ -13,10 +13,10 @@ use Rattle.meaning.specs.States.{SourceState}
 use Rattle.meaning.specs.Table.{AllowsKill, AllowsStray, Table}
 use Rattle.proof_exploration.specs.Exploring.{IsLike}
 use Rattle.proof_exploration.proofs.Alike.{like_action, like_after, like_back, printing}
-use Rattle.source_search.specs.Found.{IsFrom, is_any, killed_in, killed_to}
+use Rattle.source_search.specs.Found.{IsFrom, killed_in, killed_to}
 use Rattle.source_search.specs.declared.outside.Outside.{Outside}
-use Rattle.source_search.specs.Kept.{IsExpanded}
-use Rattle.source_search.proofs.Keeping.{seen_like}
+use Rattle.source_search.specs.Kept.{IsInterleaved}
+use Rattle.source_search.proofs.Keeping.{kept_like}
 
 -- an action leads to a state that is alike
 abbrev pub LeadsAlike : Program → SourceState → Action → SourceState → Type 0
@@ -75,11 +75,11 @@ from_alike may s c (Kill resumed last) like from = subst (λ (n : ℕ). n < may.
 from_alike may s c kind like from = tt
 
 -- where all that follows the one is kept, all that follows the other is
-pub expanded_like : (p : Program) (may : Outside) (kept : List SourceState) (s c : SourceState) → IsLike s c
-    → IsExpanded p may kept c → IsExpanded p may kept s
-expanded_like p may kept s c like expanded a there from s' x =
+pub interleaved_like : (p : Program) (may : Outside) (kept : List SourceState) (s c : SourceState) → IsLike s c
+    → IsInterleaved p may kept c → IsInterleaved p may kept s
+interleaved_like p may kept s c like expanded a there from s' x =
     let led : LeadsAlike p c a s' = step_alike p s c like a s' x in
-    seen_like p (is_any may) kept led.0 s'
+    kept_like kept led.0 s'
     (expanded a (subst (λ (f : ℕ → Option Process). IsSome (f a.process)) like.process there)
     (from_alike may s c a.kind like from) led.0 led.1)
     (like_back s' led.0 led.2)

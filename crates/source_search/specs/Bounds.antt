@@ -4,7 +4,7 @@ use Rattle.std.specs.List.Sorted.{IsStrictlyIncreasing}
 use Rattle.program.specs.Trees.{Program}
 use Rattle.program.specs.declared.kinds.Member.{Member}
 use Rattle.meaning.specs.States.{SourceState, opening}
-use Rattle.source_search.specs.Found.{is_any}
+use Rattle.source_search.specs.Found.{interleaves}
 use Rattle.source_search.specs.Kept.{IsExpanded, IsSeen}
 use Rattle.source_search.specs.declared.bounds.Bound.{Bound}
 use Rattle.source_search.specs.declared.bounds.Bound.TheVariants.{Lost, Run, States, Waiters}
@@ -21,7 +21,7 @@ pub record IsCrowded (s : SourceState) : Type 0 where
 
 -- nothing is left to keep: the state in which every run begins is seen, and wherever an action leads to from these
 pub record AreAll (p : Program) (may : Outside) (kept : List SourceState) : Type 0 where
-  pub opens : IsSeen p (is_any may) kept (opening p)
+  pub opens : IsSeen p (interleaves may) kept (opening p)
   pub expanded : All (IsExpanded p may kept) kept
 
 -- a search that may keep so many states, and keeps these, has met this bound: it may keep no more; so many processes wait

@@ -15,6 +15,10 @@ use Rattle.source_search.specs.declared.outside.Outside.{Outside}
 abbrev pub is_any : Outside → Bool
 is_any may = may.strays || nat_lt 0 may.kills
 
+-- with kills all actions are interleaved
+abbrev pub interleaves : Outside → Bool
+interleaves may = nat_lt 0 may.kills
+
 -- a process that was killed: it dies of that, or has died
 abbrev pub is_killed : Process → Bool
 is_killed (Dying Killed ms) = true

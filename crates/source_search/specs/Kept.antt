@@ -6,9 +6,9 @@ use Rattle.meaning.specs.Labels.{Action, Kind}
 use Rattle.meaning.specs.Runs.{IsStep}
 use Rattle.meaning.specs.States.{SourceState}
 use Rattle.proof_exploration.specs.Exploring.{IsStuck}
-use Rattle.proof_exploration.specs.Searching.{IsCovered, IsKept}
+use Rattle.proof_exploration.specs.Searching.{IsCovered, IsExpandedBy, IsKept}
 use Rattle.source_reaching.specs.Choices.{by}
-use Rattle.source_search.specs.Found.{HasFailed, IsFrom, is_any}
+use Rattle.source_search.specs.Found.{HasFailed, IsFrom, interleaves}
 use Rattle.source_search.specs.declared.outside.Outside.{Outside}
 use Rattle.source_search.specs.Packed.{IsWithin, unpacked}
 use Rattle.source_search.specs.declared.kept.Kept.{Kept as KeptOf}
@@ -31,7 +31,7 @@ IsSound kept = All (IsWithin kept.parts) kept.states.items
 abbrev pub IsLonger : List SourceState → List SourceState → Type 0
 IsLonger kept kept' = (more : List SourceState) × (kept' ≡ kept ++ more)
 
--- the state is kept, where something from outside is searched; else it is covered by what is kept
+-- the state is kept, where all actions are interleaved; else it is covered by what is kept
 abbrev pub IsSeen : Program → Bool → List SourceState → SourceState → Type 0
 IsSeen p true kept s = IsKept kept s
 IsSeen p false kept s = (n : ℕ) × IsCovered p kept n s
@@ -40,18 +40,21 @@ IsSeen p false kept s = (n : ℕ) × IsCovered p kept n s
 abbrev pub LeadsToKept : Program → List SourceState → SourceState → Action → Type 0
 LeadsToKept p kept s a = (s' : SourceState) → IsStep p s a s' → IsKept kept s'
 
--- it is kept, or covered
-abbrev pub LeadsToSeen : Program → Outside → List SourceState → SourceState → Action → Type 0
-LeadsToSeen p may kept s a = (s' : SourceState) → IsStep p s a s' → IsSeen p (is_any may) kept s'
-
 -- so is wherever an action of this process leads to: its own, or what is searched from outside
 abbrev pub IsFollowed : Program → Outside → List SourceState → SourceState → ℕ → Type 0
-IsFollowed p may kept s n = (kind : Kind) → IsFrom may s kind → LeadsToSeen p may kept s (by n kind)
+IsFollowed p may kept s n = (kind : Kind) → IsFrom may s kind → LeadsToKept p kept s (by n kind)
 
 -- and wherever one of any process leads to that was made
+abbrev pub IsInterleaved : Program → Outside → List SourceState → SourceState → Type 0
+IsInterleaved p may kept s = (a : Action) → IsSome (s.process a.process) → IsFrom may s a.kind → LeadsToKept p kept s a
+
+-- wherever a turn of a process leads to is covered; or where all actions are interleaved, what each leads to is kept
+abbrev pub IsExpandedSo : Program → Outside → Bool → List SourceState → SourceState → Type 0
+IsExpandedSo p may true kept s = IsInterleaved p may kept s
+IsExpandedSo p may false kept s = IsExpandedBy p may.strays kept s
+
 abbrev pub IsExpanded : Program → Outside → List SourceState → SourceState → Type 0
-IsExpanded p may kept s = (a : Action) → IsSome (s.process a.process) → IsFrom may s a.kind
-    → LeadsToSeen p may kept s a
+IsExpanded p may kept s = IsExpandedSo p may (interleaves may) kept s
 
 -- none of these states is such an end, where none was found
 abbrev pub NoneIs : (SourceState → Type 0) → List SourceState → Option ℕ → Type 0

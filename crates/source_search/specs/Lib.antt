@@ -4,6 +4,7 @@ pub mod Kept
 pub mod Packed
 pub mod Spots
 pub mod Covered
+pub mod Waking
 pub mod Known
 pub mod Bounds
 pub mod Ends

@@ -114,7 +114,7 @@ impl<'a> Kept<'a> {
     ghost use Rattle.program.specs.Views.{program_of};
     ghost use Rattle.source_states.specs.States.{state_of};
     ghost use Rattle.source_search.specs.Covered.{IsCoveredSo};
-    ghost use Rattle.source_search.specs.Found.{is_any};
+    ghost use Rattle.source_search.specs.Found.{interleaves};
     ghost use Rattle.source_search.specs.Kept.{IsLonger, IsSeen, IsSound, states_of};
     ghost use Rattle.source_search.specs.Packed.{IsGrown, IsWithin, unpacked};
 
@@ -141,7 +141,7 @@ impl<'a> Kept<'a> {
         Ok(kept)
     }
 
-    /// Keeps the state in which every run begins; with nothing from outside the one that calm actions lead to from it.
+    /// Keeps the state in which every run begins, or the one that calm actions lead to from it.
     pub fn open(
         &mut self,
         alloc: Global,
@@ -151,10 +151,10 @@ impl<'a> Kept<'a> {
     ) -> Result<bool, AllocError>
         requires sound { IsSound self.old }
         ensures sound { OnOk result (IsSound self.new) }
-        ensures seen { IfOk result (λ kept. kept ≡ true → IsSeen (program_of checked.now.tree) (is_any outside)
+        ensures seen { IfOk result (λ kept. kept ≡ true → IsSeen (program_of checked.now.tree) (interleaves outside)
             (states_of self.new) (state_of state.entry)) }
     {
-        if outside.is_any() {
+        if outside.interleaves() {
             return self.keep(alloc, checked, state, OPENING);
         }
         let Some(packed) = self.parts.pack(alloc, checked.program(), &state, 0, 0)? else {

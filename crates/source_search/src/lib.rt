@@ -29,6 +29,7 @@ mod replay;
 mod runs;
 mod search;
 mod spot;
+mod waking;
 mod walking;
 
 pub use asked::Asked;

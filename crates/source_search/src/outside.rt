@@ -2,8 +2,8 @@ ghost use Rattle.std.specs.Prelude.{◌≡◌, ◌≤◌, ◌+◌, if◌then◌e
 ghost use Rattle.source_offers.specs.Stages.{process_of};
 ghost use Rattle.source_states.specs.Actions.{action_of, kind_of};
 ghost use Rattle.source_states.specs.States.{state_of};
-ghost use Rattle.source_search.specs.Found.{AreFrom, AreNamed, IsNamed, is_any, is_killed, is_killed_at, killed_in, kills_of};
-ghost use Rattle.source_search.specs.Found.{one_kill};
+ghost use Rattle.source_search.specs.Found.{AreFrom, AreNamed, IsNamed, interleaves, is_any, is_killed, is_killed_at, killed_in};
+ghost use Rattle.source_search.specs.Found.{kills_of, one_kill};
 
 use source_offers::{End, Process, Stage};
 use source_states::{Action, ActionKind, SourceState};
@@ -24,6 +24,13 @@ impl Outside {
         ensures { result ≡ is_any self }
     {
         self.strays || self.kills > 0
+    }
+
+    /// Whether all actions are interleaved: with kills.
+    pub fn interleaves(self) -> bool
+        ensures { result ≡ interleaves self }
+    {
+        self.kills > 0
     }
 }
 

@@ -7,9 +7,10 @@ use crate::making::follow_made;
 use crate::outside::Outside;
 use crate::packed::Packed;
 use crate::parts::Parts;
+use crate::waking::wake;
 use program::Checked;
 use source_reaching::{Followed, follow_own, own_actions};
-use source_states::{Action, SourceState};
+use source_states::{Action, ActionKind, SourceState};
 use std::alloc::{AllocError, Global};
 use words::ImageVersion;
 
@@ -142,6 +143,19 @@ fn go_from<'a>(
     settle_behind(alloc, checked, parts, before, after, small, actions)
 }
 
+// Wakes a process that waits, though nobody notified it, and notes that.
+fn go_awake(
+    small: &mut SourceState,
+    process: u64,
+    actions: &mut Vec<Action>,
+) -> Result<(), AllocError> {
+    if let Some(condition) = wake(small, process) {
+        let kind = ActionKind::Stray(condition);
+        actions.push(Action { process, kind })?;
+    }
+    Ok(())
+}
+
 // Appends the actions of a way, and those of the processes that it makes; says whether it is possible.
 fn go_through<'a>(
     alloc: Global,
@@ -151,6 +165,7 @@ fn go_through<'a>(
     made: usize,
     actions: &mut Vec<Action>,
 ) -> Result<bool, AllocError> {
+    go_awake(small, u64::from(way.process), actions)?;
     if !go_way(alloc, checked, small, way, actions)? {
         return Ok(false);
     }
@@ -338,7 +353,7 @@ pub(crate) fn actions_to<'a>(
     place: usize,
     outside: Outside,
 ) -> Result<Vec<Action>, AllocError> {
-    if outside.is_any() {
+    if outside.interleaves() {
         return interleaved_to(alloc, checked, kept.ways.as_slice(), place, outside);
     }
     followed_to(alloc, checked, kept, place)

@@ -6,7 +6,7 @@ ghost use Rattle.meaning.specs.States.{SourceState as SourceStateOf, opening};
 ghost use Rattle.source_search.specs.Blocking.{IsTold};
 ghost use Rattle.source_search.specs.Bounds.{AreAll, HasSearched, IsMet};
 ghost use Rattle.source_search.specs.Ending.{IsEndTold};
-ghost use Rattle.source_search.specs.Found.{HasFailed, LeadsNowhere, LeadsTo, is_any};
+ghost use Rattle.source_search.specs.Found.{HasFailed, LeadsNowhere, LeadsTo, interleaves};
 ghost use Rattle.source_search.specs.declared.outside.Outside.{Outside as OutsideOf};
 ghost use Rattle.source_search.specs.Kept.{IsSeen, IsSound, states_of};
 
@@ -227,7 +227,7 @@ fn keep_opening<'a>(
 ) -> Result<bool, AllocError>
     requires sound { IsSound kept.old }
     ensures sound { OnOk result (IsSound kept.new) }
-    ensures seen { IfOk result (λ opens. opens ≡ true → IsSeen (program_of checked.now.tree) (is_any outside)
+    ensures seen { IfOk result (λ opens. opens ≡ true → IsSeen (program_of checked.now.tree) (interleaves outside)
         (states_of kept.new) (opening (program_of checked.now.tree))) }
 {
     let opening = SourceState::opening(alloc, checked, ImageVersion::Two)?;
@@ -295,7 +295,7 @@ fn explore_from<'a, P: Progress>(
 /// Searches all runs of actions of a program's own processes, and of what may come from outside: with strays those too
 /// in which a process that waits resumes though nobody notified it, and with kills those in which so many processes at
 /// most are killed, wherever they stand; breadth first, keeping at most so many states: for one that gets stuck, and for
-/// one in which a process aborts. Where nothing comes from outside a process whose next action is calm, so that none of
+/// one in which a process aborts. Without kills a process whose next action is calm, so that none of
 /// the others races with it, is followed alone. What is found is such a run. Where the search came to its end and none
 /// was found, there is none. Where nothing from outside is searched, a complete search tells a run at whose end some
 /// processes are blocked for good, or that there is none; and where it is asked for, a run that can't end any more, or

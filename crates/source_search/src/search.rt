@@ -2,7 +2,7 @@ ghost use Rattle.std.specs.Prelude.{◌≡◌, All, IfOk, IfSome, None, OnOk, fa
 ghost use Rattle.program.specs.Views.{program_of};
 ghost use Rattle.meaning.specs.Runs.{CanMove};
 ghost use Rattle.proof_exploration.specs.Exploring.{IsStuck};
-ghost use Rattle.source_search.specs.Found.{HasFailed, is_any};
+ghost use Rattle.source_search.specs.Found.{HasFailed, interleaves};
 ghost use Rattle.source_search.specs.Packed.{unpacked};
 ghost use Rattle.source_states.specs.Actions.{action_of};
 ghost use Rattle.source_states.specs.States.{state_of};
@@ -68,7 +68,7 @@ impl<'a> Kept<'a> {
     ghost use Rattle.std.specs.Prelude.{map};
     ghost use Rattle.source_states.specs.Actions.{action_of};
     ghost use Rattle.source_states.specs.States.{state_of};
-    ghost use Rattle.source_search.specs.Kept.{IsExpanded, IsFollowed, IsLonger, IsSound, LeadsToKept, states_of};
+    ghost use Rattle.source_search.specs.Kept.{IsFollowed, IsInterleaved, IsLonger, IsSound, LeadsToKept, states_of};
 
     // Keeps what the state leads to that an action leads to, where it is possible; false where no more can be kept.
     fn take(
@@ -157,7 +157,7 @@ impl<'a> Kept<'a> {
         ensures sound { OnOk result (IsSound self.new) }
         ensures longer { OnOk result (IsLonger (states_of self.old) (states_of self.new)) }
         ensures kept { IfOk result (λ kept. kept ≡ true
-            → IsExpanded (program_of checked.now.tree) outside (states_of self.new)
+            → IsInterleaved (program_of checked.now.tree) outside (states_of self.new)
             (state_of state.now)) }
     {
         let all = state.numbers(alloc)?;
@@ -216,19 +216,21 @@ fn either(first: bool, second: bool) -> bool
 impl<'a> Kept<'a> {
     ghost use Rattle.std.specs.Prelude.{IfSome, ◌<◌, length, suc, ℕ};
     ghost use Rattle.meaning.specs.Runs.{CanMove};
+    ghost use Rattle.proof_exploration.specs.Exploring.{awake};
     ghost use Rattle.source_search.specs.Covered.{IsFollowedOwn};
     ghost use Rattle.source_search.specs.Known.{AreKnown};
     ghost use Rattle.source_search.specs.Packed.{IsGrown, IsWithin, unpacked};
 
-    // Covers what each process of a kept state may do next of its own, and tells whether one can move; None where no more
-    // can be kept.
-    fn expand_own(
+    // Covers what turns of each process of a kept state lead to, and tells whether one can move; None where no more can be
+    // kept.
+    fn expand_turns(
         &mut self,
         alloc: Global,
         checked: &'a Checked,
         memo: &mut Memo,
         packed: &Packed,
         before: usize,
+        strays: bool,
     ) -> Result<Option<bool>, AllocError>
         requires sound { IsSound self.old }
         requires within { IsWithin self.old.parts packed.now }
@@ -239,7 +241,7 @@ impl<'a> Kept<'a> {
         ensures known { OnOk result (AreKnown (program_of checked.now.tree) self.new.parts memo.new) }
         ensures followed { IfOk result (λ o. IfSome o (λ moves. (place : ℕ)
             → place < length packed.now.processes.items → IsFollowedOwn (program_of checked.now.tree)
-            (states_of self.new) (unpacked self.old.parts packed.now) (suc place))) }
+            (states_of self.new) (awake strays (suc place) (unpacked self.old.parts packed.now)) (suc place))) }
         ensures moves { IfOk result (λ o. IfSome o (λ moves. moves ≡ true
             → (t : ℕ) × CanMove (program_of checked.now.tree) (unpacked self.old.parts packed.now) t)) }
     {
@@ -249,7 +251,8 @@ impl<'a> Kept<'a> {
         };
         let mut moves = false;
         for place in 0..packed.processes.len() {
-            let Some(able) = self.follow_spot(alloc, checked, memo, packed, origin, place)? else {
+            let Some(able) = self.follow_turn(alloc, checked, memo, packed, origin, place, strays)?
+            else {
                 return Ok(None);
             };
             moves = either(moves, able);
@@ -271,6 +274,7 @@ impl Findings {
         place: usize,
         outside: Outside,
     ) -> Result<bool, AllocError>
+        requires interleaved { interleaves outside ≡ true }
         requires sound { IsSound kept.old }
         ensures sound { OnOk result (IsSound kept.new) }
         ensures longer { OnOk result (IsLonger (states_of kept.old) (states_of kept.new)) }
@@ -327,8 +331,8 @@ impl Findings {
         Ok(true)
     }
 
-    // The same with nothing from outside, by the parts of the state.
-    fn look_own<'a>(
+    // The same of turns, by the parts of the state.
+    fn look_turns<'a>(
         &mut self,
         alloc: Global,
         checked: &'a Checked,
@@ -339,7 +343,7 @@ impl Findings {
     ) -> Result<bool, AllocError>
         requires sound { IsSound kept.old }
         requires known { AreKnown (program_of checked.now.tree) kept.old.parts memo.old }
-        requires own { is_any outside ≡ false }
+        requires turns { interleaves outside ≡ false }
         ensures known { OnOk result (AreKnown (program_of checked.now.tree) kept.new.parts memo.new) }
         ensures sound { OnOk result (IsSound kept.new) }
         ensures longer { OnOk result (IsLonger (states_of kept.old) (states_of kept.new)) }
@@ -351,7 +355,8 @@ impl Findings {
             return Ok(false);
         };
         self.note_failed(&kept.parts, &packed, place, outside);
-        let Some(moves) = kept.expand_own(alloc, checked, memo, &packed, place)? else {
+        let Some(moves) = kept.expand_turns(alloc, checked, memo, &packed, place, outside.strays)?
+        else {
             return Ok(false);
         };
         let told = self.note_stuck(alloc, checked, &kept.parts, &packed, place, moves)?;
@@ -370,8 +375,8 @@ impl Findings {
         outside: Outside,
     ) -> Result<bool, AllocError>
         requires sound { IsSound kept.old }
-        requires known { is_any outside ≡ false → AreKnown (program_of checked.now.tree) kept.old.parts memo.old }
-        ensures known { OnOk result (is_any outside ≡ false
+        requires known { interleaves outside ≡ false → AreKnown (program_of checked.now.tree) kept.old.parts memo.old }
+        ensures known { OnOk result (interleaves outside ≡ false
             → AreKnown (program_of checked.now.tree) kept.new.parts memo.new) }
         ensures sound { OnOk result (IsSound kept.new) }
         ensures longer { OnOk result (IsLonger (states_of kept.old) (states_of kept.new)) }
@@ -379,11 +384,11 @@ impl Findings {
         ensures looked { IfOk result (λ all. all ≡ true → IsLookedAt (program_of checked.now.tree) outside
             (states_of kept.old) (states_of kept.new) place self.old self.new) }
     {
-        if outside.is_any() {
+        if outside.interleaves() {
             return self.look_whole(alloc, checked, kept, place, outside);
         }
         memo.fit(alloc, kept.states.len())?;
-        self.look_own(alloc, checked, kept, memo, place, outside)
+        self.look_turns(alloc, checked, kept, memo, place, outside)
     }
 }
 

@@ -1,6 +1,7 @@
 use Rattle.meaning.specs.States.{opening}
 use Rattle.proof_exploration.proofs.Representing.{calm_named, grown, own_leads}
 use Rattle.proof_exploration.proofs.Searching.{never_stuck, never_aborted}
+use Rattle.proof_exploration.proofs.Waking.{never_aborted_waking, never_stuck_waking}
 use Rattle.proof_exploration.proofs.law.searching_laws.Goals as goal
 
 pub returns-clause-stuck : goal.returns-clause-stuck
@@ -10,6 +11,14 @@ returns-clause-stuck c = λ p kept actions s wf complete tested led stuck.
 pub returns-clause-aborted : goal.returns-clause-aborted
 returns-clause-aborted c = λ p kept actions s wf complete tested led is.
     never_aborted p kept wf complete tested actions s led is
+
+pub returns-clause-stuck_waking : goal.returns-clause-stuck_waking
+returns-clause-stuck_waking c = λ p kept actions s wf complete tested run none stuck.
+    never_stuck_waking p kept wf complete tested actions s run none stuck
+
+pub returns-clause-aborted_waking : goal.returns-clause-aborted_waking
+returns-clause-aborted_waking c = λ p kept actions s wf complete tested run none is.
+    never_aborted_waking p kept wf complete tested actions s run none is
 
 pub returns-clause-grows : goal.returns-clause-grows
 returns-clause-grows c = λ p kept more n s all is. grown p kept more all n s is

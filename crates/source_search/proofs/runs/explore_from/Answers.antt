@@ -3,7 +3,7 @@ use Rattle.std.proofs.lemmas.List.{length-map}
 use Rattle.program.specs.Views.{program_of}
 use Rattle.meaning.specs.States.{opening}
 use Rattle.source_search.specs.Bounds.{AreAll, IsMet}
-use Rattle.source_search.specs.Found.{is_any}
+use Rattle.source_search.specs.Found.{interleaves}
 use Rattle.source_search.specs.Kept.{states_of}
 use Rattle.source_search.specs.Packed.{unpacked}
 use Rattle.source_search.proofs.Bounded.{completed, ended}
@@ -43,7 +43,7 @@ returns-clause-blocked g c =
     c.in_ok-blocked.ensures (λ complete none.
     let all : AreAll p c.args.outside kept = record {
       opens = seen_still (states_of c.keep_opening.new.kept) kept c.in_ok-findings.ensures.longer p
-          (is_any c.args.outside) (opening p)
+          (interleaves c.args.outside) (opening p)
           (c.in_ok-opens.ensures.seen (c.is_complete-complete.ensures.opens complete));
       expanded = c.in_ok-findings.ensures.expanded (c.is_complete-complete.ensures.complete complete);
     } in
@@ -58,7 +58,7 @@ returns-clause-ending g c =
     c.in_ok-ending.ensures (λ asked complete none.
     let all : AreAll p c.args.outside kept = record {
       opens = seen_still (states_of c.keep_opening.new.kept) kept c.in_ok-findings.ensures.longer p
-          (is_any c.args.outside) (opening p)
+          (interleaves c.args.outside) (opening p)
           (c.in_ok-opens.ensures.seen (c.is_complete-complete.ensures.opens complete));
       expanded = c.in_ok-findings.ensures.expanded (c.is_complete-complete.ensures.complete complete);
     } in
@@ -75,7 +75,7 @@ returns-clause-searched g c =
     let all : c.in_ok-opens.opens ≡ true → c.in_ok-findings.findings.complete ≡ true → AreAll p c.args.outside kept =
     λ opens complete. record {
       opens = seen_still (states_of c.keep_opening.new.kept) kept c.in_ok-findings.ensures.longer p
-          (is_any c.args.outside) (opening p) (c.in_ok-opens.ensures.seen opens);
+          (interleaves c.args.outside) (opening p) (c.in_ok-opens.ensures.seen opens);
       expanded = c.in_ok-findings.ensures.expanded complete;
     } in
     record {

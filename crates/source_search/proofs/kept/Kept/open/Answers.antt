@@ -2,7 +2,7 @@ use Rattle.std.proofs.Common.{sym, ◌∙◌}
 use Rattle.std.proofs.lemmas.Result.{IfOk-weaker}
 use Rattle.program.specs.Views.{program_of}
 use Rattle.source_states.specs.States.{state_of}
-use Rattle.source_search.specs.Found.{is_any}
+use Rattle.source_search.specs.Found.{interleaves}
 use Rattle.source_search.specs.Kept.{states_of}
 use Rattle.source_search.specs.Packed.{IsPackedOf, unpacked}
 use Rattle.source_search.proofs.Coverage.{covered_like}
@@ -10,9 +10,9 @@ use Rattle.source_search.proofs.Keeping.{seen_covered, seen_kept}
 use Rattle.source_search.proofs.Packing.{sound_still}
 use Rattle.source_search.proofs.kept.Kept.open.Goals as goal
 
-pub returns-then-is_any-clause-seen : goal.returns-then-is_any-clause-seen
-returns-then-is_any-clause-seen c = IfOk-weaker c.keep.result _ _ (λ b h e.
-    seen_kept (program_of c.args.checked.now.tree) (is_any c.args.outside) (states_of c.keep.new.self)
+pub returns-then-interleaves-clause-seen : goal.returns-then-interleaves-clause-seen
+returns-then-interleaves-clause-seen c = IfOk-weaker c.keep.result _ _ (λ b h e.
+    seen_kept (program_of c.args.checked.now.tree) (interleaves c.args.outside) (states_of c.keep.new.self)
     (state_of c.args.state) (h e))
     c.keep.ensures.kept
 
@@ -39,6 +39,6 @@ returns-clause-seen c =
     let s = state_of c.args.state in
     let are : IsPackedOf c.pack.new.self c.in-Some.packed s = rw c.in-Some.is at c.in_ok-packed.ensures.packed in
     IfOk-weaker c.cover.result _ _ (λ b h e.
-    seen_covered p (is_any c.args.outside) kept s (sym c.is_any.ensures ∙ c.if-is_any.false)
+    seen_covered p (interleaves c.args.outside) kept s (sym c.interleaves.ensures ∙ c.if-interleaves.false)
     (covered_like p kept (unpacked c.pack.new.self c.in-Some.packed) s (h e) are.like))
     c.cover.ensures.covered

@@ -4,12 +4,12 @@ use Rattle.meaning.specs.Runs.{CanMove}
 use Rattle.proof_exploration.specs.Exploring.{IsStuck}
 use Rattle.source_search.specs.Kept.{IsKeptAt, states_of}
 use Rattle.source_search.specs.Packed.{unpacked}
-use Rattle.source_search.proofs.Coverage.{expanded_own}
+use Rattle.source_search.proofs.Coverage.{expanded_turns}
 use Rattle.source_search.proofs.Packing.{unpacked_still}
-use Rattle.source_search.proofs.search.Findings.look_own.Goals as goal
+use Rattle.source_search.proofs.search.Findings.look_turns.Goals as goal
 
-pub expand_own-requires-clause-within : goal.expand_own-requires-clause-within
-expand_own-requires-clause-within c =
+pub expand_turns-requires-clause-within : goal.expand_turns-requires-clause-within
+expand_turns-requires-clause-within c =
     let at : IsKeptAt c.args.kept.now c.args.place c.in-Some.packed =
     rw c.in-Some.is at (c.in_ok-packed.ensures c.requires.sound) in
     at.within
@@ -18,7 +18,7 @@ pub note_stuck-requires : goal.note_stuck-requires
 note_stuck-requires c = λ e.
     let p = program_of c.args.checked.now.tree in
     let a = c.args.kept.now.parts in
-    let b = c.expand_own.new.self.parts in
+    let b = c.expand_turns.new.self.parts in
     let at : IsKeptAt c.args.kept.now c.args.place c.in-Some.packed =
     rw c.in-Some.is at (c.in_ok-packed.ensures c.requires.sound) in
     let can : c.in-Some-2.moves ≡ true → (t : ℕ) × CanMove p (unpacked a c.in-Some.packed) t =
@@ -30,13 +30,13 @@ pub returns-clause-looked : goal.returns-clause-looked
 returns-clause-looked c = λ e.
     let p = program_of c.args.checked.now.tree in
     let a = c.args.kept.now.parts in
-    let b = c.expand_own.new.self.parts in
+    let b = c.expand_turns.new.self.parts in
     let x = c.in-Some.packed in
     let at : IsKeptAt c.args.kept.now c.args.place x = rw c.in-Some.is at (c.in_ok-packed.ensures c.requires.sound) in
     record {
       state = unpacked a x;
       here = at.here;
-      expanded = expanded_own p c.args.outside c.requires.own (states_of c.expand_own.new.self) a x
+      expanded = expanded_turns p c.args.outside c.requires.turns (states_of c.expand_turns.new.self) a x
           (rw c.in-Some-2.is at c.in_ok-moves.ensures.followed);
       stuck = λ none. let told = c.in_ok-told.ensures.stuck e none in (
         sym c.note_failed.ensures.stuck ∙ told.0,
