@@ -38,15 +38,27 @@ pub fn schedule_of_run(
     ensures { IfOk result (IsGuided image.now failure) }
 {
     let locks = Locks { layout, monitors };
-    let guided = guided(alloc, image, locks, actions, failure)?;
-    let GuidedSchedule::Found(turns) = guided else {
-        return Ok(guided);
-    };
-    if fails_on(alloc, image, turns.as_slice(), failure)? {
-        Ok(GuidedSchedule::Found(turns))
-    } else {
-        Ok(GuidedSchedule::Unknown)
+    match guided(alloc, image, locks, actions, failure)? {
+        GuidedSchedule::Found(turns) => tried(alloc, image, turns, failure),
+        GuidedSchedule::OtherChoice => Ok(GuidedSchedule::OtherChoice),
+        GuidedSchedule::Unknown => Ok(GuidedSchedule::Unknown),
     }
+}
+
+// A schedule, where the image follows it to its end and its run fails so.
+fn tried(
+    alloc: Global,
+    image: &Image,
+    turns: Vec<Turn>,
+    failure: RunFailure,
+) -> Result<GuidedSchedule, AllocError>
+    ensures { IfOk result (IsGuided image.now failure) }
+{
+    let fails = fails_on(alloc, image, turns.as_slice(), failure)?;
+    if fails {
+        return Ok(GuidedSchedule::Found(turns));
+    }
+    Ok(GuidedSchedule::Unknown)
 }
 
 // The turns of a run that goes along these actions and then on to where the run fails, or why it can't go on.

@@ -5,7 +5,7 @@ use machine::{Event, EventName};
 use piece_machine::PieceMachine;
 use runner::Turn;
 use std::alloc::{AllocError, Global};
-use words::BUCKETS;
+use words::{BUCKETS, MOST_THREADS};
 
 // The most steps of a run, and the most rounds in which its threads are taken on.
 const STEPS: u32 = 1_000_000;
@@ -51,6 +51,11 @@ impl<'a> Guide<'a> {
         })
     }
 
+    // Whether the last step woke thread `t`.
+    fn woke(&self, t: u32) -> bool {
+        t > 0 && t <= MOST_THREADS && self.taken.woken.contains(t)
+    }
+
     /// Whether the last step, a wake of one thread at most, woke one of these and left none of them asleep.
     pub(crate) fn has_woken(&self, threads: &[u64]) -> bool {
         let mut is_one = self.taken.woken.is_empty();
@@ -61,7 +66,7 @@ impl<'a> Guide<'a> {
             if self.machine.machine().asleep(t).is_some() {
                 return false;
             }
-            is_one = is_one || self.taken.woken.contains(t);
+            is_one = is_one || self.woke(t);
         }
         is_one
     }
