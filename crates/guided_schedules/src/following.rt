@@ -5,6 +5,7 @@ use crate::guide::Guide;
 use crate::handing::Locks;
 use isa::Image;
 use layout::Layout;
+use program::Member;
 use runner::Turn;
 use schedules::{RunFailure, fails_on};
 use source_states::{Action, ActionKind};
@@ -103,7 +104,6 @@ fn follow_all(
     failure: RunFailure,
 ) -> Result<Followed, AllocError> {
     let followed = follow_each(guide, actions)?;
-    guide.sleep_all()?;
     match failure {
         RunFailure::Stuck => guide.settle()?,
         RunFailure::Aborted { thread, .. } => guide.settle_one(thread)?,
@@ -136,11 +136,19 @@ fn follow(
         | ActionKind::Exit(_)
         | ActionKind::Fork(_)
         | ActionKind::Abandon(_) => guide.drive(t)?,
-        ActionKind::Wait(_) => guide.drive_to_wait(t)?,
-        ActionKind::Notify(_, resumed) => return notify(guide, t, resumed.as_slice(), later),
-        ActionKind::Broadcast(..) => sleep_and_drive(guide, t, later)?,
+        ActionKind::Wait(condition) => guide.drive_to_wait(t, *condition)?,
+        ActionKind::Notify(condition, resumed) => {
+            return notify(guide, t, *condition, resumed.as_slice(), later);
+        }
+        ActionKind::Broadcast(condition, _) => {
+            put_to_sleep(guide, *condition, later)?;
+            guide.drive(t)?
+        }
+        ActionKind::Stray(condition) => {
+            put_to_sleep(guide, *condition, later)?;
+            guide.wake(t)?
+        }
         ActionKind::Kill(..) => guide.kill(t)?,
-        ActionKind::Stray(_) => sleep_and_wake(guide, t, later)?,
         _ => true,
     };
     Ok(if is_done {
@@ -155,11 +163,12 @@ fn follow(
 fn notify(
     guide: &mut Guide<'_>,
     t: u32,
+    condition: Member,
     resumed: &[u64],
     later: &[Action],
 ) -> Result<Followed, AllocError> {
     guide.put_first_to_sleep(resumed)?;
-    put_to_sleep(guide, later)?;
+    put_to_sleep(guide, condition, later)?;
     if !guide.drive(t)? {
         return Ok(Followed::Part);
     }
@@ -170,25 +179,19 @@ fn notify(
     })
 }
 
-fn sleep_and_drive(guide: &mut Guide<'_>, t: u32, later: &[Action]) -> Result<bool, AllocError> {
-    put_to_sleep(guide, later)?;
-    guide.drive(t)
-}
-
-fn sleep_and_wake(guide: &mut Guide<'_>, t: u32, later: &[Action]) -> Result<bool, AllocError> {
-    put_to_sleep(guide, later)?;
-    guide.wake(t)
-}
-
-// Has all that are on their way to sleep fall asleep, in the order in which they are resumed later.
-fn put_to_sleep(guide: &mut Guide<'_>, later: &[Action]) -> Result<(), AllocError> {
+// Has all fall asleep that are on their way to sleep on a condition, in the order in which they are resumed later.
+fn put_to_sleep(
+    guide: &mut Guide<'_>,
+    condition: Member,
+    later: &[Action],
+) -> Result<(), AllocError> {
     for action in later {
-        if guide.is_all_asleep() {
+        if !guide.awaits(condition) {
             return Ok(());
         }
         if let ActionKind::Notify(_, resumed) | ActionKind::Broadcast(_, resumed) = &action.kind {
-            guide.sleep_each(resumed.as_slice())?;
+            guide.sleep_each(resumed.as_slice(), condition)?;
         }
     }
-    guide.sleep_all()
+    guide.sleep_on(condition)
 }

@@ -3,6 +3,7 @@ use isa::Image;
 use locals::NextStep;
 use machine::{Event, EventName};
 use piece_machine::PieceMachine;
+use program::Member;
 use runner::Turn;
 use std::alloc::{AllocError, Global};
 use words::{BUCKETS, MOST_THREADS};
@@ -24,13 +25,20 @@ enum Gone {
     Handed,
 }
 
+// A thread on its way to sleep on a condition.
+#[derive(Clone, Copy)]
+struct Waiting {
+    thread: u32,
+    condition: Member,
+}
+
 /// A run of an image that is taken on thread by thread, and its turns so far.
 #[derive(Drop)]
 pub(crate) struct Guide<'a> {
     locks: Locks<'a>,
     turns: Vec<Turn>,
     // The threads that have given a monitor up to wait, and don't sleep yet.
-    waiting: Vec<u32>,
+    waiting: Vec<Waiting>,
     taken: Event,
     machine: PieceMachine,
 }
@@ -185,32 +193,50 @@ impl<'a> Guide<'a> {
         Ok(false)
     }
 
-    /// Takes thread `t` on until it has given a lock up, behind which it is on its way to sleep. False where it can't come there.
-    pub(crate) fn drive_to_wait(&mut self, t: u32) -> Result<bool, AllocError> {
-        self.waiting.push(t)?;
+    /// Takes thread `t` on until it has given a lock up, behind which it is on its way to sleep on a condition. False where it
+    /// can't come there.
+    pub(crate) fn drive_to_wait(&mut self, t: u32, condition: Member) -> Result<bool, AllocError> {
+        self.waiting.push(Waiting {
+            thread: t,
+            condition,
+        })?;
         self.drive(t)
     }
 
-    /// Whether no thread is on its way to sleep.
-    pub(crate) fn is_all_asleep(&self) -> bool {
-        self.waiting.is_empty()
+    /// Whether a thread is on its way to sleep on this condition.
+    pub(crate) fn awaits(&self, condition: Member) -> bool {
+        for waiting in self.waiting.iter() {
+            if waiting.condition == condition {
+                return true;
+            }
+        }
+        false
     }
 
-    // Takes a thread off those that are on their way to sleep. Whether it was one.
-    fn take_waiting(&mut self, thread: u64) -> Option<u32> {
+    // Takes a thread off those that are on their way to sleep, on whatever condition. None where it isn't one.
+    fn take_waiting(&mut self, thread: u64) -> Option<Waiting> {
         for place in 0..self.waiting.len() {
-            if u64::from(self.waiting[place]) == thread {
+            if u64::from(self.waiting[place].thread) == thread {
                 return Some(self.waiting.remove(place));
             }
         }
         None
     }
 
-    /// Has these fall asleep, one after the other, as far as they are on their way.
-    pub(crate) fn sleep_each(&mut self, threads: &[u64]) -> Result<(), AllocError> {
+    /// Has these fall asleep, one after the other, as far as they are on their way to sleep on this condition.
+    pub(crate) fn sleep_each(
+        &mut self,
+        threads: &[u64],
+        condition: Member,
+    ) -> Result<(), AllocError> {
         for thread in threads {
-            if let Some(t) = self.take_waiting(*thread) {
-                self.settle_one(t)?;
+            let Some(waiting) = self.take_waiting(*thread) else {
+                continue;
+            };
+            if waiting.condition == condition {
+                self.settle_one(waiting.thread)?;
+            } else {
+                self.waiting.push(waiting)?;
             }
         }
         Ok(())
@@ -220,9 +246,9 @@ impl<'a> Guide<'a> {
     pub(crate) fn put_first_to_sleep(&mut self, threads: &[u64]) -> Result<(), AllocError> {
         let mut is_first = true;
         for thread in threads {
-            if let Some(t) = self.take_waiting(*thread) {
+            if let Some(waiting) = self.take_waiting(*thread) {
                 if is_first {
-                    self.settle_one(t)?;
+                    self.settle_one(waiting.thread)?;
                 }
                 is_first = false;
             }
@@ -230,15 +256,24 @@ impl<'a> Guide<'a> {
         Ok(())
     }
 
-    /// Has all fall asleep that are on their way.
-    pub(crate) fn sleep_all(&mut self) -> Result<(), AllocError> {
+    /// Has all fall asleep that are on their way to sleep on this condition.
+    pub(crate) fn sleep_on(&mut self, condition: Member) -> Result<(), AllocError> {
         for _ in 0..self.waiting.len() {
-            let Some(t) = self.waiting.pop() else {
-                return Ok(());
-            };
-            self.settle_one(t)?;
+            if let Some(waiting) = self.take_on(condition) {
+                self.settle_one(waiting.thread)?;
+            }
         }
         Ok(())
+    }
+
+    // Takes one off that is on its way to sleep on this condition.
+    fn take_on(&mut self, condition: Member) -> Option<Waiting> {
+        for place in 0..self.waiting.len() {
+            if self.waiting[place].condition == condition {
+                return Some(self.waiting.remove(place));
+            }
+        }
+        None
     }
 
     /// Wakes thread `t` from outside. False where it doesn't sleep.
