@@ -168,9 +168,11 @@ module _ (kept kept' : List SourceState) (longer : IsLonger kept kept') where
   expanded_still p may s = still (interleaves may)
     where
       still : (b : Bool) → IsExpandedSo p may b kept s → IsExpandedSo p may b kept' s
-      still true leads a there from = leads_still p s a (leads a there from)
-      still false leads a s' x = let n = (leads a s' x).0 in
-          (n, grown p kept kept' (all_contained kept kept' longer) n s' (leads a s' x).1)
+      still true leads = λ a there from. leads_still p s a (leads a there from)
+      still false leads = λ a s' x. (
+        (leads a s' x).0,
+        grown p kept kept' (all_contained kept kept' longer) (leads a s' x).0 s' (leads a s' x).1,
+      )
 
 -- what a process may do was all tried
 pub all_followed : (p : Program) (may : Outside) (kept : List SourceState) (s : SourceState) (n : ℕ)

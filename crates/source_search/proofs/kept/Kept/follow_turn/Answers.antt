@@ -6,7 +6,7 @@ use Rattle.source_search.specs.Covered.{IsFollowedOwn}
 use Rattle.source_search.specs.Kept.{states_of}
 use Rattle.source_search.specs.Packed.{unpacked}
 use Rattle.source_search.proofs.Woken.{awake_already}
-use Rattle.source_search.proofs.waking.Kept.follow_turn.Goals as goal
+use Rattle.source_search.proofs.kept.Kept.follow_turn.Goals as goal
 
 pub returns-then-not-is_woken-clause-followed : goal.returns-then-not-is_woken-clause-followed
 returns-then-not-is_woken-clause-followed c =
