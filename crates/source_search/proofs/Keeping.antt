@@ -15,7 +15,7 @@ use Rattle.meaning.specs.States.{SourceState}
 use Rattle.proof_exploration.specs.Exploring.{IsLike}
 use Rattle.proof_exploration.specs.Searching.{IsCovered, IsKept}
 use Rattle.proof_exploration.proofs.Alike.{like_self, like_trans}
-use Rattle.proof_exploration.proofs.Representing.{grown, like_covered}
+use Rattle.proof_exploration.proofs.Representing.{grown}
 use Rattle.source_states.specs.Actions.{action_of}
 use Rattle.source_states.specs.declared.action.Action.{Action as ActionOf}
 use Rattle.source_reaching.specs.Choices.{by}

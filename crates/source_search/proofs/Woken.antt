@@ -2,10 +2,8 @@
 use Rattle.std.proofs.Common.{◌≡◌, ◌<◌, ◌∙◌, ℕ, Bool, true, false, suc, [], All, None, Option, Some, ap, length, refl, subst, sym}
 use Rattle.std.specs.Prelude.{IfSome, is_some}
 use Rattle.program.specs.declared.kinds.Member.{Member}
-use Rattle.meaning.specs.Processes.{Process}
 use Rattle.meaning.specs.Runs.{IsStray}
 use Rattle.meaning.specs.States.{SourceState}
-use Rattle.meaning.specs.Table.{Table}
 use Rattle.proof_exploration.specs.Exploring.{awake}
 use Rattle.proof_exploration.proofs.Turns.{awake_in, awake_none}
 use Rattle.source_table.specs.Tables.{table_of}

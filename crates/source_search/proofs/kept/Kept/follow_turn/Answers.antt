@@ -1,4 +1,4 @@
-use Rattle.std.proofs.Common.{◌≡◌, false, subst, suc, sym}
+use Rattle.std.proofs.Common.{subst, suc, sym}
 use Rattle.std.specs.Prelude.{IfOk, IfSome}
 use Rattle.program.specs.Views.{program_of}
 use Rattle.proof_exploration.specs.Exploring.{awake}
