@@ -15,7 +15,7 @@ use Rattle.meaning.specs.States.{SourceState}
 use Rattle.proof_exploration.specs.Exploring.{IsLike}
 use Rattle.proof_exploration.specs.Searching.{IsCovered, IsKept}
 use Rattle.proof_exploration.proofs.Alike.{like_self, like_trans}
-use Rattle.proof_exploration.proofs.Representing.{grown, like_covered}
+use Rattle.proof_exploration.proofs.Representing.{grown}
 use Rattle.source_states.specs.Actions.{action_of}
 use Rattle.source_states.specs.declared.action.Action.{Action as ActionOf}
 use Rattle.source_reaching.specs.Choices.{by}
@@ -168,9 +168,11 @@ module _ (kept kept' : List SourceState) (longer : IsLonger kept kept') where
   expanded_still p may s = still (interleaves may)
     where
       still : (b : Bool) → IsExpandedSo p may b kept s → IsExpandedSo p may b kept' s
-      still true leads a there from = leads_still p s a (leads a there from)
-      still false leads a s' x = let n = (leads a s' x).0 in
-          (n, grown p kept kept' (all_contained kept kept' longer) n s' (leads a s' x).1)
+      still true leads = λ a there from. leads_still p s a (leads a there from)
+      still false leads = λ a s' x. (
+        (leads a s' x).0,
+        grown p kept kept' (all_contained kept kept' longer) (leads a s' x).0 s' (leads a s' x).1,
+      )
 
 -- what a process may do was all tried
 pub all_followed : (p : Program) (may : Outside) (kept : List SourceState) (s : SourceState) (n : ℕ)

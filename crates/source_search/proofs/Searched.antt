@@ -1,5 +1,5 @@
 -- How far a search has come, and what it knows at its end.
-use Rattle.std.proofs.Common.{◌≡◌, ◌<◌, ◌≤◌, ◌+◌, ℕ, zero, suc, Bool, List, [], ◌∷◌, ◌++◌, length, get_or, take, All}
+use Rattle.std.proofs.Common.{◌≡◌, ◌<◌, ◌≤◌, ◌+◌, ℕ, Bool, List, [], ◌∷◌, ◌++◌, length, get_or, take, All}
 use Rattle.std.proofs.Common.{Contains, Option, Some, None, sym, refl, ap, ◌∙◌, subst, arith, true, false, inl, inr}
 use Rattle.std.specs.Prelude.{IsSome, is_some, nat_lt, ◌||◌}
 use Rattle.std.proofs.lemmas.List.{get_or_append_left, length-append, length-take, take-append-le, take_all}
@@ -8,7 +8,6 @@ use Rattle.std.proofs.lemmas.Option.{get_or_from_slice_get, slice_get_within}
 use Rattle.program.specs.Trees.{Program}
 use Rattle.program.specs.WellFormed.{WellFormed}
 use Rattle.meaning.specs.Labels.{Action, Cause, Faulted, Kill, Killed, Kind, Stray}
-use Rattle.meaning.specs.Offers.{offer}
 use Rattle.meaning.specs.Processes.{Process}
 use Rattle.meaning.specs.Runs.{IsRun, IsStep, Leads}
 use Rattle.meaning.specs.States.{SourceState, opening}
@@ -16,7 +15,6 @@ use Rattle.meaning.proofs.Ends.{numbered}
 use Rattle.meaning.proofs.Holding.{all_stand}
 use Rattle.meaning.proofs.Keeping.{OptionWaits}
 use Rattle.meaning.proofs.Led.{leads_more}
-use Rattle.meaning.proofs.Offered.{IsOwn, own_kind, plain}
 use Rattle.proof_exploration.specs.Exploring.{AreOwn, AreUnkilled, HasAborted, IsFromOutside, IsLike, IsStuck, IsUnkilled}
 use Rattle.proof_exploration.specs.Exploring.{LeadsAlone}
 use Rattle.proof_exploration.specs.Searching.{IsComplete, IsCovered, IsExpandedBy, IsKept}

@@ -1,11 +1,9 @@
 -- Kept states in which a process was woken, and what follows from them.
 use Rattle.std.proofs.Common.{◌≡◌, ◌<◌, ◌∙◌, ℕ, Bool, true, false, suc, [], All, None, Option, Some, ap, length, refl, subst, sym}
-use Rattle.words.specs.Updates.{put}
+use Rattle.std.specs.Prelude.{IfSome, is_some}
 use Rattle.program.specs.declared.kinds.Member.{Member}
-use Rattle.meaning.specs.Processes.{Process}
 use Rattle.meaning.specs.Runs.{IsStray}
 use Rattle.meaning.specs.States.{SourceState}
-use Rattle.meaning.specs.Table.{Table}
 use Rattle.proof_exploration.specs.Exploring.{awake}
 use Rattle.proof_exploration.proofs.Turns.{awake_in, awake_none}
 use Rattle.source_table.specs.Tables.{table_of}
@@ -18,13 +16,10 @@ use Rattle.source_search.specs.declared.parts.Parts.{Parts as PartsOf}
 use Rattle.source_search.specs.declared.spot.Spot.{Spot as SpotOf}
 use Rattle.source_search.proofs.Packing.{some_within, unpacked_still, within_still}
 
--- what the table of a part says of who waits
-pub unwaiting : (parts : PartsOf) (spot : SpotOf) (T : Table) (u : ℕ) → table_in parts.tables.items spot.table ≡ Some T
-    → u ≡ spot.process → T.waits u ≡ None
-    → (some_table (table_in parts.tables.items spot.table)).waits spot.process ≡ None
-unwaiting parts spot T u is number none =
-    subst (λ (R : Table). R.waits spot.process ≡ None) (sym (ap some_table is))
-    (subst (λ n. T.waits n ≡ None) number none)
+-- what holds of some value, of whichever it is
+pub some_told : {A : Type 0} (o : Option A) (X : Type 0) → is_some o ≡ true → IfSome o (λ x. X) → X
+some_told None X e is = absurd (let differ : false ≡ true = e in cc)
+some_told (Some x) X e is = is
 
 -- a process that is awake needs no stray wake-up
 pub awake_already : (parts : PartsOf) (x : PackedOf) (place : ℕ) (spot : SpotOf) (strays : Bool) → IsSpotOf x place spot

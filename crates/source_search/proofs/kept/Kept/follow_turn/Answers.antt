@@ -1,4 +1,4 @@
-use Rattle.std.proofs.Common.{◌≡◌, false, subst, suc, sym}
+use Rattle.std.proofs.Common.{subst, suc, sym}
 use Rattle.std.specs.Prelude.{IfOk, IfSome}
 use Rattle.program.specs.Views.{program_of}
 use Rattle.proof_exploration.specs.Exploring.{awake}
@@ -6,7 +6,7 @@ use Rattle.source_search.specs.Covered.{IsFollowedOwn}
 use Rattle.source_search.specs.Kept.{states_of}
 use Rattle.source_search.specs.Packed.{unpacked}
 use Rattle.source_search.proofs.Woken.{awake_already}
-use Rattle.source_search.proofs.waking.Kept.follow_turn.Goals as goal
+use Rattle.source_search.proofs.kept.Kept.follow_turn.Goals as goal
 
 pub returns-then-not-is_woken-clause-followed : goal.returns-then-not-is_woken-clause-followed
 returns-then-not-is_woken-clause-followed c =

@@ -2,7 +2,7 @@ use Rattle.std.proofs.Common.{◌≡◌, Some, sym}
 use Rattle.source_states.specs.States.{state_of}
 use Rattle.source_search.specs.Packed.{table_in}
 use Rattle.source_search.proofs.Woken.{woken_of}
-use Rattle.source_search.proofs.waking.Parts.wake_from.Goals as goal
+use Rattle.source_search.proofs.parts.Parts.wake_from.Goals as goal
 
 pub returns-clause-woken : goal.returns-clause-woken
 returns-clause-woken c =

@@ -1,12 +1,14 @@
-use Rattle.std.proofs.Common.{subst, suc, sym}
+use Rattle.std.proofs.Common.{◌∙◌, subst, suc, sym}
 use Rattle.program.specs.Views.{program_of}
 use Rattle.source_search.specs.Covered.{IsFollowedOwn}
 use Rattle.source_search.specs.Kept.{states_in, states_of}
+use Rattle.source_search.specs.Packed.{unpacked}
 use Rattle.source_search.specs.Waking.{IsWokenOf}
 use Rattle.source_search.proofs.Keeping.{longer_still, longer_twice}
 use Rattle.source_search.proofs.Packing.{grown_twice, sound_still}
 use Rattle.source_search.proofs.Remembered.{all_still}
-use Rattle.source_search.proofs.waking.Kept.follow_woken.Goals as goal
+use Rattle.source_search.proofs.Woken.{some_told}
+use Rattle.source_search.proofs.kept.Kept.follow_woken.Goals as goal
 
 pub returns-in_default-clause-sound : goal.returns-in_default-clause-sound
 returns-in_default-clause-sound c = sound_still c.args.self.now.parts c.wake_at.new.self c.in_ok-woken.ensures.grown
@@ -51,4 +53,6 @@ returns-clause-followed c = λ e.
     let is : IsWokenOf c.args.self.now.parts c.wake_at.new.self c.args.packed.now (suc c.args.place) c.in-Some.woken =
     rw c.in-Some.is at c.in_ok-woken.ensures.woken in
     subst (λ s. IsFollowedOwn (program_of c.args.checked.now.tree) (states_of c.follow_spot.new.self) s (suc c.args.place))
-    (is.same c.requires.within) ?
+    (is.same c.requires.within) (some_told c.in_ok-followed.followed (IsFollowedOwn (program_of c.args.checked.now.tree)
+    (states_of c.follow_spot.new.self) (unpacked c.wake_at.new.self c.in-Some.woken) (suc c.args.place))
+    (sym c.is_some.ensures ∙ e) c.in_ok-followed.ensures.followed)
