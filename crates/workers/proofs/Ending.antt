@@ -5,7 +5,6 @@ use Rattle.std.specs.Prelude.{MatchOption}
 use Rattle.isa.specs.Programs.{Program}
 use Rattle.machine.specs.Runs.{has_ended}
 use Rattle.machine.specs.States.{thread_of}
-use Rattle.piece_machine.specs.PieceConcrete.{PieceConcrete}
 use Rattle.runner.specs.Afters.{IsAfter}
 use Rattle.runner.specs.Entries.{RefusesEntry}
 use Rattle.runner.specs.Reports.{PassesLimit}
@@ -20,18 +19,18 @@ use Rattle.workers.specs.Handed.{IsAway, IsNextOf, IsNextOfFirst, StopsAt}
 use Rattle.workers.specs.SharedRuns.{SharedRunView}
 use Rattle.workers.specs.Taken.{AllTurns, IsTurn}
 
-by_fault : (fault : Option RunFault) (k : PieceConcrete) (t : ℕ) (piece : PieceView)
-    → MatchOption fault (IsAfter k t piece Ends) (λ _. let a : After = Ends in a ≡ Ends)
-    → (has_ended (thread_of k.concrete t) ≡ true) ⊎ (is_some fault ≡ true)
-by_fault None k t piece ended = inl ended
-by_fault (Some fault) k t piece ends = inr refl
+by_fault : (fault : Option RunFault) (h : LogState) (t : ℕ) (piece : PieceView)
+    → MatchOption fault (IsAfter h.concrete t piece Ends) (λ _. let a : After = Ends in a ≡ Ends)
+    → (has_ended (thread_of h.concrete.concrete t) ≡ true) ⊎ (is_some fault ≡ true)
+by_fault None h t piece ended = inl ended
+by_fault (Some fault) h t piece ends = inr refl
 
 -- its thread has ended, or the run ends before its time
 pub next_ends : (p : Program) (limit : ℕ) (d : SharedRunView) (t : ℕ) (piece : PieceView) (after : After)
     → IsNextOf d t piece after → after ≡ Ends → HasEnded p limit d t
 next_ends p limit d t piece after is ends =
     let now = subst (λ (a : After). IsNextOf d t piece a) ends is in
-    elim (by_fault d.fault (log_state d.shared).concrete t piece now) [
+    elim (by_fault d.fault (log_state d.shared) t piece now) [
       | inl ended ↦ inl ended
       | inr faulty ↦ inr (inr (inl faulty))
     ]

@@ -15,6 +15,11 @@ abbrev pub IsOver : SharedRunView → Type 0
 IsOver d = (is_some d.fault ≡ true)
     ⊎ ((t : ℕ) → can_move (state_of d) t ≡ true → (waits d.waiting t || waits d.refused t) ≡ true)
 
+-- that of a thread has ended, by the run as it was then
+pub record EndedView : Type 0 where
+  pub thread : ℕ
+  pub run : SharedRunView
+
 -- why that of thread t makes none: the thread has ended, its next entry would pass the limit, or no worker is left
 abbrev pub HasEnded : Program → ℕ → SharedRunView → ℕ → Type 0
 HasEnded p limit d t = (has_ended (thread_of (state_of d) t) ≡ true)

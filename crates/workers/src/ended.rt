@@ -4,6 +4,7 @@ ghost use Rattle.workers.specs.Endings.{HasEnded};
 
 use crate::shared_run::{SharedRun, Worker};
 use runner::{After, RunName};
+use std::marker::Model;
 use std::snapshot::Snapshot;
 
 /// That the worker of a thread makes no entry any more. Its type keeps that there is a cause: under the lock its thread had
@@ -14,7 +15,16 @@ pub struct Ended<J: RunName> {
     thread: u32,
     // The run as it was then.
     run: Snapshot<SharedRun<J>>,
-    ghost cause: { HasEnded J.program J.limit run.value thread },
+}
+
+impl<J: RunName> Model for Ended<J> {
+    ghost use Rattle.workers.specs.Endings.{EndedView, HasEnded};
+
+    ghost Value = { EndedView };
+
+    ghost view = { λ e. record { thread = e.thread; run = e.run.value } };
+
+    ghost invariant = { λ e. HasEnded J.program J.limit e.run.value e.thread };
 }
 
 impl<J: RunName> Ended<J> {
@@ -35,9 +45,9 @@ impl<J: RunName> Ended<J> {
         ensures some { IfSome result (λ ended. ended.thread ≡ worker.now.thread) }
         ensures none { IfNone result (after ≢ Ends) }
     {
-        if after == After::Ends {
-            return Some(Ended::of(run, worker));
+        match after {
+            After::Ends => Some(Ended::of(run, worker)),
+            After::Goes | After::Sleeps => None,
         }
-        None
     }
 }

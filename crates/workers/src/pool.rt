@@ -398,8 +398,9 @@ impl<J: RunName> Pool<J> {
         let mut shared_run = shared_run;
         let calls = parker.calls();
         // Nobody is forgotten: what is owed can't be let go.
-        let (after, owed) = shared_run.hand_in_owing(worker, turns, share, gate);
-        let ended = Ended::behind(after, &shared_run, worker);
+        let run = &mut **shared_run;
+        let (after, owed) = run.hand_in_owing(worker, turns, share, gate);
+        let ended = Ended::behind(after, run, worker);
         drop(shared_run);
         let goes = after == After::Goes;
         self.precedence

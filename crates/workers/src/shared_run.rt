@@ -257,7 +257,6 @@ impl<J: RunName> SharedRun<J> {
     }
 
     // The same where the thread can move.
-    #[tactic(auto, using(crate::proofs::Ending::next_ends))]
     fn follow(&self, worker: &Worker<J>, piece: &mut Piece<J>) -> Result<bool, Ended<J>>
         ensures goes { IfOk result (λ goes. goes ≡ true → (piece.new.thread ≡ worker.now.thread)
             × (piece.new.count ≡ 0) × (piece.new.here ≡ piece.new.origin)) }
@@ -301,7 +300,6 @@ impl<J: RunName> SharedRun<J> {
     /// threads or make one: a piece behind another begins where that one has come, and the thread is elsewhere behind a step that
     /// does so, which refuses the piece. Further entries are of the only thread there is. Who waited for buckets was noted at
     /// each entry.
-    #[tactic(auto, using(crate::proofs::Ending::handed_ends))]
     pub fn hand_in_owing<G: Gate>(
         &mut self,
         worker: &Worker<J>,

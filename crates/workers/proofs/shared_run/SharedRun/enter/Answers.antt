@@ -4,7 +4,6 @@ use Rattle.runner.specs.declared.fault.RunFault.TheVariants.{Broken}
 use Rattle.runner.specs.declared.next.After.TheVariants.{Ends}
 use Rattle.runner.specs.Entries.{RefusesEntry}
 use Rattle.runner.specs.Views.{log_state}
-use Rattle.workers.specs.BucketWaiters.{with_waiter}
 use Rattle.workers.specs.SharedRuns.{SharedRunView}
 use Rattle.workers.specs.Handed.{StaysAway}
 use Rattle.workers.proofs.Coming.{no_fault}
@@ -53,7 +52,7 @@ returns-in-Err-Limit-clause-away g c =
       kept = before.kept;
       waiting = before.waiting;
       freed = before.freed;
-      refused = with_waiter before.refused c.args.t;
+      refused = c.add.new.self;
     } in
     let refused = subst (λ (f : RunFault). RefusesEntry p limit (log_state before.shared) c.args.t c.args.piece.now f)
     c.in-Err-Limit.field-0-is e.2 in (
@@ -65,7 +64,7 @@ returns-in-Err-Limit-clause-away g c =
             away = inr refused;
             waits = refl;
             freed = refl;
-            refused = inr (refused, refl);
+            refused = inr (refused, c.add.ensures);
           }),
       e.1,
     )

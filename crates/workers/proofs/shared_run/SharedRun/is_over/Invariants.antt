@@ -1,4 +1,4 @@
-use Rattle.std.proofs.Common.{◌≡◌, ◌≤◌, ◌<◌, ◌-◌, ℕ, suc, true, false, ◌||◌, is_some}
+use Rattle.std.proofs.Common.{◌≡◌, ◌≤◌, ◌<◌, ◌-◌, ℕ, suc, true, ◌||◌}
 use Rattle.words.specs.Limits.{most_threads}
 use Rattle.machine.specs.ConcreteSteps.{can_move}
 use Rattle.workers.specs.BucketWaiters.{waits}
