@@ -1,5 +1,5 @@
 -- Why a worker ends.
-use Rattle.std.proofs.Common.{◌≡◌, ℕ, zero, suc, ◌<◌, ◌⊎◌, inl, inr, true, false, List, [], ◌∷◌, take, Option, Some, None, is_some}
+use Rattle.std.proofs.Common.{◌≡◌, ℕ, zero, suc, ◌<◌, ◌⊎◌, inl, inr, true, List, [], ◌∷◌, take, Option, Some, None, is_some}
 use Rattle.std.proofs.Common.{arith, slice_get, refl, subst, sym}
 use Rattle.std.specs.Prelude.{MatchOption}
 use Rattle.isa.specs.Programs.{Program}

@@ -1,5 +1,5 @@
 -- Each parker is that of the thread with its number.
-use Rattle.std.proofs.Common.{◌≡◌, ◌∙◌, ◌<◌, ◌⊎◌, ℕ, zero, suc, ◌++◌, List, [], ◌∷◌, length, slice_get, Some, refl, ap, arith, subst, sym, inl, inr}
+use Rattle.std.proofs.Common.{◌≡◌, ◌∙◌, ◌⊎◌, ℕ, zero, suc, ◌++◌, List, [], ◌∷◌, length, slice_get, Some, refl, ap, sym, inl, inr}
 use Rattle.crossbeam_utils.specs.declared.cache_padded.CachePadded.{CachePadded}
 use Rattle.crossbeam_utils.specs.Padded.{padded_value}
 use Rattle.workers.specs.declared.parker.Parker.{Parker}

@@ -1,5 +1,5 @@
 -- Whose entries come in.
-use Rattle.std.proofs.Common.{◌≡◌, ◌∙◌, ℕ, ◌++◌, List, [], ◌∷◌, refl, ap, sym, inl, append_assoc, append-nil}
+use Rattle.std.proofs.Common.{◌∙◌, ℕ, ◌++◌, List, [], ◌∷◌, refl, ap, sym, inl, append_assoc, append-nil}
 use Rattle.isa.specs.Programs.{Program}
 use Rattle.machine.specs.declared.event.Entry.{Entry}
 use Rattle.runner.specs.declared.next.After.{After}
