@@ -1,5 +1,6 @@
 /*
- * What the ring of under_load does, by pthreads' mutex and condition variables: a token goes round 100 threads 100 times.
+ * What the ring of under_load does, by pthreads' mutex and condition variables: a token goes round 100 threads 100 times,
+ * or as often as a word says.
  * Each thread takes it from a place of its own and puts it into the next one's. Two places share a mutex, as two stand in a
  * monitor there.
  */
@@ -7,7 +8,9 @@
 #include <stdbool.h>
 #include <stdlib.h>
 
-enum { THREADS = 100, ROUNDS = 100 };
+enum { THREADS = 100 };
+
+static int rounds = 100;
 
 static pthread_mutex_t locks[THREADS / 2];
 static pthread_cond_t comes[THREADS];
@@ -35,15 +38,17 @@ static void take(int place)
 static void *member(void *argument)
 {
     int mine = (int)((bool *)argument - here);
-    for (int i = 0; i < ROUNDS; i++) {
+    for (int i = 0; i < rounds; i++) {
         take(mine);
         put((mine + 1) % THREADS);
     }
     return NULL;
 }
 
-int main(void)
+int main(int count, char **words)
 {
+    if (count > 1)
+        rounds = atoi(words[1]);
     pthread_t threads[THREADS];
     for (int i = 0; i < THREADS / 2; i++)
         pthread_mutex_init(&locks[i], NULL);

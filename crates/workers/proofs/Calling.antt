@@ -1,13 +1,11 @@
 -- Who was called, and who was hired.
-use Rattle.std.proofs.Common.{◌≡◌, ◌∙◌, ◌⊎◌, ℕ, ◌≤◌, Bool, true, false, ◌||◌, eqb, refl, ap, sym, subst, inl, inr}
-use Rattle.std.proofs.lemmas.Bool.{eq-eqb, false≢true}
-use Rattle.machine.specs.declared.thread_set.ThreadSet.{ThreadSet}
-use Rattle.machine.specs.ThreadSets.{IsThread, has}
+use Rattle.std.proofs.Common.{◌≡◌, ◌∙◌, ◌⊎◌, ℕ, ◌≤◌, Bool, true, false, ◌||◌, eqb, refl, ap, sym, inl, inr}
+use Rattle.std.proofs.lemmas.Bool.{eq-eqb}
+use Rattle.machine.specs.ThreadSets.{IsThread}
 use Rattle.workers.specs.declared.parker.Called.{Called}
 use Rattle.workers.specs.declared.hiring.Hiring.{Hiring}
-use Rattle.workers.specs.declared.bucket_waiters.BucketWaiters.{BucketWaiters}
-use Rattle.workers.specs.BucketWaiters.{IsWhole, nobody, waits}
-use Rattle.workers.specs.Calls.{AreTold, AreToldOrPutOff, nobody_called, was_called, with_called}
+use Rattle.workers.specs.BucketWaiters.{IsWhole, waits}
+use Rattle.workers.specs.Calls.{was_called, with_called}
 use Rattle.workers.specs.Hirings.{AreWhole, HasEach, asking_for, with_started, with_failed}
 use Rattle.workers.proofs.Waiting.{waiters_so}
 
@@ -63,22 +61,3 @@ failed_whole hiring t whole = record {
 
 pub called_whole : (called : Called) (t : ℕ) → IsWhole called.workers → IsWhole (with_called called t).workers
 called_whole called t whole = waiters_so.whole called.workers t whole
-
-or_first : (a : Bool) → (a || false) ≡ true → a ≡ true
-or_first true h = refl
-or_first false h = h
-
-or_left : (a b : Bool) → a ≡ true → (a || b) ≡ true
-or_left true b h = refl
-or_left false b h = absurd (false≢true h)
-
--- those who were woken are put off, where nobody waited for a bucket
-pub put_off_so : (woken : ThreadSet) (freed : BucketWaiters) → freed ≡ nobody
-    → AreToldOrPutOff woken freed woken nobody_called
-put_off_so woken freed none t is h =
-    or_first (has woken t) (subst (λ (f : BucketWaiters). (has woken t || waits f t) ≡ true) none h)
-
--- all were told, and nobody is put off
-pub told_so : (woken : ThreadSet) (freed : BucketWaiters) (put_off : ThreadSet) (called : Called)
-    → AreTold woken freed called → AreToldOrPutOff woken freed put_off called
-told_so woken freed put_off called told t is h = or_left (was_called called t) (has put_off t) (told t is h)

@@ -1,8 +1,11 @@
 pub mod Calling
 pub mod Coming
 pub mod Delaying
+pub mod Ending
 pub mod Freeing
 pub mod Moving
+pub mod Numbering
+pub mod Owning
 pub mod Turning
 pub mod Waiting
 pub mod Waking

@@ -30,6 +30,7 @@ pub record ComesIn (p : Program) (limit : ℕ) (old : SharedRunView) (t : ℕ) (
   pub fault : new.fault ≡ None
   pub counted : share' ≡ record share { count = share.count + 1 }
   pub frees : Frees (gives_up (last_event new.shared.log)) old new
+  pub refused : new.refused ≡ old.refused
 
 -- the first of the pieces came in so
 abbrev pub FirstComesIn : Program → ℕ → SharedRunView → ℕ → List PieceView → SharedRunView → ShareView → ShareView → Type 0
@@ -62,6 +63,15 @@ IsNoted p limit h t piece Sleeps old new =
     ⊎ (RefusesEntry p limit h t piece CannotMove × (new ≡ noted (can_move h.concrete.concrete t) old t))
 IsNoted p limit h t piece Ends old new = new ≡ old
 
+-- who was refused with Limit where a piece doesn't come in: its worker too where the piece would pass the limit
+abbrev pub IsRefused : Program → ℕ → LogState → ℕ → PieceView → Option RunFault → After → BucketWaiters → BucketWaiters
+    → Type 0
+IsRefused p limit h t piece fault Goes old new = ⊥
+IsRefused p limit h t piece fault Sleeps old new = new ≡ old
+IsRefused p limit h t piece fault Ends old new =
+    ((is_some fault ≡ true) × (new ≡ old))
+    ⊎ (RefusesEntry p limit h t piece Limit × (new ≡ with_waiter old t))
+
 -- the piece doesn't come in, and the run is as it was
 pub record StaysAway (p : Program) (limit : ℕ) (old : SharedRunView) (t : ℕ) (piece : PieceView) (new : SharedRunView)
     (after : After) : Type 0 where
@@ -70,6 +80,7 @@ pub record StaysAway (p : Program) (limit : ℕ) (old : SharedRunView) (t : ℕ)
   pub away : IsAway p limit (log_state old.shared) t piece new.fault after
   pub waits : IsNoted p limit (log_state old.shared) t piece after old.waiting new.waiting
   pub freed : new.freed ≡ old.freed
+  pub refused : IsRefused p limit (log_state old.shared) t piece new.fault after old.refused new.refused
 
 -- the pieces came in, one after the other
 abbrev pub ComeIn : Program → ℕ → SharedRunView → ℕ → List PieceView → SharedRunView → ShareView → ShareView → Type 0
@@ -110,7 +121,7 @@ IsAfresh t pieces Ends = Unit {0}
 pub record IsUntouched (old new : SharedRunView) : Type 0 where
   pub run : log_state new.shared ≡ log_state old.shared
   pub fault : new.fault ≡ old.fault
-  pub waits : (new.waiting ≡ old.waiting) × (new.freed ≡ old.freed)
+  pub waits : (new.waiting ≡ old.waiting) × (new.freed ≡ old.freed) × (new.refused ≡ old.refused)
 
 -- accesses that a thread made ahead came in together, each as an entry, which the share counts. They concern nobody
 pub record ComeInTogether (p : Program) (limit : ℕ) (old : SharedRunView) (t : ℕ) (made : List SpeculativeAccess)
@@ -120,4 +131,4 @@ pub record ComeInTogether (p : Program) (limit : ℕ) (old : SharedRunView) (t :
   pub log : new.shared.log ≡ old.shared.log ++ access_entries t made
   pub fault : new.fault ≡ None
   pub counted : share' ≡ record share { count = share.count + length made }
-  pub waits : (new.waiting ≡ old.waiting) × (new.freed ≡ old.freed)
+  pub waits : (new.waiting ≡ old.waiting) × (new.freed ≡ old.freed) × (new.refused ≡ old.refused)

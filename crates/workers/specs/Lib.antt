@@ -6,3 +6,6 @@ pub mod Taken
 pub mod Calls
 pub mod PutOffs
 pub mod Hirings
+pub mod Endings
+pub mod Owning
+pub mod Parkers

@@ -12,7 +12,7 @@ use Rattle.workers.specs.declared.bucket_waiters.BucketWaiters.{BucketWaiters}
 use Rattle.workers.specs.BucketWaiters.{waits}
 
 -- the run, why it ends before its time, how many workers were started, what the calling thread counted, whose workers
--- wait for a bucket, and whose waited for one and weren't called since it was given up
+-- wait for a bucket, whose waited for one and weren't called since it was given up, and whose entry was refused with Limit
 pub record SharedRunView : Type 0 where
   pub shared : SharedView
   pub fault : Option RunFault
@@ -20,6 +20,7 @@ pub record SharedRunView : Type 0 where
   pub kept : ShareView
   pub waiting : BucketWaiters
   pub freed : BucketWaiters
+  pub refused : BucketWaiters
 
 -- where the log leads, but for the phases of the threads
 abbrev pub state_of : SharedRunView → ConcreteState

@@ -3,7 +3,7 @@ use Rattle.std.specs.Prelude.{ℕ, suc, ◌≡◌, ◌⊎◌, ◌<◌, ◌≤◌
 use Rattle.words.specs.Limits.{most_local_steps}
 use Rattle.robustexit.specs.declared.phase.ExitPhase.TheVariants.{Ended}
 use Rattle.isa.specs.Programs.{Program}
-use Rattle.locals.specs.Steps.{local_step}
+use Rattle.locals.specs.Steps.{local_after, local_step}
 use Rattle.locals.specs.Threads.{Exits}
 use Rattle.runner.specs.Views.{PieceView}
 
@@ -11,9 +11,15 @@ use Rattle.runner.specs.Views.{PieceView}
 abbrev pub idle : ℕ → PieceView
 idle t = record { thread = t; origin = Exits Ended; here = Exits Ended; count = 0 }
 
--- the piece went on until another step than a local one comes, or its turn was over
-abbrev pub IsTurn : Program → PieceView → Type 0
-IsTurn p a = a.count < most_local_steps → local_step p a.thread a.here ≡ None
+-- the piece went on by local steps until another step comes, or its turn was over
+pub record IsTurn (p : Program) (a : PieceView) : Type 0 where
+  pub reached : local_after p a.thread a.count a.origin ≡ Some a.here
+  pub turn : a.count ≤ most_local_steps
+  pub whole : a.count < most_local_steps → local_step p a.thread a.here ≡ None
+
+-- so did each of the first pieces
+abbrev pub AllTurns : Program → ℕ → List PieceView → Type 0
+AllTurns p taken pieces = (k : ℕ) (a : PieceView) → k < taken → slice_get pieces k ≡ Some a → IsTurn p a
 
 -- a whole turn, and the piece that goes on where it has come
 pub record Follows (a b : PieceView) : Type 0 where
@@ -28,7 +34,7 @@ pub record AreTurns (p : Program) (old new : List PieceView) (taken : ℕ) : Typ
   pub within : taken ≤ length new
   pub first : (a b : PieceView) → slice_get old 0 ≡ Some a → slice_get new 0 ≡ Some b
       → (b.thread ≡ a.thread) × (b.origin ≡ a.origin)
-  pub turns : (k : ℕ) (a : PieceView) → k < taken → slice_get new k ≡ Some a → IsTurn p a
+  pub turns : AllTurns p taken new
   pub chain : (k : ℕ) (a b : PieceView) → suc k < taken → slice_get new k ≡ Some a → slice_get new (suc k) ≡ Some b
       → Follows a b
 

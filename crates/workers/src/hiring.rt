@@ -5,7 +5,8 @@ ghost use Rattle.workers.specs.Hirings.{nobody_hired, asking_for, with_started, 
 ghost use Rattle.workers.specs.SharedRuns.{StartsWorker};
 
 use crate::bucket_waiters::BucketWaiters;
-use crate::shared_run::SharedRun;
+use crate::ended::Ended;
+use crate::shared_run::{SharedRun, Worker};
 use runner::{RunName, Share};
 use std::thread::JoinHandle;
 
@@ -34,22 +35,24 @@ impl Hiring {
     }
 
     /// The next thread without a worker, with a part of the count for it. A run that has none now asks for no more.
-    pub fn ask<J: RunName>(&mut self, shared_run: &mut SharedRun<J>) -> Option<(u32, Share<J>)>
-        ensures some { IfSome result (λ worker. IsThread worker.0
-            × StartsWorker shared_run.old worker.0 worker.1 shared_run.new
-            × (self.new ≡ asking_for self.old worker.0)) }
+    pub fn ask<J: RunName>(
+        &mut self,
+        shared_run: &mut SharedRun<J>,
+    ) -> Option<(Worker<J>, Share<J>)>
+        ensures some { IfSome result (λ worker. StartsWorker shared_run.old worker.0.thread worker.1 shared_run.new
+            × (self.new ≡ asking_for self.old worker.0.thread)) }
         ensures none { IfNone result (self.new ≡ asked_all self.old) }
     {
-        let Some((t, share)) = shared_run.next_worker() else {
+        let Some((worker, share)) = shared_run.next_worker() else {
             self.is_over = true;
             return None;
         };
-        self.asked.add(t);
-        Some((t, share))
+        self.asked.add(worker.thread());
+        Some((worker, share))
     }
 
     /// Notes that this is the worker of thread `t`, which was started.
-    pub fn start(&mut self, t: u32, _worker: JoinHandle<()>)
+    pub fn start<J: RunName>(&mut self, t: u32, _worker: JoinHandle<Ended<J>>)
         requires { IsThread t }
         ensures { self.new ≡ with_started self.old t }
     {

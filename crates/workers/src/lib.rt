@@ -4,6 +4,7 @@
 
 mod ahead;
 mod bucket_waiters;
+mod ended;
 mod hiring;
 mod image_ref;
 mod lookout;

@@ -1,6 +1,6 @@
 ghost use Rattle.std.specs.Prelude.{◌≡◌};
 ghost use Rattle.machine.specs.ThreadSets.{IsThread};
-ghost use Rattle.workers.specs.Calls.{nobody_called, with_called};
+ghost use Rattle.workers.specs.Calls.{nobody_called, with_called, with_starter};
 ghost use Rattle.workers.specs.PutOffs.{AreNone};
 
 use crate::bucket_waiters::BucketWaiters;
@@ -8,17 +8,19 @@ use crate::lookout::Lookout;
 use crate::patience::Patience;
 use crate::put_off::PutOff;
 use std::hint::spin_loop;
-use std::sync::Wait;
-use std::sync::atomic::{AtomicBool, AtomicU64, Ordering};
+use std::sync::atomic::{AtomicU64, Ordering};
+use std::sync::{Condvar, Wait};
 use std::thread;
 
 // For how many moments a worker looks for a call before it sleeps: a few times as long as being woken takes.
 const LOOKS: u64 = 2000;
 
-/// Which workers were called, by the numbers of their threads. Nothing adds to it but a call.
+/// Which workers were called, by the numbers of their threads, and whether the calling thread was, which starts workers. Nothing
+/// adds to it but a call.
 #[derive(Drop)]
 pub struct Called {
     workers: BucketWaiters,
+    starter: bool,
 }
 
 impl Called {
@@ -28,25 +30,36 @@ impl Called {
     {
         Called {
             workers: BucketWaiters::new(),
+            starter: false,
         }
+    }
+
+    /// Calls the calling thread, which sleeps here, and notes it.
+    pub fn call_starter(&mut self, made: &Condvar)
+        ensures { self.new ≡ with_starter self.old }
+    {
+        made.notify_all();
+        self.starter = true;
     }
 }
 
-/// Where the worker of a thread parks, and whether its last entry was refused with `Limit`.
+/// Where the worker of a thread parks.
 #[derive(Drop)]
 pub struct Parker {
+    thread: u32,
     called: thread::Parker,
     calls: AtomicU64,
-    refused: AtomicBool,
 }
 
 impl Parker {
-    /// A parker whose worker was not refused.
-    pub fn new() -> Parker {
+    /// That of the worker of thread `t`.
+    pub fn new(t: u32) -> Parker
+        ensures { result.thread ≡ t }
+    {
         Parker {
+            thread: t,
             called: thread::Parker::new(),
             calls: AtomicU64::new(0),
-            refused: AtomicBool::new(false),
         }
     }
 
@@ -59,14 +72,14 @@ impl Parker {
         self.called.park(rt);
     }
 
-    /// Calls the worker, which is that of thread `t`, and notes it.
-    pub fn call(&self, t: u32, called: &mut Called)
-        requires { IsThread t }
-        ensures { called.new ≡ with_called called.old t }
+    /// Calls the worker, and notes it.
+    pub fn call(&self, called: &mut Called)
+        requires { IsThread self.now.thread }
+        ensures { called.new ≡ with_called called.old self.now.thread }
     {
         self.calls.fetch_add(1, Ordering::SeqCst);
         self.called.unpark();
-        called.workers.add(t);
+        called.workers.add(self.thread);
     }
 
     /// How often the worker was called.
@@ -94,15 +107,5 @@ impl Parker {
             spin_loop();
         }
         self.calls() != calls
-    }
-
-    /// Notes that the worker was refused. It ends.
-    pub fn refuse(&self) {
-        self.refused.store(true, Ordering::SeqCst);
-    }
-
-    /// Whether the worker was refused.
-    pub fn is_refused(&self) -> bool {
-        self.refused.load(Ordering::SeqCst)
     }
 }

@@ -1,17 +1,18 @@
-ghost use Rattle.std.specs.Prelude.{ℕ, ◌≡◌, ◌<◌, true, false, is_some, vec_len, [], None, IfSome, IfNone};
+ghost use Rattle.std.specs.Prelude.{◌≡◌, ◌<◌, true, false, vec_len, [], IfErr, IfNone, IfOk, IfSome};
 ghost use Rattle.words.specs.Limits.{most_threads};
-ghost use Rattle.machine.specs.ConcreteSteps.{can_move};
 ghost use Rattle.machine.specs.ThreadSets.{IsThread};
 ghost use Rattle.runner.specs.declared.next.After.TheVariants.{Goes};
-ghost use Rattle.workers.specs.BucketWaiters.{IsWhole};
-ghost use Rattle.workers.specs.Calls.{AreTold, AreAllCalled, AreCalledToo, nobody_called, with_called};
+ghost use Rattle.workers.specs.BucketWaiters.{IsWhole, nobody};
+ghost use Rattle.workers.specs.Calls.{AreTold, AreAllCalled, AreCalledToo, with_called};
 ghost use Rattle.workers.specs.Hirings.{IsDone, asking_for, asked_all, with_failed};
-ghost use Rattle.workers.specs.SharedRuns.{state_of};
 ghost use Rattle.workers.specs.Handed.{IsAfresh};
+ghost use Rattle.workers.specs.Parkers.{AreNumbered};
 ghost use Rattle.workers.specs.PutOffs.{AreKeptOrMade, AreMadeInTime, AreNone};
+ghost use Rattle.workers.specs.Taken.{AllTurns};
 
 use crate::ahead::Row;
 use crate::bucket_waiters::BucketWaiters;
+use crate::ended::Ended;
 use crate::hiring::Hiring;
 use crate::image_ref::ImageRef;
 use crate::lookout::Lookout;
@@ -19,7 +20,7 @@ use crate::owed::Owed;
 use crate::parker::{Called, Parker};
 use crate::precedence::Precedence;
 use crate::put_off::{Calls, PutOff};
-use crate::shared_run::{SharedRun, WakeReason};
+use crate::shared_run::{SharedRun, WakeReason, Worker};
 use crate::turns::Turns;
 use crossbeam_utils::CachePadded;
 use machine::ThreadSet;
@@ -53,6 +54,7 @@ pub struct Pool<J: RunName> {
     precedence: Precedence,
     calls: Calls,
     ghost parked: { most_threads < vec_len parkers },
+    ghost numbered: { AreNumbered parkers.items },
 }
 
 impl<J: RunName> Pool<J> {
@@ -64,8 +66,8 @@ impl<J: RunName> Pool<J> {
         shared_run: SharedRun<J>,
     ) -> Result<Pool<J>, AllocError> {
         let mut parkers = Vec::with_capacity(alloc, MOST_THREADS as usize + 1)?;
-        for _ in 0..=MOST_THREADS {
-            parkers.push(CachePadded::new(Parker::new()))?;
+        for t in 0..=MOST_THREADS {
+            parkers.push(CachePadded::new(Parker::new(t)))?;
         }
         Ok(Pool {
             shared_run: Mutex::new(CachePadded::new(shared_run)),
@@ -116,11 +118,12 @@ impl<J: RunName> Pool<J> {
     {
         let mut hiring = Hiring::new();
         for _ in rt.forever() {
-            let Some((t, share)) = self.next_worker(rt, &mut hiring) else {
+            let Some((worker, share)) = self.next_worker(rt, &mut hiring) else {
                 break;
             };
-            match self.start_worker(rt, alloc, image_ref, gate, scope, t, share) {
-                Some(worker) => hiring.start(t, worker),
+            let t = worker.thread();
+            match self.start_worker(rt, alloc, image_ref, gate, scope, worker, share) {
+                Some(handle) => hiring.start(t, handle),
                 None => self.fail(rt, t, &mut hiring),
             }
         }
@@ -128,19 +131,18 @@ impl<J: RunName> Pool<J> {
     }
 
     // The next thread without a worker, once it was made. None where nobody is left to make one.
-    fn next_worker<R: Wait>(&self, rt: &R, hiring: &mut Hiring) -> Option<(u32, Share<J>)>
-        ensures some { IfSome result (λ worker. IsThread worker.0
-            × (worker.1 ≡ record { parts = 1; count = 0 })
-            × (hiring.new ≡ asking_for hiring.old worker.0)) }
+    fn next_worker<R: Wait>(&self, rt: &R, hiring: &mut Hiring) -> Option<(Worker<J>, Share<J>)>
+        ensures some { IfSome result (λ worker. (worker.1 ≡ record { parts = 1; count = 0 })
+            × (hiring.new ≡ asking_for hiring.old worker.0.thread)) }
         ensures none { IfNone result (hiring.new ≡ asked_all hiring.old) }
     {
         let mut shared_run = self.made.wait_while(rt, self.lock(rt), |shared_run| {
-            !shared_run.lacks_worker() && !self.is_over(shared_run)
+            !shared_run.lacks_worker() && !shared_run.is_over()
         });
         hiring.ask(&mut shared_run)
     }
 
-    // Starts the worker of thread `t` in this scope.
+    // Starts a worker in this scope.
     fn start_worker<'s, E, R: Wait + Sync, G: Gate>(
         &'s self,
         rt: &'s R,
@@ -148,93 +150,129 @@ impl<J: RunName> Pool<J> {
         image_ref: &'s ImageRef<'s, J>,
         gate: &'s G,
         scope: &Scope<'s, E>,
-        t: u32,
+        worker: Worker<J>,
         share: Share<J>,
-    ) -> Option<JoinHandle<()>>
+    ) -> Option<JoinHandle<Ended<J>>>
     where
         J: Send + Sync,
     {
+        let t = worker.thread();
         let Ok(turns) = Turns::new(alloc, t) else {
             return None;
         };
         let Ok(builder) = builder_of(alloc, t) else {
             return None;
         };
-        let worker = builder.spawn_scoped(scope, move || {
-            let share = self.work(rt, image_ref, gate, t, turns, share);
-            self.lock(rt).give_back(share);
+        let handle = builder.spawn_scoped(scope, move || {
+            self.work(rt, image_ref, gate, worker, turns, share)
         });
-        worker.ok()
+        handle.ok()
     }
 
-    // The work of the worker of thread `t`.
+    // The work of a worker. It makes entries until there is a cause to end.
     fn work<R: Wait, G: Gate>(
         &self,
         rt: &R,
         image_ref: &ImageRef<J>,
         gate: &G,
-        t: u32,
+        worker: Worker<J>,
         turns: Turns<J>,
         share: Share<J>,
-    ) -> Share<J> {
+    ) -> Ended<J>
+        ensures { result.thread ≡ worker.thread }
+    {
         let mut turns = turns;
         let mut share = share;
-        for _ in rt.forever() {
-            if self.wake(rt, t, &mut turns) != After::Goes {
-                break;
-            }
-            if !self.go_on(rt, image_ref, gate, t, &mut turns, &mut share) {
-                break;
-            }
-        }
-        self.settle(&mut turns.put_off);
-        share
+        let mut put_off = PutOff::new();
+        let ended = self.make_entries(
+            rt,
+            image_ref,
+            gate,
+            &worker,
+            &mut turns,
+            &mut share,
+            &mut put_off,
+        );
+        self.settle(&mut put_off);
+        put_off.end();
+        self.lock(rt).give_back(worker, share, &ended);
+        ended
     }
 
-    // Goes on until the thread sleeps, or its worker has to look where it is. Answers whether it does: else the worker ends.
+    // Makes entries of the worker's thread, and parks in between, until it ends.
+    fn make_entries<R: Wait, G: Gate>(
+        &self,
+        rt: &R,
+        image_ref: &ImageRef<J>,
+        gate: &G,
+        worker: &Worker<J>,
+        turns: &mut Turns<J>,
+        share: &mut Share<J>,
+        put_off: &mut PutOff,
+    ) -> Ended<J>
+        ensures { result.thread ≡ worker.now.thread }
+    {
+        for _ in rt.forever() {
+            if let Some(ended) = self.wake(rt, worker, turns, put_off) {
+                return ended;
+            }
+            if let Some(ended) = self.go_on(rt, image_ref, gate, worker, turns, share, put_off) {
+                return ended;
+            }
+        }
+        unreachable!()
+    }
+
+    // Goes on until the thread sleeps, or its worker has to look where it is. Some where the worker ends.
     fn go_on<R: Wait, G: Gate>(
         &self,
         rt: &R,
         image_ref: &ImageRef<J>,
         gate: &G,
-        t: u32,
+        worker: &Worker<J>,
         turns: &mut Turns<J>,
         share: &mut Share<J>,
-    ) -> bool {
+        put_off: &mut PutOff,
+    ) -> Option<Ended<J>>
+        ensures { IfSome result (λ ended. ended.thread ≡ worker.now.thread) }
+    {
         for _ in rt.forever() {
             if turns.ahead.is_going() {
-                if self.go_ahead(rt, image_ref, gate, t, turns, share) {
+                if self.go_ahead(rt, image_ref, gate, worker, turns, share) {
                     continue;
                 }
                 // From where its thread is.
-                return true;
+                return None;
             }
-            turns.take(image_ref, gate, t);
-            match self.hand_in(rt, image_ref, gate, t, turns, share) {
-                After::Goes => {}
-                After::Sleeps => return true,
-                After::Ends => return false,
+            turns.take(image_ref, gate, worker.thread());
+            match self.hand_in(rt, image_ref, gate, worker, turns, share, put_off) {
+                Ok(true) => {}
+                Ok(false) => return None,
+                Err(ended) => return Some(ended),
             }
         }
-        false
+        unreachable!()
     }
 
-    // Lets thread `t` go ahead, and hands in the accesses that it made. Answers whether its worker goes on so.
+    // Lets the worker's thread go ahead, and hands in the accesses that it made. Answers whether its worker goes on so.
     fn go_ahead<R: Wait, G: Gate>(
         &self,
         rt: &R,
         image_ref: &ImageRef<J>,
         gate: &G,
-        t: u32,
+        worker: &Worker<J>,
         turns: &mut Turns<J>,
         share: &mut Share<J>,
     ) -> bool {
         let up_to_swap = turns.are_many();
-        let goes = match turns.ahead.go_on(image_ref, gate, t, up_to_swap) {
-            Row::Whole => self.commit(rt, t, turns, share),
+        let goes = match turns
+            .ahead
+            .go_on(image_ref, gate, worker.thread(), up_to_swap)
+        {
+            Row::Whole => self.commit(rt, worker, turns, share),
             Row::Cut => {
                 turns.ahead.look(self.lock(rt).machine());
-                turns.ahead.make_again(image_ref) && self.commit(rt, t, turns, share)
+                turns.ahead.make_again(image_ref) && self.commit(rt, worker, turns, share)
             }
             Row::Empty => false,
         };
@@ -244,15 +282,22 @@ impl<J: RunName> Pool<J> {
         goes
     }
 
-    // Takes in the accesses that thread `t` made ahead. Where they don't come in its worker looks at their words anew. Answers
-    // whether it goes on so.
-    fn commit<R: Wait>(&self, rt: &R, t: u32, turns: &mut Turns<J>, share: &mut Share<J>) -> bool {
+    // Takes in the accesses that the worker's thread made ahead. Where they don't come in its worker looks at their words anew.
+    // Answers whether it goes on so.
+    fn commit<R: Wait>(
+        &self,
+        rt: &R,
+        worker: &Worker<J>,
+        turns: &mut Turns<J>,
+        share: &mut Share<J>,
+    ) -> bool {
+        let t = worker.thread();
         let count = turns.ahead.len();
         let keeps = turns.keep_precedence_ahead();
         self.precedence.take(rt, &self.lookout, t);
         let mut shared_run = self.lock(rt);
         let came = matches!(
-            shared_run.commit(t, turns.ahead.speculation(), share),
+            shared_run.commit(worker, turns.ahead.speculation(), share),
             Ok(true)
         );
         if !came {
@@ -263,113 +308,114 @@ impl<J: RunName> Pool<J> {
         turns.ahead.note_outcome(came)
     }
 
-    // Calls whom it put off to call, and parks until thread `t` can move and its worker waits for no bucket, or nobody is left
-    // to call it. Then it goes on from the first of its turns.
-    fn wake<R: Wait>(&self, rt: &R, t: u32, turns: &mut Turns<J>) -> After
-        ensures { IsAfresh t turns.new.pieces.items result }
+    // Calls whom it put off to call, and parks until the worker's thread can move and it waits for no bucket, or nobody is left
+    // to call it. Then it goes on from the first of its turns, or ends.
+    fn wake<R: Wait>(
+        &self,
+        rt: &R,
+        worker: &Worker<J>,
+        turns: &mut Turns<J>,
+        put_off: &mut PutOff,
+    ) -> Option<Ended<J>>
+        ensures goes_on { IfNone result (IsAfresh worker.now.thread turns.new.pieces.items Goes) }
+        ensures ends { IfSome result (λ ended. ended.thread ≡ worker.now.thread) }
     {
-        let Some(parker) = self.parkers.get(t as usize) else {
-            return After::Ends;
-        };
-        self.settle(&mut turns.put_off);
+        let t = worker.thread();
+        self.settle(put_off);
         for _ in rt.forever() {
-            let shared_run = self.lock(rt);
-            if shared_run.is_able(t) {
-                return shared_run.next(t, &mut turns.pieces[0]);
+            let resumed = self.lock(rt).resume(worker, &mut turns.pieces[0]);
+            match resumed {
+                Ok(true) => return None,
+                Ok(false) => {}
+                Err(ended) => return Some(ended),
             }
-            // Also where the thread can move, and waits for a bucket that nobody is left to give up.
-            if self.is_over(&shared_run) {
-                return After::Ends;
-            }
-            drop(shared_run);
-            parker.park(rt, &turns.put_off);
+            self.parkers[t as usize].park(rt, put_off);
             self.precedence.take(rt, &self.lookout, t);
         }
-        After::Ends
+        unreachable!()
     }
 
-    // Takes in the turns of thread `t`, and calls whom they concern.
+    // Takes in the turns of the worker's thread, and calls whom they concern. Answers whether it goes on; else it looks where its
+    // thread is, or ends.
     #[tactic(auto, using(crate::proofs::Delaying::made_in_time))]
     fn hand_in<R: Wait, G: Gate>(
         &self,
         rt: &R,
         image_ref: &ImageRef<J>,
         gate: &G,
-        t: u32,
+        worker: &Worker<J>,
         turns: &mut Turns<J>,
         share: &mut Share<J>,
-    ) -> After
-        ensures goes_on { IsAfresh t turns.new.pieces.items result }
-        ensures in_time { AreMadeInTime turns.new.wake_reason.woken turns.old.put_off turns.new.put_off }
+        put_off: &mut PutOff,
+    ) -> Result<bool, Ended<J>>
+        requires { AllTurns J.program turns.old.taken turns.old.pieces.items }
+        ensures goes_on { IfOk result (λ goes. goes ≡ true → IsAfresh worker.now.thread turns.new.pieces.items Goes) }
+        ensures ends { IfErr result (λ ended. ended.thread ≡ worker.now.thread) }
+        ensures in_time { AreMadeInTime turns.new.wake_reason.woken put_off.old put_off.new }
     {
         let keeps = turns.keep_precedence(image_ref);
-        let calls = turns.is_call_due(image_ref);
-        self.precedence.take(rt, &self.lookout, t);
+        let calls = turns.is_call_due(put_off, image_ref);
+        self.precedence.take(rt, &self.lookout, worker.thread());
         let mut shared_run = self.lock(rt);
         // As most turns are. It concerns nobody.
-        if shared_run.hand_in_access(t, turns, share) {
+        if shared_run.hand_in_access(worker, turns, share) {
             drop(shared_run);
-            self.precedence.pass_on(t, keeps, 1, &mut turns.entries);
-            turns.note_access(keeps, image_ref);
+            self.precedence
+                .pass_on(worker.thread(), keeps, 1, &mut turns.entries);
+            turns.note_access(keeps && put_off.is_empty(), image_ref);
             if calls {
-                self.settle(&mut turns.put_off);
+                self.settle(put_off);
             }
-            return After::Goes;
+            return Ok(true);
         }
-        let after = self.hand_in_any(rt, gate, t, turns, share, keeps, shared_run);
+        let handed = self.hand_in_any(rt, gate, worker, turns, share, put_off, keeps, shared_run);
         if calls {
-            self.settle(&mut turns.put_off);
+            self.settle(put_off);
         }
-        after
+        handed
     }
 
     // The same of any turns, under the lock.
     #[inline(never)]
-    #[tactic(auto, using(crate::proofs::Delaying::made_before))]
     fn hand_in_any<R: Wait, G: Gate>(
         &self,
         rt: &R,
         gate: &G,
-        t: u32,
+        worker: &Worker<J>,
         turns: &mut Turns<J>,
         share: &mut Share<J>,
+        put_off: &mut PutOff,
         keeps: bool,
         shared_run: MutexGuard<'_, CachePadded<SharedRun<J>>>,
-    ) -> After
-        ensures goes_on { IsAfresh t turns.new.pieces.items result }
-        ensures in_time { AreKeptOrMade turns.new.wake_reason.woken turns.old.put_off turns.new.put_off }
+    ) -> Result<bool, Ended<J>>
+        requires { AllTurns J.program turns.old.taken turns.old.pieces.items }
+        ensures goes_on { IfOk result (λ goes. goes ≡ true → IsAfresh worker.now.thread turns.new.pieces.items Goes) }
+        ensures ends { IfErr result (λ ended. ended.thread ≡ worker.now.thread) }
+        ensures in_time { AreKeptOrMade turns.new.wake_reason.woken put_off.old put_off.new }
     {
-        let Some(parker) = self.parkers.get(t as usize) else {
-            return After::Ends;
-        };
+        let t = worker.thread();
+        let parker = &self.parkers[t as usize];
         let mut shared_run = shared_run;
         let calls = parker.calls();
         // Nobody is forgotten: what is owed can't be let go.
-        let (after, owed) = shared_run.hand_in_owing(t, turns, share, parker, gate);
-        let is_over = after != After::Goes && self.is_over(&shared_run);
+        let run = &mut **shared_run;
+        let (after, owed) = run.hand_in_owing(worker, turns, share, gate);
+        let ended = Ended::behind(after, run, worker);
         drop(shared_run);
+        let goes = after == After::Goes;
         self.precedence
-            .pass_on(t, keeps && after == After::Goes, 1, &mut turns.entries);
-        if after != After::Goes {
+            .pass_on(t, keeps && goes, 1, &mut turns.entries);
+        if !goes || turns.concern_others() {
             turns.ahead.stop();
         }
-        if turns.concern_others() {
-            turns.ahead.stop();
-            self.settle(&mut turns.put_off);
-            self.tell_or_put_off(turns, after, owed);
-        } else {
-            owed.end();
-            if after != After::Goes {
-                self.settle(&mut turns.put_off);
-            }
-        }
-        if is_over {
-            self.end();
-        }
+        self.discharge(turns, goes, put_off, owed);
         if after == After::Sleeps && parker.look(&self.lookout, &mut turns.patience, calls) {
             self.precedence.take(rt, &self.lookout, t);
         }
-        after
+        match ended {
+            Some(ended) => Err(ended),
+            None => Ok(goes),
+        }
     }
 
     // Takes the lock. It is held for a moment only, so that it is worthwhile to try for a while before one sleeps.
@@ -409,43 +455,42 @@ impl<J: RunName> Pool<J> {
         let _called = self.call_all();
     }
 
-    // Whether no worker is left to make an entry.
-    fn is_over(&self, shared_run: &SharedRun<J>) -> bool
-        ensures over { is_some shared_run.now.fault ≡ true → result ≡ true }
-        ensures goes_on { result ≡ false → (t : ℕ) × (can_move (state_of shared_run.now) t ≡ true) }
+    // Meets what is owed behind an entry.
+    #[tactic(auto, using(crate::proofs::Delaying::made_before))]
+    fn discharge(&self, turns: &Turns<J>, goes: bool, put_off: &mut PutOff, owed: Owed)
+        requires { (owed.reason.value ≡ turns.now.wake_reason) × (owed.freed.value ≡ turns.now.freed) }
+        ensures { AreKeptOrMade turns.now.wake_reason.woken put_off.old put_off.new }
     {
-        if shared_run.fault().is_some() {
-            return true;
-        }
-        let mut from = 1;
-        while let Some(t) = shared_run.next_able(from) {
-            if shared_run.is_able(t) && !self.is_refused(t) {
-                return false;
+        if owed.is_of_all() {
+            self.settle(put_off);
+            owed.meet_all(&self.call_all());
+        } else if turns.concern_others() {
+            self.settle(put_off);
+            self.tell_or_put_off(turns, goes, put_off, owed);
+        } else {
+            owed.end();
+            if !goes {
+                self.settle(put_off);
             }
-            from = t + 1;
         }
-        true
     }
 
     // Calls whom these turns concern. Where they woke others alone, and the thread goes on, that may be put off. Apart, since a
     // note of who was called is written whole.
     #[cold]
     #[inline(never)]
-    #[tactic(auto, using(crate::proofs::Delaying::put_off_met, crate::proofs::Delaying::told_met))]
-    fn tell_or_put_off(&self, turns: &mut Turns<J>, after: After, owed: Owed)
-        requires none { AreNone turns.old.put_off }
-        requires owed { (owed.woken.value ≡ turns.old.wake_reason.woken) × (owed.freed.value ≡ turns.old.freed) }
-        ensures in_time { AreKeptOrMade turns.new.wake_reason.woken turns.old.put_off turns.new.put_off }
-        ensures only { (after ≡ Goes → ⊥) → turns.new.put_off ≡ turns.old.put_off }
-        ensures same { turns.new.pieces ≡ turns.old.pieces }
+    fn tell_or_put_off(&self, turns: &Turns<J>, goes: bool, put_off: &mut PutOff, owed: Owed)
+        requires none { AreNone put_off.old }
+        requires owed { (owed.reason.value ≡ turns.now.wake_reason) × (owed.freed.value ≡ turns.now.freed) }
+        requires goes_on { owed.over ≡ false }
+        ensures in_time { AreKeptOrMade turns.now.wake_reason.woken put_off.old put_off.new }
+        ensures only { goes ≡ false → put_off.new ≡ put_off.old }
     {
-        if self.calls == Calls::PutOff && after == After::Goes && turns.may_put_off() {
-            turns.put_off.put(&turns.wake_reason.woken);
-            owed.meet(&Called::new(), &turns.put_off);
+        if self.calls == Calls::PutOff && goes && turns.may_put_off() {
+            owed.put_off(&turns.wake_reason.woken, put_off);
             return;
         }
-        let called = self.tell(&turns.wake_reason, &turns.freed);
-        owed.meet(&called, &turns.put_off);
+        owed.meet(&self.tell(&turns.wake_reason, &turns.freed));
     }
 
     // Calls whom it put off to call.
@@ -453,41 +498,41 @@ impl<J: RunName> Pool<J> {
         ensures { AreNone put_off.new }
     {
         if !put_off.is_empty() {
-            let _called = self.call_put_off(put_off);
+            self.call_put_off(put_off);
         }
     }
 
     // The same where there is somebody.
     #[cold]
     #[inline(never)]
-    fn call_put_off(&self, put_off: &mut PutOff) -> Called
-        ensures called { AreCalledToo put_off.old.woken nobody_called result }
-        ensures none { AreNone put_off.new }
+    fn call_put_off(&self, put_off: &mut PutOff)
+        ensures { AreNone put_off.new }
     {
         let mut called = Called::new();
-        self.call_each(&put_off.take(), &mut called);
-        called
-    }
-
-    // Calls everybody, where the run is over. Apart for the same reason.
-    #[cold]
-    #[inline(never)]
-    fn end(&self) {
-        let _called = self.call_all();
+        self.call_each(put_off.woken(), &mut called);
+        put_off.meet(&called);
     }
 
     // Calls the workers of the threads that an entry woke and those who waited for a bucket, and the calling thread where
     // one was made.
     fn tell(&self, wake_reason: &WakeReason, freed: &BucketWaiters) -> Called
-        ensures { AreTold wake_reason.now.woken freed.now result }
+        ensures { AreTold wake_reason.now.woken freed.now wake_reason.now.forked result }
     {
-        let mut called = Called::new();
-        if wake_reason.forked {
-            self.made.notify_all();
-        }
+        let mut called = self.call_starter_if(wake_reason.forked);
         self.call_each(&wake_reason.woken, &mut called);
         if !freed.is_empty() {
             self.call_each(&freed.threads(), &mut called);
+        }
+        called
+    }
+
+    // Calls the calling thread where a thread was made, and nobody else.
+    fn call_starter_if(&self, forked: bool) -> Called
+        ensures { result ≡ record { workers = nobody; starter = forked } }
+    {
+        let mut called = Called::new();
+        if forked {
+            called.call_starter(&self.made);
         }
         called
     }
@@ -507,29 +552,23 @@ impl<J: RunName> Pool<J> {
         }
     }
 
-    // Whether the worker of thread `t` was refused.
-    fn is_refused(&self, t: u32) -> bool {
-        match self.parkers.get(t as usize) {
-            Some(parker) => parker.is_refused(),
-            None => false,
-        }
-    }
-
     // Calls the worker of thread `t`.
     fn call(&self, t: u32, called: &mut Called)
         requires { IsThread t }
         ensures { called.new ≡ with_called called.old t }
     {
-        self.parkers[t as usize].call(t, called);
+        self.parkers[t as usize].call(called);
     }
 
-    // Calls everybody who is parked.
+    // Calls everybody who is parked. Apart for the same reason as above.
+    #[cold]
+    #[inline(never)]
     #[tactic(auto, using(crate::proofs::Calling::called_too, crate::proofs::Calling::called_whole))]
     fn call_all(&self) -> Called
         ensures { AreAllCalled result }
     {
-        self.made.notify_all();
         let mut called = Called::new();
+        called.call_starter(&self.made);
         for t in 1..=MOST_THREADS {
             self.call(t, &mut called);
         }

@@ -1,7 +1,9 @@
 ghost use Rattle.std.specs.Prelude.{◌≡◌, ◌≢◌, ◌<◌, ◌≤◌, [], MatchBool};
 ghost use Rattle.machine.specs.ThreadSets.{set_of};
+ghost use Rattle.workers.specs.Calls.{AreCalled};
 ghost use Rattle.workers.specs.PutOffs.{AreNone, counted, for_entry};
 
+use crate::parker::Called;
 use machine::ThreadSet;
 use std::thread;
 use std::thread::Threads;
@@ -32,8 +34,8 @@ impl Calls {
 }
 
 /// Threads that an entry woke and whose workers weren't called yet. A thread that is woken inside a monitor mostly waits for
-/// its lock next: so its worker is called when the one that wakes it gives a lock up, and not before.
-#[derive(Drop)]
+/// its lock next: so its worker is called when the one that wakes it gives a lock up, and not before. Nobody can let it go: it
+/// is used up where none is put off.
 pub struct PutOff {
     woken: ThreadSet,
     // For how many entries.
@@ -80,13 +82,29 @@ impl PutOff {
         false
     }
 
-    /// Takes the threads, whose workers are to be called now.
-    pub fn take(&mut self) -> ThreadSet
-        ensures taken { result ≡ self.old.woken }
-        ensures none { self.new ≡ record self.old { woken = set_of [] } }
+    /// The threads whose workers are to be called.
+    pub fn woken(&self) -> &ThreadSet
+        ensures { result.now ≡ self.now.woken }
     {
-        let woken = self.woken;
+        &self.woken
+    }
+
+    /// Where each of them was called: none is put off any more.
+    pub fn meet(&mut self, called: &Called)
+        requires { AreCalled self.old.woken called.now }
+        ensures { AreNone self.new }
+    {
+        let _called = called;
         self.woken.clear();
-        woken
+    }
+
+    /// Where none is put off.
+    pub fn end(self)
+        requires { AreNone self }
+    {
+        let PutOff {
+            woken: _,
+            entries: _,
+        } = self;
     }
 }

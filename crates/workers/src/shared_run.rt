@@ -1,26 +1,29 @@
-ghost use Rattle.std.specs.Prelude.{◌≡◌, ◌≤◌, ◌<◌, ◌+◌, length, take, true, false, is_some, Some, None, IfSome, IfNone};
-ghost use Rattle.std.specs.Prelude.{◌⊎◌, MatchBool, IfOk, OnErr, unwrap_or};
+ghost use Rattle.std.specs.Prelude.{◌≡◌, ◌≤◌, ◌<◌, ◌+◌, ◌||◌, length, take, true, false, is_some, Some, None, IfSome, IfNone};
+ghost use Rattle.std.specs.Prelude.{◌⊎◌, MatchBool, IfErr, IfOk, OnErr, unwrap_or};
 ghost use Rattle.words.specs.Limits.{most_threads};
 ghost use Rattle.machine.specs.ConcreteSteps.{can_move};
 ghost use Rattle.machine.specs.ThreadSets.{IsLeastFrom, IsThread};
 ghost use Rattle.machine.specs.Views.{concrete};
 ghost use Rattle.runner.specs.Speculations.{IsReady, speculation_at};
 ghost use Rattle.runner.specs.declared.fault.RunFault.TheVariants.{Memory};
-ghost use Rattle.runner.specs.declared.next.After.TheVariants.{Goes};
+ghost use Rattle.runner.specs.declared.next.After.TheVariants.{Ends, Goes};
+ghost use Rattle.workers.specs.Endings.{HasEnded, IsOver};
+ghost use Rattle.workers.specs.Owning.{MakesOwn, MayGoAlone};
 ghost use Rattle.workers.specs.SharedRuns.{HasCause, KeepsWorkers, StartsWorker, is_able, state_of};
-ghost use Rattle.workers.specs.BucketWaiters.{nobody};
+ghost use Rattle.workers.specs.Taken.{AllTurns};
+ghost use Rattle.workers.specs.BucketWaiters.{nobody, waits};
 ghost use Rattle.workers.specs.Handed.{ComesIn, StaysAway, ComeIn, StopsAt, IsNextOf, IsNextOfFirst};
 ghost use Rattle.workers.specs.Handed.{ComeInTogether, FirstComesIn, Frees, IsAfresh, IsUntouched, noted};
 ghost use Rattle.workers.specs.WakeReasons.{Concerns, gives_up, gives_up_by, last_event, nobody_concerned};
 
 use crate::bucket_waiters::BucketWaiters;
+use crate::ended::Ended;
 use crate::owed::Owed;
-use crate::parker::Parker;
 use crate::turns::Turns;
 use machine::{EventName, Machine, ThreadSet};
 use runner::{After, Piece, RunFault, RunName, Share, Shared, Speculation, run_alone};
 use std::alloc::AllocError;
-use std::marker::Model;
+use std::marker::{Model, PhantomData};
 use words::Gate;
 
 /// What the lock of a run keeps.
@@ -34,6 +37,8 @@ pub struct SharedRun<J: RunName> {
     waiting: BucketWaiters,
     // Who waited until buckets were given up, and wasn't called yet.
     freed: BucketWaiters,
+    // Whose entry would have passed the limit. They end.
+    refused: BucketWaiters,
 }
 
 impl<J: RunName> Model for SharedRun<J> {
@@ -48,9 +53,29 @@ impl<J: RunName> Model for SharedRun<J> {
       kept = d.kept;
       waiting = d.waiting;
       freed = d.freed;
+      refused = d.refused;
     } };
 
     ghost invariant = { λ d. IsSharedRun J.program J.outside J.limit d.shared.given d.started d.fault };
+}
+
+/// The worker of a thread, by whose number, from 1 to 1,000, its entries come in. Nothing makes one but `next_worker`, one for
+/// each thread that was made.
+#[derive(Drop)]
+pub struct Worker<J: RunName> {
+    thread: u32,
+    of: PhantomData<J>,
+    ghost is: { IsThread thread },
+}
+
+impl<J: RunName> Worker<J> {
+    /// The thread.
+    pub fn thread(&self) -> u32
+        ensures value { result ≡ self.now.thread }
+        ensures is { IsThread result }
+    {
+        self.thread
+    }
 }
 
 /// Whom an entry concerns. A worker keeps one, so that a set isn't written where nobody was woken.
@@ -88,6 +113,7 @@ impl<J: RunName> SharedRun<J> {
           kept = kept;
           waiting = nobody;
           freed = nobody;
+          refused = nobody;
         } }
     {
         SharedRun {
@@ -97,6 +123,7 @@ impl<J: RunName> SharedRun<J> {
             kept,
             waiting: BucketWaiters::new(),
             freed: BucketWaiters::new(),
+            refused: BucketWaiters::new(),
         }
     }
 
@@ -113,6 +140,31 @@ impl<J: RunName> SharedRun<J> {
         ensures { result ≡ is_able self.now t }
     {
         self.can_move(t) && !self.waiting.contains(t)
+    }
+
+    // Whether the worker of thread `t` waits for a bucket or was refused with Limit.
+    fn is_held_up(&self, t: u32) -> bool
+        requires { IsThread t }
+        ensures { result ≡ (waits self.now.waiting t || waits self.now.refused t) }
+    {
+        self.waiting.contains(t) || self.refused.contains(t)
+    }
+
+    /// Whether no worker is left to make an entry.
+    pub fn is_over(&self) -> bool
+        ensures { MatchBool result (IsOver self.now) (IsOver self.now → ⊥) }
+    {
+        if self.fault.is_some() {
+            return true;
+        }
+        let mut from = 1;
+        while let Some(t) = self.next_able(from) {
+            if !self.is_held_up(t) {
+                return false;
+            }
+            from = t + 1;
+        }
+        true
     }
 
     /// The first thread from `from` on that can move, if there is one.
@@ -157,9 +209,8 @@ impl<J: RunName> SharedRun<J> {
     }
 
     /// The next thread without a worker, with a part of the count for it.
-    pub fn next_worker(&mut self) -> Option<(u32, Share<J>)>
-        ensures some { IfSome result (λ worker. StartsWorker self.old worker.0 worker.1 self.new) }
-        ensures few { IfSome result (λ worker. worker.0 ≤ most_threads) }
+    pub fn next_worker(&mut self) -> Option<(Worker<J>, Share<J>)>
+        ensures some { IfSome result (λ worker. StartsWorker self.old worker.0.thread worker.1 self.new) }
         ensures none { IfNone result ((self.new ≡ self.old)
             × ((is_some self.old.fault ≡ true)
             ⊎ (length (state_of self.old).threads ≤ self.old.started))) }
@@ -171,7 +222,11 @@ impl<J: RunName> SharedRun<J> {
             unreachable!()
         };
         self.started += 1;
-        Some((self.started, share))
+        let worker = Worker {
+            thread: self.started,
+            of: PhantomData,
+        };
+        Some((worker, share))
     }
 
     /// What thread `t` does: where it goes on, its piece begins anew. It ends where the run ends before its time.
@@ -184,67 +239,106 @@ impl<J: RunName> SharedRun<J> {
         self.shared.next(t, piece)
     }
 
-    /// Takes in the turns of thread `t`, an entry for each, up to one that is refused, and says how its worker goes
-    /// on. As long as no other thread was made it goes on in its place. The gate is passed before each further entry.
-    /// Where an entry is refused with `Limit`, that is noted on its parker.
-    pub fn hand_in<G: Gate>(
-        &mut self,
-        t: u32,
-        turns: &mut Turns<J>,
-        share: &mut Share<J>,
-        parker: &Parker,
-        gate: &G,
-    ) -> After
-        ensures goes_on { StopsAt J.program J.limit self.old t
-            (take turns.old.taken turns.old.pieces.items) self.new
-            share.old share.new result
-            ⊎ IsNextOfFirst self.new t turns.new.pieces.items result }
-        ensures workers { KeepsWorkers self.old self.new }
-        ensures same { turns.new.put_off ≡ turns.old.put_off }
+    /// How a worker goes on from where its thread is. Answers whether it does, on this piece, begun anew; else it parks, or it
+    /// ends.
+    pub fn resume(&self, worker: &Worker<J>, piece: &mut Piece<J>) -> Result<bool, Ended<J>>
+        ensures goes { IfOk result (λ goes. goes ≡ true → (piece.new.thread ≡ worker.now.thread)
+            × (piece.new.count ≡ 0) × (piece.new.here ≡ piece.new.origin)) }
+        ensures ends { IfErr result (λ ended. ended.thread ≡ worker.now.thread) }
     {
-        if let Some(after) = self.take_in(t, turns.taken(), share, parker) {
-            return after;
+        if self.is_able(worker.thread) {
+            return self.follow(worker, piece);
         }
-        self.go_on_alone(t, share, gate);
-        self.next(t, &mut turns.pieces[0])
+        // Also where the thread can move, and waits for a bucket that nobody is left to give up.
+        if self.is_over() {
+            return Err(Ended::of(self, worker));
+        }
+        Ok(false)
     }
 
-    /// Takes in the turns of thread `t` as `hand_in` does, and notes whom the last entry concerns, which its worker owes. Of the
-    /// entries that are made now only the last one may wake threads or make one: a piece behind another begins where that one
-    /// has come, and the thread is elsewhere behind a step that does so, which refuses the piece. Further entries are of the
-    /// only thread there is. Who waited for buckets was noted at each entry.
-    pub fn hand_in_owing<G: Gate>(
+    // The same where the thread can move.
+    fn follow(&self, worker: &Worker<J>, piece: &mut Piece<J>) -> Result<bool, Ended<J>>
+        ensures goes { IfOk result (λ goes. goes ≡ true → (piece.new.thread ≡ worker.now.thread)
+            × (piece.new.count ≡ 0) × (piece.new.here ≡ piece.new.origin)) }
+        ensures ends { IfErr result (λ ended. ended.thread ≡ worker.now.thread) }
+    {
+        let after = self.next(worker.thread, piece);
+        match Ended::behind(after, self, worker) {
+            Some(ended) => Err(ended),
+            None => Ok(after == After::Goes),
+        }
+    }
+
+    // Takes in the turns of the worker's thread, an entry for each, up to one that is refused, and says how it goes on. As long
+    // as no other thread was made it goes on in its place. The gate is passed before each further entry.
+    #[tactic(auto, using(crate::proofs::Owning::stopped_own, crate::proofs::Owning::gone_own))]
+    fn hand_in<G: Gate>(
         &mut self,
-        t: u32,
+        worker: &Worker<J>,
         turns: &mut Turns<J>,
         share: &mut Share<J>,
-        parker: &Parker,
+        gate: &G,
+    ) -> After
+        ensures goes_on { StopsAt J.program J.limit self.old worker.now.thread
+            (take turns.old.taken turns.old.pieces.items) self.new
+            share.old share.new result
+            ⊎ IsNextOfFirst self.new worker.now.thread turns.new.pieces.items result }
+        ensures own { MakesOwn J.program J.limit worker.now.thread self.old self.new }
+        ensures workers { KeepsWorkers self.old self.new }
+    {
+        if let Some(after) = self.take_in(worker.thread, turns.taken(), share) {
+            return after;
+        }
+        self.go_on_alone(worker.thread, share, gate);
+        self.next(worker.thread, &mut turns.pieces[0])
+    }
+
+    /// Takes in the turns of the worker's thread, an entry for each, up to one that is refused, and says how it goes on. As long
+    /// as no other thread was made it goes on in its place. The gate is passed before each further entry.
+    ///
+    /// Notes whom the last entry concerns, which its worker owes. Of the entries that are made now only the last one may wake
+    /// threads or make one: a piece behind another begins where that one has come, and the thread is elsewhere behind a step that
+    /// does so, which refuses the piece. Further entries are of the only thread there is. Who waited for buckets was noted at
+    /// each entry.
+    pub fn hand_in_owing<G: Gate>(
+        &mut self,
+        worker: &Worker<J>,
+        turns: &mut Turns<J>,
+        share: &mut Share<J>,
         gate: &G,
     ) -> (After, Owed)
-        ensures goes_on { IsAfresh t turns.new.pieces.items result.0 }
+        requires { AllTurns J.program turns.old.taken turns.old.pieces.items }
+        ensures goes_on { IsAfresh worker.now.thread turns.new.pieces.items result.0 }
+        ensures ends { result.0 ≡ Ends → HasEnded J.program J.limit self.new worker.now.thread }
+        ensures own { MakesOwn J.program J.limit worker.now.thread self.old self.new }
         ensures concerns { Concerns (last_event self.new.shared.log) turns.new.wake_reason }
         ensures freed { self.new.freed ≡ nobody }
-        ensures owed { (result.1.woken.value ≡ turns.new.wake_reason.woken) × (result.1.freed.value ≡ turns.new.freed) }
+        ensures owed { (result.1.reason.value ≡ turns.new.wake_reason) × (result.1.freed.value ≡ turns.new.freed) }
+        ensures over { (result.0 ≡ Goes → ⊥) → MatchBool result.1.over (IsOver self.new) (IsOver self.new → ⊥) }
         ensures workers { KeepsWorkers self.old self.new }
-        ensures same { turns.new.put_off ≡ turns.old.put_off }
     {
-        let after = self.hand_in(t, turns, share, parker, gate);
+        let after = self.hand_in(worker, turns, share, gate);
         self.tell_last(&mut turns.wake_reason);
         self.take_freed(&mut turns.freed);
-        let owed = Owed::new(&turns.wake_reason.woken, &turns.freed);
+        let over = after != After::Goes && self.is_over();
+        let owed = Owed::new(&turns.wake_reason, &turns.freed, over);
         (after, owed)
     }
 
-    /// Takes in one turn of thread `t` that led to an access to a word, as most do, where others were made. It concerns
+    /// Takes in one turn of the worker's thread that led to an access to a word, as most do, where others were made. It concerns
     /// nobody, and who waits for a bucket still does. Answers whether it came in: else nothing has changed.
-    pub fn hand_in_access(&mut self, t: u32, turns: &mut Turns<J>, share: &mut Share<J>) -> bool
-        ensures made { result ≡ true → FirstComesIn J.program J.limit self.old t turns.old.pieces.items self.new
-            share.old share.new }
-        ensures goes_on { result ≡ true → IsNextOfFirst self.new t turns.new.pieces.items Goes }
+    pub fn hand_in_access(
+        &mut self,
+        worker: &Worker<J>,
+        turns: &mut Turns<J>,
+        share: &mut Share<J>,
+    ) -> bool
+        ensures made { result ≡ true → FirstComesIn J.program J.limit self.old worker.now.thread turns.old.pieces.items
+            self.new share.old share.new }
+        ensures goes_on { result ≡ true → IsNextOfFirst self.new worker.now.thread turns.new.pieces.items Goes }
         ensures told { result ≡ true → Concerns (last_event self.new.shared.log) nobody_concerned }
         ensures none { result ≡ false → (self.new ≡ self.old) × (share.new ≡ share.old) × (turns.new.taken ≡ turns.old.taken)
             × (turns.new.pieces.items ≡ turns.old.pieces.items) }
-        ensures same { turns.new.put_off ≡ turns.old.put_off }
         ensures workers { KeepsWorkers self.old self.new }
     {
         if self.fault.is_some() {
@@ -253,22 +347,23 @@ impl<J: RunName> SharedRun<J> {
         if turns.taken != 1 || self.threads() == 1 {
             return false;
         }
-        self.shared.hand_in_access(t, &mut turns.pieces[0], share)
+        let piece = &mut turns.pieces[0];
+        self.shared.hand_in_access(worker.thread, piece, share)
     }
 
-    /// Takes in the accesses that thread `t` made ahead of the machine, all together. They concern nobody, and who waits for a
-    /// bucket still does. Answers whether they came in: else nothing has changed.
+    /// Takes in the accesses that the worker's thread made ahead of the machine, all together. They concern nobody, and who waits
+    /// for a bucket still does. Answers whether they came in: else nothing has changed.
     pub fn commit(
         &mut self,
-        t: u32,
+        worker: &Worker<J>,
         speculation: &mut Speculation<J>,
         share: &mut Share<J>,
     ) -> Result<bool, AllocError>
         ensures made { IfOk result (λ came. came ≡ true
-            → ComeInTogether J.program J.limit self.old t speculation.old.made self.new share.old share.new
-            × (speculation.new ≡ speculation_at t speculation.old.here)) }
+            → ComeInTogether J.program J.limit self.old worker.now.thread speculation.old.made self.new share.old share.new
+            × (speculation.new ≡ speculation_at worker.now.thread speculation.old.here)) }
         ensures away { IfOk result (λ came. came ≡ false → (is_some self.old.fault ≡ true)
-            ⊎ (IsReady J.limit self.old.shared t speculation.old → ⊥)) }
+            ⊎ (IsReady J.limit self.old.shared worker.now.thread speculation.old → ⊥)) }
         ensures none { IfOk result (λ came. came ≡ false → IsUntouched self.old self.new
             × (speculation.new ≡ speculation.old) × (share.new ≡ share.old)) }
         ensures err { OnErr result (IsUntouched self.old self.new
@@ -278,7 +373,7 @@ impl<J: RunName> SharedRun<J> {
         if self.fault.is_some() {
             return Ok(false);
         }
-        self.shared.commit(t, speculation, share)
+        self.shared.commit(worker.thread, speculation, share)
     }
 
     /// The machine, which is where the log leads.
@@ -289,13 +384,8 @@ impl<J: RunName> SharedRun<J> {
     }
 
     // Takes in these pieces of thread `t`, up to one that is refused, and says how its worker goes on where one is.
-    fn take_in(
-        &mut self,
-        t: u32,
-        pieces: &[Piece<J>],
-        share: &mut Share<J>,
-        parker: &Parker,
-    ) -> Option<After>
+    fn take_in(&mut self, t: u32, pieces: &[Piece<J>], share: &mut Share<J>) -> Option<After>
+        requires { IsThread t }
         ensures all { IfNone result
             (ComeIn J.program J.limit self.old t pieces.now self.new share.old share.new) }
         ensures some { IfSome result
@@ -304,7 +394,7 @@ impl<J: RunName> SharedRun<J> {
         ensures workers { KeepsWorkers self.old self.new }
     {
         for piece in pieces {
-            if let Some(after) = self.enter(t, piece, share, parker) {
+            if let Some(after) = self.enter(t, piece, share) {
                 return Some(after);
             }
         }
@@ -313,7 +403,8 @@ impl<J: RunName> SharedRun<J> {
 
     // Lets thread `t` go on in its place, as long as no other was made: nobody waits for the lock meanwhile.
     fn go_on_alone<G: Gate>(&mut self, t: u32, share: &mut Share<J>, gate: &G)
-        ensures { KeepsWorkers self.old self.new }
+        ensures workers { KeepsWorkers self.old self.new }
+        ensures alone { MayGoAlone J.program J.limit t self.old self.new }
     {
         // Mostly others were, and then nothing is asked of the run.
         if self.threads() > 1 {
@@ -325,13 +416,8 @@ impl<J: RunName> SharedRun<J> {
     }
 
     // Takes in what thread `t` did, and says how its worker goes on where that is refused.
-    fn enter(
-        &mut self,
-        t: u32,
-        piece: &Piece<J>,
-        share: &mut Share<J>,
-        parker: &Parker,
-    ) -> Option<After>
+    fn enter(&mut self, t: u32, piece: &Piece<J>, share: &mut Share<J>) -> Option<After>
+        requires { IsThread t }
         ensures comes_in { IfNone result
             (ComesIn J.program J.limit self.old t piece.now self.new share.old share.new) }
         ensures away { IfSome result
@@ -354,7 +440,7 @@ impl<J: RunName> SharedRun<J> {
                 Some(After::Sleeps)
             }
             Err(RunFault::Limit) => {
-                parker.refuse();
+                self.refused.add(t);
                 Some(After::Ends)
             }
             Err(RunFault::Broken) => {
@@ -396,8 +482,8 @@ impl<J: RunName> SharedRun<J> {
         }
     }
 
-    /// Who waited for a bucket until one was given up, since this was asked last, put in its place. They are to be called.
-    pub fn take_freed(&mut self, freed: &mut BucketWaiters)
+    // Who waited for a bucket until one was given up, since this was asked last, put in its place. They are to be called.
+    fn take_freed(&mut self, freed: &mut BucketWaiters)
         ensures { (freed.new ≡ self.old.freed) × (self.new ≡ record self.old { freed = nobody }) }
     {
         freed.clear();
@@ -416,9 +502,9 @@ impl<J: RunName> SharedRun<J> {
         self.freed.clear();
     }
 
-    /// Whom the last entry concerns, put in its place.
+    // Whom the last entry concerns, put in its place.
     #[tactic(auto, using(crate::proofs::Waking::told, crate::proofs::Waking::untold))]
-    pub fn tell_last(&self, wake_reason: &mut WakeReason)
+    fn tell_last(&self, wake_reason: &mut WakeReason)
         ensures { Concerns (last_event self.now.shared.log) wake_reason.new }
     {
         let Some(name) = self.shared.log().last_woken(&mut wake_reason.woken) else {
@@ -430,8 +516,9 @@ impl<J: RunName> SharedRun<J> {
         wake_reason.released = gives_up(name);
     }
 
-    /// Takes back what a worker counted.
-    pub fn give_back(&mut self, share: Share<J>)
+    /// Takes back what a worker counted that makes no entry any more.
+    pub fn give_back(&mut self, worker: Worker<J>, share: Share<J>, ended: &Ended<J>)
+        requires { ended.now.thread ≡ worker.thread }
         ensures { self.new ≡ record self.old {
           kept = record {
             parts = self.old.kept.parts + share.parts;
@@ -439,6 +526,8 @@ impl<J: RunName> SharedRun<J> {
           };
         } }
     {
+        let _worker = worker;
+        let _ended = ended;
         self.kept.merge(share);
     }
 

@@ -41,8 +41,6 @@ pub struct Turns<J: RunName> {
     pub wake_reason: WakeReason,
     /// Who waited for a bucket until one was given up.
     pub freed: BucketWaiters,
-    /// Whom an entry before woke, and its worker hasn't called yet.
-    pub put_off: PutOff,
     /// How many entries were made since its worker gave precedence up.
     pub entries: usize,
     /// Whether its worker looks for a call before it parks.
@@ -67,7 +65,6 @@ impl<J: RunName> Turns<J> {
             taken: 0,
             wake_reason: WakeReason::new(),
             freed: BucketWaiters::new(),
-            put_off: PutOff::new(),
             entries: 0,
             patience: Patience::new(),
             ahead: Ahead::new(alloc, t)?,
@@ -104,12 +101,12 @@ impl<J: RunName> Turns<J> {
         self.entries >= MANY_ENTRIES
     }
 
-    /// Notes that the first piece came in as an access, and its worker has precedence or not. Behind many such entries, with no
-    /// call put off, it goes ahead.
+    /// Notes that the first piece came in as an access, and its worker has precedence and no call put off, or not. Behind many such
+    /// entries it goes ahead.
     pub fn note_access(&mut self, keeps: bool, image_ref: &ImageRef<J>)
-        ensures { (self.new.pieces ≡ self.old.pieces) × (self.new.put_off ≡ self.old.put_off) }
+        ensures { self.new.pieces ≡ self.old.pieces }
     {
-        if keeps && self.put_off.is_empty() {
+        if keeps {
             self.ahead.note(&self.pieces[0], image_ref.memory);
         } else {
             self.ahead.stop();
@@ -119,14 +116,12 @@ impl<J: RunName> Turns<J> {
     /// Counts one more entry for the calls that were put off, and answers whether they are due behind it: where it gives a lock
     /// up, where many local steps were taken, and behind many entries.
     #[tactic(auto, using(crate::proofs::Delaying::due_later))]
-    pub fn is_call_due(&mut self, image_ref: &ImageRef<J>) -> bool
-        ensures same { (self.new.pieces ≡ self.old.pieces) × (self.new.taken ≡ self.old.taken)
-            × (self.new.put_off.woken ≡ self.old.put_off.woken) }
-        ensures none { AreNone self.old.put_off → result ≡ false }
-        ensures counted { result ≡ false → AreDue self.old.put_off self.new.put_off }
+    pub fn is_call_due(&self, put_off: &mut PutOff, image_ref: &ImageRef<J>) -> bool
+        ensures same { put_off.new.woken ≡ put_off.old.woken }
+        ensures none { AreNone put_off.old → result ≡ false }
+        ensures counted { result ≡ false → AreDue put_off.old put_off.new }
     {
-        !self.put_off.is_empty()
-            && (self.put_off.count() || !self.are_few() || self.give_lock_up(image_ref))
+        !put_off.is_empty() && (put_off.count() || !self.are_few() || self.give_lock_up(image_ref))
     }
 
     // Whether the next step is a swap, by which a lock is given up.

@@ -8,4 +8,5 @@ abbrev pub invariant-loop-t : goal.invariant-loop-t
 invariant-loop-t g l = record {
   each : (u : ℕ) → IsThread u → u < l.t → was_called l.called u ≡ true;
   whole : IsWhole l.called.workers;
+  starter : l.called.starter ≡ true;
 }

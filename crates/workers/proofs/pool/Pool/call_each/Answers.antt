@@ -26,6 +26,7 @@ loop-t-preserved g c =
       whole = subst (λ (d : Called). IsWhole d.workers) (sym c.call.ensures) (called_whole called t v.whole);
       kept = λ u is_u was. ap (λ (d : Called). was_called d u) c.call.ensures
           ∙ called_too called t u v.whole is is_u.0 (inr (v.kept u is_u was));
+      starter = ap (λ (d : Called). d.starter) c.call.ensures ∙ v.starter;
     }
 
 pub returns-then-t-gt-MOST_THREADS : goal.returns-then-t-gt-MOST_THREADS
@@ -37,6 +38,7 @@ returns-then-t-gt-MOST_THREADS g c =
           (omega (arith, is.1, c.if-t-gt-MOST_THREADS.true)) has_u is;
       kept = v.kept;
       whole = v.whole;
+      starter = v.starter;
     }
 
 pub returns : goal.returns
@@ -47,4 +49,5 @@ returns g c =
           (λ (w : ℕ). IsThread w → was_called c.loop-t.called w ≡ true) v.each c.in_default.ensures u has_u is;
       kept = v.kept;
       whole = v.whole;
+      starter = v.starter;
     }

@@ -12,6 +12,7 @@ invariant-loop-t g l = record {
   each : (u : ℕ) → u < l.from → has l.threads u ≡ true → IsThread u → was_called l.called u ≡ true;
   whole : IsWhole l.called.workers;
   kept : (u : ℕ) → IsThread u → was_called l.fn.called u ≡ true → was_called l.called u ≡ true;
+  starter : l.called.starter ≡ l.fn.called.starter;
 }
 
 abbrev pub decreases-loop-t : goal.decreases-loop-t

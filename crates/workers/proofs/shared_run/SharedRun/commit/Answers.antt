@@ -15,5 +15,5 @@ led (Err e) P Q f h = tt
 pub returns-clause-away : goal.returns-clause-away
 returns-clause-away g c =
     led c.commit.result _ _
-    (λ away. inr (subst (λ (x : SharedRunView). IsReady g.J.RunName.limit x.shared c.args.t c.args.speculation.now → ⊥)
+    (λ away. inr (subst (λ (x : SharedRunView). IsReady g.J.RunName.limit x.shared c.args.worker.now.thread c.args.speculation.now → ⊥)
     c.self.view_is away)) c.commit.ensures.away

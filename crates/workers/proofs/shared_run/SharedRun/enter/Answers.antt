@@ -22,6 +22,7 @@ returns-in-Err-Broken-clause-away g c =
       kept = before.kept;
       waiting = before.waiting;
       freed = before.freed;
+      refused = before.refused;
     } in
     let refused = subst (λ (f : RunFault). RefusesEntry p limit (log_state before.shared) c.args.t c.args.piece.now f)
     c.in-Err-Broken.field-0-is e.2 in (
@@ -33,6 +34,7 @@ returns-in-Err-Broken-clause-away g c =
             away = inl refl;
             waits = refl;
             freed = refl;
+            refused = inl (refl, refl);
           }),
       e.1,
     )
@@ -50,6 +52,7 @@ returns-in-Err-Limit-clause-away g c =
       kept = before.kept;
       waiting = before.waiting;
       freed = before.freed;
+      refused = c.add.new.self;
     } in
     let refused = subst (λ (f : RunFault). RefusesEntry p limit (log_state before.shared) c.args.t c.args.piece.now f)
     c.in-Err-Limit.field-0-is e.2 in (
@@ -61,6 +64,7 @@ returns-in-Err-Limit-clause-away g c =
             away = inr refused;
             waits = refl;
             freed = refl;
+            refused = inr (refused, c.add.ensures);
           }),
       e.1,
     )
