@@ -28,12 +28,12 @@ note_store-requires c =
     stored_behind c.args.self.now c.store.new.self c.in_ok-store.ensures.grown c.args.number c.args.a.0 c.args.v
     c.in-Some-2.after c.requires.lies (rw c.in-Some-2.is at c.in_ok-store.ensures.there)
 
-pub returns-clause-grown : goal.returns-clause-grown
-returns-clause-grown c =
+pub returns-in_ok-note_store-in-Some-2-clause-grown : goal.returns-in_ok-note_store-in-Some-2-clause-grown
+returns-in_ok-note_store-in-Some-2-clause-grown c =
     grown_twice c.args.self.now c.store.new.self c.note_store.new.self c.in_ok-store.ensures.grown
-    c.in_ok-note_store.ensures.grown
+    c.in_ok-note_store-in-Some-2.ensures.grown
 
-pub returns-clause-there : goal.returns-clause-there
-returns-clause-there c =
-    ap (λ (v : Vec (List ℕ) Global). slice_get v.items c.in-Some-2.after) c.in_ok-note_store.ensures.same
+pub returns-in_ok-note_store-in-Some-2-clause-there : goal.returns-in_ok-note_store-in-Some-2-clause-there
+returns-in_ok-note_store-in-Some-2-clause-there c =
+    ap (λ (v : Vec (List ℕ) Global). slice_get v.items c.in-Some-2.after) c.in_ok-note_store-in-Some-2.ensures.same
     ∙ (rw c.in-Some-2.is at c.in_ok-store.ensures.there)
