@@ -1,6 +1,6 @@
 -- Which memory another one is with a word stored, as it is noted.
 use Rattle.std.proofs.Common.{◌≡◌, ◌∙◌, ◌<◌, ◌≤◌, ◌+◌, ◌++◌, ◌⊎◌, ℕ, zero, suc, List, [], ◌∷◌, Some, None, ap, arith, inl, inr}
-use Rattle.std.proofs.Common.{Bool, false, length, refl, slice_get, subst, sym, true}
+use Rattle.std.proofs.Common.{Bool, false, length, slice_get, subst, sym, true}
 use Rattle.std.specs.Prelude.{if◌then◌else◌, slice_set}
 use Rattle.std.specs.List.{All}
 use Rattle.std.proofs.lemmas.Bool.{cases_lt}
@@ -17,10 +17,12 @@ stored_grown : (memories more : List (List ℕ)) (notes : List Stored) → AreSt
     → AreStored (memories ++ more) notes
 stored_grown memories more notes are i note at ne =
     let is = are i note at ne in
-    let size : length (memories ++ more) ≡ length memories + length more = length-append memories more in
-    (omega (arith, size, is.0), λ words there.
-    let was = is.1 words (sym (slice_get_more memories more note.before is.0) ∙ there) in
-    slice_get_more memories more note.after (slice_get_within memories note.after _ was) ∙ was)
+    let size : length (memories ++ more) ≡ length memories + length more = length-append memories more in (
+      omega (arith, size, is.0),
+      λ words there.
+          let was = is.1 words (sym (slice_get_more memories more note.before is.0) ∙ there) in
+          slice_get_more memories more note.after (slice_get_within memories note.after _ was) ∙ was,
+    )
 
 -- of one memory more, where there was room for it
 pub stored_pushed : (memories more : List (List ℕ)) (m : List ℕ) (notes : List Stored) (pushed : Bool)
@@ -84,7 +86,9 @@ pub stored_behind : (a b : PartsOf) → IsGrown a b → (n address v m : ℕ) �
     → slice_get b.memories.items m ≡ Some (slice_set (words_in a.memories.items n) address v)
     → IsStored b.memories.items n address v m
 stored_behind a b grown n address v m lies is =
-    let less = has_number a.memories.items n address lies in
-    (prefix_within a.memories.items b.memories.items n grown.memories less, λ words there.
-    let same = words_still a b grown n less in
-    is ∙ ap (λ w. Some (slice_set w address v)) (sym same ∙ ap some_words there))
+    let less = has_number a.memories.items n address lies in (
+      prefix_within a.memories.items b.memories.items n grown.memories less,
+      λ words there.
+          let same = words_still a b grown n less in
+          is ∙ ap (λ w. Some (slice_set w address v)) (sym same ∙ ap some_words there),
+    )

@@ -60,13 +60,7 @@ pub(crate) fn find_stored(notes: &[Stored], before: u32, address: u32, word: u32
 }
 
 /// Notes a store in the place of another one.
-pub(crate) fn note_stored(
-    notes: &mut Vec<Stored>,
-    before: u32,
-    address: u32,
-    word: u32,
-    after: u32,
-)
+pub(crate) fn note_stored(notes: &mut Vec<Stored>, before: u32, address: u32, word: u32, after: u32)
     ensures { (memories : List (List ℕ)) → AreStored memories notes.old.items
         → IsStored memories before address word after → AreStored memories notes.new.items }
 {

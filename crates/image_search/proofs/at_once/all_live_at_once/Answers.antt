@@ -13,4 +13,4 @@ returns-clause-wakened c = λ e t.
     let long : length kept.states.items ≤ length flags.items =
     omega (arith, c.if-len.false, c.len-2.ensures, c.len-3.ensures, flags.ok.0, kept.states.ok.0) in
     all_wakened c.args.image.now t kept flags.items (c.in_ok-mark_often.ensures.known t) long
-    (subst (All (λ flag. flag ≡ true)) c.as_slice-2.ensures.value (c.are_all-all.ensures e))
+    (subst (All (λ flag. flag ≡ true)) c.as_slice.ensures.value (c.are_all-all.ensures e))

@@ -1,4 +1,4 @@
-use Rattle.std.proofs.Common.{◌≡◌, ℕ, List, slice_get, ap, sym, ◌∙◌}
+use Rattle.std.proofs.Common.{ℕ, List, slice_get, ap, sym, ◌∙◌}
 use Rattle.std.specs.Prelude.{Vec}
 use Rattle.std.specs.Global.{Global}
 use Rattle.image_states.specs.Stores.{IsStored}
