@@ -75,6 +75,15 @@ asleep_few places (suc u) a h = by_test (cases_lt u (length places))
     by_test (inr most) = absurd (let none : None ≡ Some a =
         sym (ap place_of (get_or_past places u 0 most)) ∙ h in cc)
 
+-- where none has a place, none sleeps
+pub none_asleep : (places : List ℕ) → All (λ n. n ≡ 0) places → (t : ℕ) → asleep_at places t ≡ None
+none_asleep places all zero = refl
+none_asleep places all (suc t) = by_test (cases_lt t (length places))
+  where
+    by_test : (t < length places) ⊎ (length places ≤ t) → asleep_at places (suc t) ≡ None
+    by_test (inl less) = ap place_of (all t 0 less)
+    by_test (inr most) = ap place_of (get_or_past places t 0 most)
+
 pub few_of : (p : Program) (kept : KeptOf) (x : PackedOf) → IsMade p x → IsFew (kept_of p kept.parts x).state
 few_of p kept x made = record {
   most = suc (length x.places.items);

@@ -3,6 +3,7 @@
 #![tactic(auto)]
 
 mod apart;
+mod at_once;
 mod closing;
 mod ending;
 mod ends;

@@ -26,7 +26,7 @@ fn is_awake(kept: &KeptStates, place: u32, k: usize) -> bool
 }
 
 // Whether it can take a step in the state at a place.
-fn can_go(image: &Image, kept: &KeptStates, place: u32, k: usize) -> bool
+pub(crate) fn can_go(image: &Image, kept: &KeptStates, place: u32, k: usize) -> bool
     ensures { result ≡ true → HoldsAt image.now kept.now place (CanGo image.now (suc k)) }
 {
     let Some(t) = thread_number(k) else {
@@ -39,7 +39,7 @@ fn can_go(image: &Image, kept: &KeptStates, place: u32, k: usize) -> bool
 }
 
 // Whether it can take a step there, and whatever it does leads to what flagged states cover.
-fn leads_on(
+pub(crate) fn leads_on(
     alloc: Global,
     image: &Image,
     kept: &mut KeptStates,
@@ -240,7 +240,7 @@ fn mark_on(
 }
 
 // No place is flagged, of so many.
-fn no_flags(alloc: Global, count: usize) -> Result<Vec<bool>, AllocError>
+pub(crate) fn no_flags(alloc: Global, count: usize) -> Result<Vec<bool>, AllocError>
     ensures { IfOk result (λ flags. All (λ flag. flag ≡ false) flags.items) }
 {
     let mut flags = Vec::new(alloc);
@@ -251,7 +251,7 @@ fn no_flags(alloc: Global, count: usize) -> Result<Vec<bool>, AllocError>
 }
 
 // Whether all are flagged.
-fn are_all(flags: &[bool]) -> bool
+pub(crate) fn are_all(flags: &[bool]) -> bool
     ensures { result ≡ true → All (λ flag. flag ≡ true) flags.now }
 {
     for flag in flags {
@@ -297,7 +297,7 @@ fn all_live(
 }
 
 // Whether no more threads were made in each of these than can be.
-fn are_made(image: &Image, states: &[Packed]) -> bool
+pub(crate) fn are_made(image: &Image, states: &[Packed]) -> bool
     ensures { result ≡ true → All (IsMade image.now) states.now }
 {
     let most = image.version().most_processes() as usize;
@@ -310,7 +310,7 @@ fn are_made(image: &Image, states: &[Packed]) -> bool
 }
 
 // Whether no more than so many threads have a place to sleep in each of these.
-fn are_within(states: &[Packed], count: usize) -> bool
+pub(crate) fn are_within(states: &[Packed], count: usize) -> bool
     ensures { result ≡ true → All (λ x. length x.places.items ≤ count) states.now }
 {
     for packed in states {

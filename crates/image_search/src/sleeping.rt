@@ -8,6 +8,7 @@ ghost use Rattle.image_search.specs.Kept.{IsSound, states_of};
 ghost use Rattle.image_search.specs.Living.{IsStill};
 ghost use Rattle.image_search.specs.Sleeping.{AllSleepForGood, TellsOfSleepers};
 
+use crate::at_once::wakened_at_once;
 use crate::closing::is_closed;
 use crate::ending::{Doubt, Sleeping};
 use crate::flagged::is_flagged;
@@ -311,6 +312,27 @@ fn told_by(
     Ok(Sleeping::Unknown(Doubt::Wakes))
 }
 
+// The same where the steps are found once more.
+fn told_again(
+    alloc: Global,
+    image: &Image,
+    kept: &mut KeptStates,
+    outside: Outside,
+    scratch: &mut Scratch,
+) -> Result<Sleeping, AllocError>
+    requires sound { IsSound kept.old }
+    requires complete { IsCompleteBy image.now kept.old.parts.alone (may_of outside)
+        (states_of image.now kept.old) }
+    requires own { outside.strays ≡ false }
+    ensures told { IfOk result (TellsOfSleepers image.now (may_of outside)) }
+{
+    let mut graph = Graph::new(alloc);
+    if let Some(why) = graph.fill(alloc, image, kept, scratch)? {
+        return Ok(Sleeping::Unknown(Doubt::Nexts(why)));
+    }
+    told_by(alloc, image, kept, &graph, outside, scratch)
+}
+
 /// Whether a thread sleeps for good in a state that a schedule leads to, where all are kept.
 pub(crate) fn sleeping_of(
     alloc: Global,
@@ -327,9 +349,8 @@ pub(crate) fn sleeping_of(
     if outside.strays {
         return Ok(Sleeping::Unsought);
     }
-    let mut graph = Graph::new(alloc);
-    if let Some(why) = graph.fill(alloc, image, kept, scratch)? {
-        return Ok(Sleeping::Unknown(Doubt::Nexts(why)));
+    if wakened_at_once(alloc, image, kept, scratch)? {
+        return Ok(Sleeping::Never);
     }
-    told_by(alloc, image, kept, &graph, outside, scratch)
+    told_again(alloc, image, kept, outside, scratch)
 }

@@ -1,5 +1,6 @@
 pub mod Subsets
 pub mod Growing
+pub mod Storing
 pub mod Covering
 pub mod Served
 pub mod Choosing

@@ -8,3 +8,4 @@ pub mod Ends
 pub mod Forking
 pub mod Opening
 pub mod Requeues
+pub mod Stores

@@ -20,6 +20,7 @@ mod parts;
 mod requeuing;
 mod running;
 mod serving;
+mod stored;
 mod turns;
 mod waking;
 

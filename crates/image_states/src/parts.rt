@@ -1,8 +1,9 @@
 ghost use Rattle.std.specs.Prelude.{◌≡◌, ◌<◌, MatchOption, None, Some, true, IfOk, IfSome, OnOk, length, slice_index, slice_set};
 ghost use Rattle.std.specs.List.{slice_get};
-ghost use Rattle.image_states.specs.Packed.{IsGrown, words_in};
+ghost use Rattle.image_states.specs.Stores.{AreStored, IsStored};
 
 use crate::digest::{local_digest, word_digest};
+use crate::stored::{Stored, find_stored, make_room, note_stored};
 use digest_map::DigestMap;
 use isa::Image;
 use locals::Local;
@@ -27,6 +28,9 @@ pub struct Parts {
     local_numbers: DigestMap,
     // Those of the memories.
     memory_numbers: DigestMap,
+    // Which memory another one is with a word stored, of the stores that were looked for last.
+    stores: Vec<Stored>,
+    ghost stored: { AreStored memories.items stores.items },
 }
 
 // The word at this place of a memory with this word at an address.
@@ -76,6 +80,8 @@ fn copied(alloc: Global, old: &Mem) -> Result<Option<Mem>, AllocError>
 }
 
 impl Parts {
+    ghost use Rattle.image_states.specs.Packed.{IsGrown, words_in};
+
     /// No parts yet, of states in which the rest of a thread's exit is followed alone, behind its robust list, or isn't:
     /// where the thread has no pending entry and nobody sleeps on its id, it is taken to its end at once.
     pub fn new(alloc: Global, alone: bool) -> Parts
@@ -88,6 +94,7 @@ impl Parts {
             digests: Vec::new(alloc),
             local_numbers: DigestMap::new(alloc),
             memory_numbers: DigestMap::new(alloc),
+            stores: Vec::new(alloc),
         }
     }
 
@@ -309,6 +316,57 @@ impl Parts {
         if before == v {
             return Ok(Some(number));
         }
+        if let Some(found) = self.stored_before(number, a, v) {
+            return Ok(Some(found));
+        }
+        match self.store(alloc, number, a, before, v)? {
+            None => Ok(None),
+            Some(after) => {
+                self.note_store(alloc, number, a, v, after)?;
+                Ok(Some(after))
+            }
+        }
+    }
+
+    // The number of the memory of this number with this word at an address, where such a store is noted.
+    fn stored_before(&self, number: u32, a: Addr, v: u32) -> Option<u32>
+        ensures { IfSome result (IsStored self.now.memories.items number a.0 v) }
+    {
+        find_stored(self.stores.as_slice(), number, a.0, v)
+    }
+
+    // Notes a store.
+    fn note_store(
+        &mut self,
+        alloc: Global,
+        number: u32,
+        a: Addr,
+        v: u32,
+        after: u32,
+    ) -> Result<(), AllocError>
+        requires { IsStored self.old.memories.items number a.0 v after }
+        ensures grown { OnOk result (IsGrown self.old self.new) }
+        ensures same { OnOk result (self.new.memories ≡ self.old.memories) }
+    {
+        let count = self.memories.len();
+        make_room(alloc, &mut self.stores, count)?;
+        note_stored(&mut self.stores, number, a.0, v, after);
+        Ok(())
+    }
+
+    // The same that isn't noted.
+    fn store(
+        &mut self,
+        alloc: Global,
+        number: u32,
+        a: Addr,
+        before: u32,
+        v: u32,
+    ) -> Result<Option<u32>, AllocError>
+        ensures grown { OnOk result (IsGrown self.old self.new) }
+        ensures there { IfOk result (λ o. IfSome o (λ n. slice_get self.new.memories.items n
+            ≡ Some (slice_set (words_in self.old.memories.items number) a.0 v))) }
+    {
         let digest = self.digest_with(number, a, before, v);
         if let Some(found) = self.find_with(number, a, v, digest) {
             return Ok(Some(found));

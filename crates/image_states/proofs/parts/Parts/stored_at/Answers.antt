@@ -1,8 +1,9 @@
-use Rattle.std.proofs.Common.{◌≡◌, Some, slice_set, ap, sym, ◌∙◌}
-use Rattle.std.proofs.lemmas.Option.{IfSome_then}
-use Rattle.std.proofs.lemmas.Result.{IfOk-weaker}
-use Rattle.image_states.specs.Packed.{words_in}
-use Rattle.image_states.proofs.Growing.{grown_none, same_stored}
+use Rattle.std.proofs.Common.{ℕ, List, slice_get, ap, sym, ◌∙◌}
+use Rattle.std.specs.Prelude.{Vec}
+use Rattle.std.specs.Global.{Global}
+use Rattle.image_states.specs.Stores.{IsStored}
+use Rattle.image_states.proofs.Growing.{grown_none, grown_twice, same_stored}
+use Rattle.image_states.proofs.Storing.{stored_behind, stored_there}
 use Rattle.image_states.proofs.parts.Parts.stored_at.Goals as goal
 
 pub returns-then-before-v-clause-grown : goal.returns-then-before-v-clause-grown
@@ -16,12 +17,23 @@ returns-then-before-v-clause-there c =
 pub returns-in-Some-clause-grown : goal.returns-in-Some-clause-grown
 returns-in-Some-clause-grown c = grown_none c.args.self.now
 
-pub returns-in-None-clause-grown : goal.returns-in-None-clause-grown
-returns-in-None-clause-grown c = grown_none c.args.self.now
+pub returns-in-Some-clause-there : goal.returns-in-Some-clause-there
+returns-in-Some-clause-there c =
+    let is : IsStored c.args.self.now.memories.items c.args.number c.args.a.0 c.args.v c.in-Some.found =
+    rw c.in-Some.is at c.stored_before.ensures in
+    stored_there c.args.self.now.memories.items c.args.number c.args.a.0 c.args.v c.in-Some.found is
 
-pub returns-in-Some-2-clause-there : goal.returns-in-Some-2-clause-there
-returns-in-Some-2-clause-there c =
-    let is : c.in-Some-2.memory ≡ slice_set (words_in c.args.self.now.memories.items c.args.number) c.args.a.0 c.args.v =
-    rw c.in-Some-2.is at c.in_ok-with_word.ensures in
-    IfOk-weaker c.keep_memory.result _ _ (λ o h. IfSome_then o h (λ n there. there ∙ ap (λ ws. Some ws) is))
-    c.keep_memory.ensures.there
+pub note_store-requires : goal.note_store-requires
+note_store-requires c =
+    stored_behind c.args.self.now c.store.new.self c.in_ok-store.ensures.grown c.args.number c.args.a.0 c.args.v
+    c.in-Some-2.after c.requires.lies (rw c.in-Some-2.is at c.in_ok-store.ensures.there)
+
+pub returns-in_ok-note_store-in-Some-2-clause-grown : goal.returns-in_ok-note_store-in-Some-2-clause-grown
+returns-in_ok-note_store-in-Some-2-clause-grown c =
+    grown_twice c.args.self.now c.store.new.self c.note_store.new.self c.in_ok-store.ensures.grown
+    c.in_ok-note_store-in-Some-2.ensures.grown
+
+pub returns-in_ok-note_store-in-Some-2-clause-there : goal.returns-in_ok-note_store-in-Some-2-clause-there
+returns-in_ok-note_store-in-Some-2-clause-there c =
+    ap (λ (v : Vec (List ℕ) Global). slice_get v.items c.in-Some-2.after) c.in_ok-note_store-in-Some-2.ensures.same
+    ∙ (rw c.in-Some-2.is at c.in_ok-store.ensures.there)
