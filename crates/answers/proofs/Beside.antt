@@ -18,12 +18,10 @@ is_beside name text image own f compiled (inr (is, other)) =
     inr (is, record { own = own; compiled = compiled; other = other })
 
 -- an image of the same version that is the same
-pub is_compiled : {T E : Type 0} (r : Result T E) (text : List ℕ) (image own : Program)
-    → IsCompiledAs image.version text own → (own.version ≡ image.version → own ≡ image)
-    → OnOk r (IsCompiledAs image.version text image)
-is_compiled (Ok x) text image own compiled same =
+pub is_compiled : (text : List ℕ) (image own : Program) → IsCompiledAs image.version text own
+    → (own.version ≡ image.version → own ≡ image) → IsCompiledAs image.version text image
+is_compiled text image own compiled same =
     subst (λ (p : Program). IsCompiledAs image.version text p) (same (ap (λ (p : Program). p.version) compiled.code)) compiled
-is_compiled (Err e) text image own compiled same = tt
 
 pub is_listed : {E : Type 0} (r : Result Answer E) (linux more : Bool) (bytes second : List ℕ) (image : Program)
     → IsListed linux bytes image → OnOk r (more ≡ true → IsCompiledAs image.version second image)

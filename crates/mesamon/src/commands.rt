@@ -109,7 +109,7 @@ fn perform_job<R: Files + AllocGlobal + Threads + Wait + Sync, O: Write, E: Writ
     match done {
         Ok(answer) => finish(rt, &answer, asked, hints.as_str(), failures, output, errors),
         Err(left) => {
-            tell_more(&mut hints, left);
+            tell_more(rt.alloc(), &mut hints, left);
             tell_left(rt.alloc(), left, asked_hints(asked, hints.as_str()), errors)
         }
     }
@@ -147,7 +147,7 @@ fn tell_unput<E: Write>(
         failure.entry result }
 {
     let mut hints = String::new(alloc);
-    tell_more(&mut hints, NoAnswer::Failed(failure));
+    tell_more(alloc, &mut hints, NoAnswer::Failed(failure));
     tell_failed(alloc, failure, asked_hints(asked, hints.as_str()), errors)
 }
 

@@ -1,4 +1,4 @@
-use Rattle.std.proofs.Common.{List, ℕ, IfErr, Result, subst, sym}
+use Rattle.std.proofs.Common.{◌≡◌, List, ℕ, IfErr, Result, subst, sym}
 use Rattle.assembler.specs.Listings.{RefusesText}
 use Rattle.commandline.specs.declared.options.ImageForm.{ImageForm}
 use Rattle.answers.specs.Causes.{HasNoImage, IsNoImage}

@@ -1,4 +1,4 @@
-use Rattle.std.proofs.Common.{Bool, IfErr, List, Result, subst, sym, ℕ}
+use Rattle.std.proofs.Common.{◌≡◌, Bool, IfErr, List, Result, subst, sym, ℕ}
 use Rattle.answers.specs.Causes.{CannotList, IsNoImage}
 use Rattle.answers.specs.Done.{RefusesListed}
 use Rattle.answers.specs.Failures.{IsLeftBy}

@@ -28,8 +28,8 @@ returns-in_err-listing_beside-in-Ok-clause-left c =
     (subst (λ (v : ImageVersion). IsCompiledAs v text c.in-Ok.lowered.image) c.version.ensures.value
     c.in-Ok.ensures.compiled.compiled) c.in_err-listing_beside-in-Ok.ensures.failed))
 
-pub returns-in-Ok-clause-same : goal.returns-in-Ok-clause-same
-returns-in-Ok-clause-same c =
+pub returns-in_ok-listing_beside-in-Ok-clause-same : goal.returns-in_ok-listing_beside-in-Ok-clause-same
+returns-in_ok-listing_beside-in-Ok-clause-same c =
     is_compiled c.args.text.now.bytes.now c.args.image.now c.in-Ok.lowered.image
     (subst (λ (v : ImageVersion). IsCompiledAs v c.args.text.now.bytes.now c.in-Ok.lowered.image) c.version.ensures.value
     c.in-Ok.ensures.compiled.compiled) c.in_ok-listing_beside-in-Ok.ensures.same

@@ -11,6 +11,6 @@ returns-in-Ok-clause-done g c =
 pub returns-in-Ok-clause-left : goal.returns-in-Ok-clause-left
 returns-in-Ok-clause-left g c = no_memory c.of_report.result _ _ _ c.of_report.ensures.failed
 
-pub returns-clause-left : goal.returns-clause-left
-returns-clause-left g c =
+pub returns-in-Err-clause-left : goal.returns-in-Err-clause-left
+returns-in-Err-clause-left g c =
     run_fails c.args.options c.args.image.now c.in-Err.fault c.from.result c.in-Err.ensures.err c.from.ensures
