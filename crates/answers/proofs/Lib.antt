@@ -1,4 +1,5 @@
 pub mod RunsExplained
+mod Beside
 mod Explored
 mod Failing
 mod Hinted

@@ -67,10 +67,11 @@ abbrev pub IsListed : (linux : Bool) → (bytes : List ℕ) → Program → Type
 IsListed false bytes image = HasByte image.version × IsSpelled image × (spelling image ≡ bytes)
 IsListed true bytes image = IsCompiledAs Linux bytes image
 
--- the lines of its instructions were told
-pub record HasListed (linux more : Bool) (bytes : List ℕ) (a : Answer) : Type 0 where
+-- the lines of its instructions were told; where a source is named it is that one's image
+pub record HasListed (linux more : Bool) (bytes second : List ℕ) (a : Answer) : Type 0 where
   pub image : Program
   pub is : IsListed linux bytes image
+  pub beside : more ≡ true → IsCompiledAs image.version second image
   pub tells : TellsLines more (lines 0 image.code) a
 
 -- the text was run so, and that was told and logged, and shown on a page where that is wanted

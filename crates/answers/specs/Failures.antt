@@ -12,6 +12,10 @@ use Rattle.scanner.specs.declared.refusal.Refusal.{Refusal}
 use Rattle.scanner.specs.declared.refusal.RefusalKind.TheVariants as kind
 use Rattle.runner.specs.declared.fault.RunFault.{RunFault}
 use Rattle.runner.specs.declared.fault.RunFault.TheVariants as fault
+use Rattle.runner.specs.declared.schedule.ScheduleFault.{ScheduleFault}
+use Rattle.runner.specs.declared.schedule.ScheduleFault.TheVariants as schedule
+use Rattle.schedules.specs.declared.shrinking.ShrinkFault.{ShrinkFault}
+use Rattle.schedules.specs.declared.shrinking.ShrinkFault.TheVariants as shrink
 use Rattle.answers.specs.declared.source_run.RunSourceFault.{RunSourceFault}
 use Rattle.answers.specs.declared.source_run.RunSourceFault.TheVariants as source
 use Rattle.answers.specs.declared.replaying.ReplayFault.{ReplayFault}
@@ -21,7 +25,8 @@ use Rattle.answers.specs.declared.explained_run.ExplainSourceFault.TheVariants a
 use Rattle.answers.specs.declared.source_log.SourceLogFault.{SourceLogFault}
 use Rattle.answers.specs.declared.source_log.SourceLogFault.TheVariants as log
 use Rattle.answers.specs.declared.failure.Failure.{Failure}
-use Rattle.answers.specs.declared.failure.Failure.TheVariants.{Image, Run, Schedule, LogLine, LogEntry, LogSteps, Memory}
+use Rattle.answers.specs.declared.failure.Failure.TheVariants.{Image, Run, Schedule, Broken, NoFailure}
+use Rattle.answers.specs.declared.failure.Failure.TheVariants.{LogLine, LogEntry, LogSteps, Memory}
 use Rattle.answers.specs.declared.failure.NoAnswer.{NoAnswer}
 use Rattle.answers.specs.declared.failure.NoAnswer.TheVariants.{Refused, Unassembled, Failed}
 
@@ -65,6 +70,18 @@ OfReplay (replay.Refused e) n = OfRefusal e n
 OfReplay (replay.BadEntry number) n = n ≡ Failed (Schedule number)
 OfReplay replay.Memory n = n ≡ Failed Memory
 
+-- what comes of a fault of a schedule
+abbrev pub OfSchedule : ScheduleFault → NoAnswer → Type 0
+OfSchedule (schedule.BadEntry number) n = n ≡ Failed (Schedule number)
+OfSchedule (schedule.Broken number) n = n ≡ Failed (Broken number)
+OfSchedule schedule.Memory n = n ≡ Failed Memory
+
+-- what comes of one that isn't made shorter
+abbrev pub OfShrink : ShrinkFault → NoAnswer → Type 0
+OfShrink (shrink.Schedule fault) n = OfSchedule fault n
+OfShrink shrink.NoFailure n = n ≡ Failed NoFailure
+OfShrink shrink.Memory n = n ≡ Failed Memory
+
 -- what comes of a fault of `explain`
 abbrev pub OfExplain : ExplainSourceFault → NoAnswer → Type 0
 OfExplain (explain.Refused e) n = OfRefusal e n
@@ -78,29 +95,22 @@ OfSourceLog (log.Entry number) n = n ≡ Failed (LogEntry number)
 OfSourceLog (log.Steps most) n = n ≡ Failed (LogSteps most)
 OfSourceLog log.Memory n = n ≡ Failed Memory
 
--- where it is a refusal, it is one of this kind
-abbrev pub IsRefusalBy : (Refusal → Type 0) → NoAnswer → Type 0
-IsRefusalBy Refuses (Refused e) = Refuses e
-IsRefusalBy Refuses (Unassembled e) = ⊥
-IsRefusalBy Refuses (Failed f) = Unit {0}
-
--- the same, and else there is no memory
+-- where it is a refusal, it is one of this kind, and else there is no memory
 abbrev pub IsRefusalOrMemory : (Refusal → Type 0) → NoAnswer → Type 0
 IsRefusalOrMemory Refuses (Refused e) = Refuses e
 IsRefusalOrMemory Refuses (Unassembled e) = ⊥
 IsRefusalOrMemory Refuses (Failed f) = f ≡ Memory
 
--- where it is a failure, it is one of this kind
-abbrev pub IsFailureBy : (Failure → Type 0) → NoAnswer → Type 0
-IsFailureBy Fails (Refused e) = Unit {0}
-IsFailureBy Fails (Unassembled e) = Unit {0}
-IsFailureBy Fails (Failed f) = Fails f
+-- there is no memory, or what failed has such a cause
+abbrev pub OrMemory : (Failure → Type 0) → Failure → Type 0
+OrMemory Fails f = (f ≡ Memory) ⊎ Fails f
 
--- where it is a refusal of a source text, or of an assembly text, it is one of this kind
-abbrev pub IsLeftBy : (Refusal → Type 0) → (AssemblyRefusal → Type 0) → NoAnswer → Type 0
-IsLeftBy Refuses Unassembles (Refused e) = Refuses e
-IsLeftBy Refuses Unassembles (Unassembled e) = Unassembles e
-IsLeftBy Refuses Unassembles (Failed f) = Unit {0}
+-- why there is no answer: a refusal of this kind, of a source text or of an assembly text; or there is no memory, or what
+-- failed has such a cause
+abbrev pub IsLeftBy : (Refusal → Type 0) → (AssemblyRefusal → Type 0) → (Failure → Type 0) → NoAnswer → Type 0
+IsLeftBy Refuses Unassembles Fails (Refused e) = Refuses e
+IsLeftBy Refuses Unassembles Fails (Unassembled e) = Unassembles e
+IsLeftBy Refuses Unassembles Fails (Failed f) = OrMemory Fails f
 
 -- it is want of memory
 abbrev pub HasNoMemory : NoAnswer → Type 0

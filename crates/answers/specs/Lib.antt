@@ -19,3 +19,4 @@ pub mod Images
 pub mod Scheduling
 pub mod Shrinking
 pub mod Done
+pub mod Causes

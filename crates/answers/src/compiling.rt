@@ -63,7 +63,8 @@ pub fn answer_assemble<'a>(
     out: &'a str,
 ) -> Result<Answer<'a>, NoAnswer<'a>>
     ensures done { IfOk result (HasAssembled out.entry text.now.bytes.now) }
-    ensures refused { IfErr result (IsLeftBy (λ e. ⊥) (RefusesAssembly text.now.bytes.now)) }
+    ensures left { IfErr result
+        (IsLeftBy (λ e. ⊥) (RefusesAssembly text.now.bytes.now) (λ f. ⊥)) }
 {
     let assembled = assemble(alloc, text.bytes)?;
     image_answer(alloc, &assembled.image, out)

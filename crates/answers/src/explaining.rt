@@ -5,19 +5,20 @@ ghost use Rattle.answers.specs.Asked.{IsExplainedAs};
 ghost use Rattle.answers.specs.Answers.{AreTold};
 ghost use Rattle.answers.specs.Done.{HasExplained, TellsRun, explained_lines};
 ghost use Rattle.answers.specs.Explaining.{IsExplanation};
-ghost use Rattle.answers.specs.Failures.{HasNoMemory, IsRefusalBy};
+ghost use Rattle.answers.specs.Causes.{FailsExplanation, FailsTextLog, FailsTextTurns};
+ghost use Rattle.answers.specs.Failures.{HasNoMemory, IsLeftBy};
 ghost use Rattle.answers.specs.Replaying.{IsReplayOfText};
 ghost use Rattle.answers.specs.LogLimits.{HasFewSteps};
-ghost use Rattle.answers.specs.SourceLog.{IsExplanationOfLog};
+ghost use Rattle.answers.specs.SourceLog.{HasBadEntry, IsExplanationOfLog};
 ghost use Rattle.answers.specs.Turns.{turns_in};
 ghost use Rattle.answers.specs.Answers.{AreDrawn};
 
 use crate::answer::{Answer, OutFiles, status_of};
 use crate::drawing::{Drawings, ShownRun};
 use crate::explained_run::{ExplainedRun, explain_by_seed, explain_schedule, explain_source};
-use crate::failure::{Failure, NoAnswer};
+use crate::failure::NoAnswer;
 use crate::hinting::SourceText;
-use crate::log_limits::log_bytes;
+use crate::log_limits::check_bytes;
 use crate::schedule::schedule_of;
 use crate::source_log::explain_log_text;
 use crate::telling::{tell_explained, told_entry, told_turn};
@@ -41,8 +42,9 @@ pub fn answer_explain<'a>(
 ) -> Result<Answer<'a>, NoAnswer<'a>>
     ensures done { IfOk result (HasExplained (version_by text.now.exits) by.entry second.now places
         drawings.entry.chart drawings.entry.timeline drawings.entry.page text.now.bytes.now) }
-    ensures refused { IfErr result
-        (IsRefusalBy (RefusesTextAs (version_by text.now.exits) text.now.bytes.now)) }
+    ensures left { IfErr result
+        (IsLeftBy (RefusesTextAs (version_by text.now.exits) text.now.bytes.now) (λ e. ⊥)
+        (FailsExplanation (version_by text.now.exits) by.entry text.now.bytes.now second.now)) }
 {
     let run = explain_by(alloc, text, second, by, told)?;
     tell_explained(alloc, told, text, &run, by);
@@ -136,8 +138,9 @@ fn explain_by<'a, 't>(
 ) -> Result<ExplainedRun<'t>, NoAnswer<'a>>
     ensures run { IfOk result (λ run. IsExplainedAs (version_by text.now.exits) by.entry
         second.now text.now.bytes.now run) }
-    ensures refused { IfErr result
-        (IsRefusalBy (RefusesTextAs (version_by text.now.exits) text.now.bytes.now)) }
+    ensures left { IfErr result
+        (IsLeftBy (RefusesTextAs (version_by text.now.exits) text.now.bytes.now) (λ e. ⊥)
+        (FailsExplanation (version_by text.now.exits) by.entry text.now.bytes.now second.now)) }
 {
     match by {
         ExplainedBy::Order { steps } => Ok(explain_source(alloc, text.bytes, text.exits, steps)?),
@@ -161,8 +164,9 @@ fn explain_turns<'a, 't>(
 ) -> Result<ExplainedRun<'t>, NoAnswer<'a>>
     ensures run { IfOk result (λ run. IsExplanation (version_by text.now.exits) text.now.bytes.now
         (IsReplayOfText (version_by text.now.exits) text.now.bytes.now (turns_in schedule.now)) run) }
-    ensures refused { IfErr result
-        (IsRefusalBy (RefusesTextAs (version_by text.now.exits) text.now.bytes.now)) }
+    ensures left { IfErr result
+        (IsLeftBy (RefusesTextAs (version_by text.now.exits) text.now.bytes.now) (λ e. ⊥)
+        (FailsTextTurns (version_by text.now.exits) text.now.bytes.now schedule.now)) }
 {
     let turns = schedule_of(alloc, schedule)?;
     match explain_schedule(alloc, text.bytes, text.exits, turns.as_slice()) {
@@ -182,12 +186,12 @@ fn explain_log<'a, 't>(
     ensures run { IfOk result
         (λ run. IsExplanationOfLog (version_by text.now.exits) text.now.bytes.now
         lines.now run × HasFewSteps lines.now steps) }
-    ensures refused { IfErr result
-        (IsRefusalBy (RefusesTextAs (version_by text.now.exits) text.now.bytes.now)) }
+    ensures left { IfErr result
+        (IsLeftBy (RefusesTextAs (version_by text.now.exits) text.now.bytes.now) (λ e. ⊥)
+        (FailsTextLog (HasBadEntry (version_by text.now.exits) text.now.bytes.now lines.now)
+        steps text.now.bytes.now lines.now)) }
 {
-    if lines.len() > log_bytes(steps) {
-        return Err(NoAnswer::Failed(Failure::LogBytes(log_bytes(steps))));
-    }
+    check_bytes(lines, steps)?;
     match explain_log_text(alloc, text.bytes, text.exits, lines, steps) {
         Ok(run) => Ok(run),
         Err(fault) => Err(told_entry(alloc, told, text, lines, fault)),

@@ -3,7 +3,7 @@ ghost use Rattle.std.specs.IoError.{error_kind};
 ghost use Rattle.answers.specs.declared.failure.Failure.TheVariants.{Memory as memory};
 ghost use Rattle.answers.specs.declared.failure.NoAnswer.TheVariants.{Failed as failed};
 ghost use Rattle.answers.specs.Failures.{OfAssembly, OfExplain, OfFault, OfImage, OfIo, OfRefusal};
-ghost use Rattle.answers.specs.Failures.{OfReplay, OfRun, OfSource, OfSourceLog};
+ghost use Rattle.answers.specs.Failures.{OfReplay, OfRun, OfSchedule, OfShrink, OfSource, OfSourceLog};
 
 use crate::explained_run::ExplainSourceFault;
 use crate::replaying::ReplayFault;
@@ -12,8 +12,9 @@ use crate::source_run::RunSourceFault;
 use assembler::{AssemblyFault, AssemblyRefusal};
 use devices::ReadFault;
 use isa::DecodeFault;
-use runner::RunFault;
+use runner::{RunFault, ScheduleFault};
 use scanner::{Refusal, RefusalKind};
+use schedules::ShrinkFault;
 use std::alloc::AllocError;
 use std::io;
 use thiserror::Error;
@@ -220,6 +221,30 @@ impl From<ReplayFault> for NoAnswer<'_> {
             ReplayFault::Refused(refusal) => NoAnswer::from(refusal),
             ReplayFault::BadEntry(number) => NoAnswer::Failed(Failure::Schedule(number)),
             ReplayFault::Memory => NoAnswer::Failed(Failure::Memory),
+        }
+    }
+}
+
+impl From<ScheduleFault> for NoAnswer<'_> {
+    ghost from_gives = { OfSchedule };
+
+    fn from(fault: ScheduleFault) -> Self {
+        match fault {
+            ScheduleFault::BadEntry(number) => NoAnswer::Failed(Failure::Schedule(number)),
+            ScheduleFault::Broken(number) => NoAnswer::Failed(Failure::Broken(number)),
+            ScheduleFault::Memory => NoAnswer::Failed(Failure::Memory),
+        }
+    }
+}
+
+impl From<ShrinkFault> for NoAnswer<'_> {
+    ghost from_gives = { OfShrink };
+
+    fn from(fault: ShrinkFault) -> Self {
+        match fault {
+            ShrinkFault::Schedule(fault) => NoAnswer::from(fault),
+            ShrinkFault::NoFailure => NoAnswer::Failed(Failure::NoFailure),
+            ShrinkFault::Memory => NoAnswer::Failed(Failure::Memory),
         }
     }
 }

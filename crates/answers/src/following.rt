@@ -1,4 +1,6 @@
 ghost use Rattle.std.specs.Prelude.{◌≡◌, IfOk, IfErr};
+ghost use Rattle.answers.specs.Causes.{CannotRunBy, FailsBy, FailsFollowing, FailsImage, FailsLog, FailsTurns};
+ghost use Rattle.answers.specs.Causes.{HasNoImage};
 ghost use Rattle.answers.specs.Failures.{IsLeftBy};
 ghost use Rattle.answers.specs.Images.{FollowsImage, HasFollowed, IsFollowedAs, IsFollowedByLines, IsImageBy};
 ghost use Rattle.answers.specs.Images.{IsImageOf, IsRunBy, UnassemblesAs, is_first};
@@ -9,14 +11,14 @@ use crate::answer::Answer;
 use crate::failure::{Failure, NoAnswer};
 use crate::hinting::SourceText;
 use crate::images::image_of;
-use crate::log_limits::log_bytes;
+use crate::log_limits::check_bytes;
 use crate::running::log_beside;
 use crate::schedule::schedule_of;
 use crate::source_log::{entries_of, follow_entries};
 use assembler::{Assembled, assemble};
 use commandline::{Exits, ImageForm, ReplayedBy};
 use isa::Image;
-use runner::{Report, ScheduleFault, follow};
+use runner::{Report, follow};
 use std::alloc::Global;
 use words::ImageVersion;
 
@@ -31,7 +33,8 @@ pub fn answer_follow<'a>(
 ) -> Result<Answer<'a>, NoAnswer<'a>>
     ensures done { IfOk result (HasFollowed text.now.exits form by.entry trace
         text.now.bytes.now second.now) }
-    ensures refused { IfErr result (IsLeftBy (λ e. ⊥) (UnassemblesAs form text.now.bytes.now)) }
+    ensures left { IfErr result (IsLeftBy (λ e. ⊥) (UnassemblesAs form text.now.bytes.now)
+        (FailsFollowing text.now.exits form by.entry text.now.bytes.now second.now)) }
 {
     let formed = formed_image(alloc, text, form)?;
     follow_image(alloc, &formed.image, second, by, trace)
@@ -46,7 +49,8 @@ pub fn formed_image<'t, 'a>(
 ) -> Result<Assembled<'t>, NoAnswer<'a>>
     ensures image { IfOk result
         (λ formed. IsImageBy text.now.exits form text.now.bytes.now formed.image) }
-    ensures refused { IfErr result (IsLeftBy (λ e. ⊥) (UnassemblesAs form text.now.bytes.now)) }
+    ensures left { IfErr result (IsLeftBy (λ e. ⊥) (UnassemblesAs form text.now.bytes.now)
+        (FailsImage text.now.exits form text.now.bytes.now)) }
 {
     let formed = own_image(alloc, text.bytes, form)?;
     run_by(formed, text.exits)
@@ -55,7 +59,8 @@ pub fn formed_image<'t, 'a>(
 // An image, as it is run by this rule of exits.
 fn run_by<'t, 'a>(formed: Assembled<'t>, exits: Exits) -> Result<Assembled<'t>, NoAnswer<'a>>
     ensures image { IfOk result (λ run. IsRunBy exits formed.entry.image run.image) }
-    ensures refused { IfErr result (IsLeftBy (λ e. ⊥) (λ e. ⊥)) }
+    ensures left { IfErr result
+        (IsLeftBy (λ e. ⊥) (λ e. ⊥) (CannotRunBy exits formed.entry.image)) }
 {
     match exits {
         Exits::Machine => Ok(formed),
@@ -66,7 +71,8 @@ fn run_by<'t, 'a>(formed: Assembled<'t>, exits: Exits) -> Result<Assembled<'t>, 
 // By Linux's, unless it is of the first version.
 fn run_by_linux<'t, 'a>(formed: Assembled<'t>) -> Result<Assembled<'t>, NoAnswer<'a>>
     ensures image { IfOk result (λ run. IsRunBy Exits.Linux formed.entry.image run.image) }
-    ensures refused { IfErr result (IsLeftBy (λ e. ⊥) (λ e. ⊥)) }
+    ensures left { IfErr result
+        (IsLeftBy (λ e. ⊥) (λ e. ⊥) (CannotRunBy Exits.Linux formed.entry.image)) }
 {
     let Assembled {
         image,
@@ -100,7 +106,8 @@ fn own_image<'t, 'a>(
     form: ImageForm,
 ) -> Result<Assembled<'t>, NoAnswer<'a>>
     ensures image { IfOk result (λ formed. IsImageOf form bytes.now formed.image) }
-    ensures refused { IfErr result (IsLeftBy (λ e. ⊥) (UnassemblesAs form bytes.now)) }
+    ensures left { IfErr result
+        (IsLeftBy (λ e. ⊥) (UnassemblesAs form bytes.now) (HasNoImage form bytes.now)) }
 {
     match form {
         ImageForm::Assembly => Ok(assemble(alloc, bytes)?),
@@ -128,7 +135,8 @@ fn follow_image<'a>(
     trace: bool,
 ) -> Result<Answer<'a>, NoAnswer<'a>>
     ensures done { IfOk result (FollowsImage image.now by.entry trace second.now) }
-    ensures refused { IfErr result (IsLeftBy (λ e. ⊥) (λ e. ⊥)) }
+    ensures left { IfErr result
+        (IsLeftBy (λ e. ⊥) (λ e. ⊥) (FailsBy by.entry image.now second.now)) }
 {
     let report = followed_by(alloc, image, second, by)?;
     let log = log_beside(by);
@@ -143,7 +151,8 @@ fn followed_by<'a>(
     by: ReplayedBy<'a>,
 ) -> Result<Report, NoAnswer<'a>>
     ensures report { IfOk result (IsFollowedAs by.entry image.now second.now) }
-    ensures refused { IfErr result (IsLeftBy (λ e. ⊥) (λ e. ⊥)) }
+    ensures left { IfErr result
+        (IsLeftBy (λ e. ⊥) (λ e. ⊥) (FailsBy by.entry image.now second.now)) }
 {
     match by {
         ReplayedBy::Schedule { .. } => followed(alloc, image, second),
@@ -159,11 +168,9 @@ fn followed_by_lines<'a>(
     steps: u32,
 ) -> Result<Report, NoAnswer<'a>>
     ensures report { IfOk result (IsFollowedByLines image.now lines.now steps) }
-    ensures refused { IfErr result (IsLeftBy (λ e. ⊥) (λ e. ⊥)) }
+    ensures left { IfErr result (IsLeftBy (λ e. ⊥) (λ e. ⊥) (FailsLog image.now steps lines.now)) }
 {
-    if lines.len() > log_bytes(steps) {
-        return Err(NoAnswer::Failed(Failure::LogBytes(log_bytes(steps))));
-    }
+    check_bytes(lines, steps)?;
     let entries = entries_of(alloc, lines, steps)?;
     let report = follow_entries(alloc, image, entries.iter())?;
     Ok(report)
@@ -172,13 +179,9 @@ fn followed_by_lines<'a>(
 // That of a run by the schedule that these bytes are.
 fn followed<'a>(alloc: Global, image: &Image, schedule: &[u8]) -> Result<Report, NoAnswer<'a>>
     ensures report { IfOk result (IsFollowed image.now (turns_in schedule.now)) }
-    ensures refused { IfErr result (IsLeftBy (λ e. ⊥) (λ e. ⊥)) }
+    ensures left { IfErr result (IsLeftBy (λ e. ⊥) (λ e. ⊥) (FailsTurns image.now schedule.now)) }
 {
     let turns = schedule_of(alloc, schedule)?;
-    match follow(alloc, image, turns.as_slice()) {
-        Ok(report) => Ok(report),
-        Err(ScheduleFault::BadEntry(number)) => Err(NoAnswer::Failed(Failure::Schedule(number))),
-        Err(ScheduleFault::Broken(number)) => Err(NoAnswer::Failed(Failure::Broken(number))),
-        Err(ScheduleFault::Memory) => Err(NoAnswer::Failed(Failure::Memory)),
-    }
+    let report = follow(alloc, image, turns.as_slice())?;
+    Ok(report)
 }

@@ -20,8 +20,8 @@ pub struct SourceText<'a> {
     pub hints: bool,
 }
 
-// Appends a text, where there is memory for it.
-fn push_told(told: &mut String, more: &str)
+/// Appends a text, where there is memory for it.
+pub(crate) fn push_told(told: &mut String, more: &str)
     ensures { (string_bytes told.new ≡ string_bytes told.old ++ more.now)
         ⊎ (string_bytes told.new ≡ string_bytes told.old) }
 {

@@ -1,10 +1,11 @@
-ghost use Rattle.std.specs.Prelude.{IfOk, IfErr, is_some, string_bytes, ◌⊎◌};
+ghost use Rattle.std.specs.Prelude.{◌≡◌, ◌⊎◌, IfOk, IfErr, OnOk, Some, false, is_some, string_bytes, true};
 ghost use Rattle.compiler.specs.Accepts.{RefusesTextAs};
 ghost use Rattle.isa.specs.Lines.{lines};
 ghost use Rattle.answers.specs.Answers.{AreTold};
 ghost use Rattle.answers.specs.Done.{HasListed, IsListed, RefusesListed, RefusesListing, TellsLines};
 ghost use Rattle.compiler.specs.Compiles.{IsCompiledAs};
-ghost use Rattle.answers.specs.Failures.{IsRefusalBy};
+ghost use Rattle.answers.specs.Causes.{CannotList, FailsListing, IsBesideAnother};
+ghost use Rattle.answers.specs.Failures.{IsLeftBy, OrMemory};
 
 use crate::answer::{Answer, OutFiles};
 use crate::failure::{Failure, NoAnswer};
@@ -13,15 +14,20 @@ use crate::images::image_of;
 use crate::status::Status;
 use commandline::Exits;
 use compiler::{compile_as, compile_checked_as};
-use isa::{Image, encode, list_lines};
+use isa::{Image, encode, list_lines, one_spelling};
 use line_tails::put_beside;
 use program::Checked;
 use source_listing::{Listing, listing_of};
 use std::alloc::{AllocError, Global};
 use words::ImageVersion;
 
-// Whether two images are one.
-fn are_same(alloc: Global, a: &Image, b: &Image) -> Result<bool, AllocError> {
+// Whether two images of one version are one.
+fn are_same(alloc: Global, a: &Image, b: &Image) -> Result<bool, AllocError>
+    ensures same { IfOk result
+        (λ same. same ≡ true → a.now.version ≡ b.now.version → a.now ≡ b.now) }
+    ensures other { IfOk result (λ same. same ≡ false → a.now ≡ b.now → ⊥) }
+{
+    one_spelling();
     let first = encode(alloc, a)?;
     let second = encode(alloc, b)?;
     Ok(first.as_slice() == second.as_slice())
@@ -35,8 +41,12 @@ fn listing_beside<'a>(
     checked: &Checked,
     own: &Image,
     image: &Image,
-) -> Result<Listing, Failure<'a>> {
-    if !are_same(alloc, image, own)? {
+) -> Result<Listing, Failure<'a>>
+    ensures same { OnOk result (own.now.version ≡ image.now.version → own.now ≡ image.now) }
+    ensures failed { IfErr result
+        (OrMemory (λ f. (f ≡ Failure.OtherImage source.entry) × (own.now ≡ image.now → ⊥))) }
+{
+    if !are_same(alloc, own, image)? {
         return Err(Failure::OtherImage(source));
     }
     Ok(listing_of(alloc, text, checked, image.version(), image.code())?)
@@ -50,7 +60,10 @@ fn listing_of_text<'a>(
     image: &Image,
     told: &mut String,
 ) -> Result<Listing, NoAnswer<'a>>
-    ensures { IfErr result (IsRefusalBy (RefusesTextAs image.now.version text.now.bytes.now)) }
+    ensures same { OnOk result (IsCompiledAs image.now.version text.now.bytes.now image.now) }
+    ensures left { IfErr result
+        (IsLeftBy (RefusesTextAs image.now.version text.now.bytes.now) (λ e. ⊥)
+        (IsBesideAnother (Some source.entry) text.now.bytes.now image.now)) }
 {
     match compile_checked_as(alloc, text.bytes, image.version()) {
         Ok((checked, lowered)) => {
@@ -76,7 +89,10 @@ fn lines_beside<'a>(
 ) -> Result<Vec<u8>, NoAnswer<'a>>
     ensures told { IfOk result
         (λ v. AreTold (is_some source.entry) (string_bytes lines) v.items) }
-    ensures refused { IfErr result (IsRefusalBy (RefusesTextAs image.now.version second.now)) }
+    ensures same { OnOk result
+        (is_some source.entry ≡ true → IsCompiledAs image.now.version second.now image.now) }
+    ensures left { IfErr result (IsLeftBy (RefusesTextAs image.now.version second.now) (λ e. ⊥)
+        (IsBesideAnother source.entry second.now image.now)) }
 {
     let Some(source) = source else {
         return Ok(lines.into_bytes());
@@ -101,7 +117,10 @@ fn list_image<'a>(
     told: &mut String,
 ) -> Result<Answer<'a>, NoAnswer<'a>>
     ensures done { IfOk result (TellsLines (is_some source.entry) (lines 0 image.now.code)) }
-    ensures refused { IfErr result (IsRefusalBy (RefusesTextAs image.now.version second.now)) }
+    ensures same { OnOk result
+        (is_some source.entry ≡ true → IsCompiledAs image.now.version second.now image.now) }
+    ensures left { IfErr result (IsLeftBy (RefusesTextAs image.now.version second.now) (λ e. ⊥)
+        (IsBesideAnother source.entry second.now image.now)) }
 {
     let lines = list_lines(alloc, image)?;
     let output = lines_beside(alloc, image, source, second, hints, lines, told)?;
@@ -116,8 +135,8 @@ fn code_for_linux<'a>(
     told: &mut String,
 ) -> Result<Image, NoAnswer<'a>>
     ensures image { IfOk result (IsCompiledAs ImageVersion.Linux text.now.bytes.now) }
-    ensures refused { IfErr result
-        (IsRefusalBy (RefusesTextAs ImageVersion.Linux text.now.bytes.now)) }
+    ensures left { IfErr result
+        (IsLeftBy (RefusesTextAs ImageVersion.Linux text.now.bytes.now) (λ e. ⊥) (λ f. ⊥)) }
 {
     match compile_as(alloc, text.bytes, ImageVersion::Linux) {
         Ok(image) => Ok(image),
@@ -144,7 +163,8 @@ fn listed_image<'a>(
     told: &mut String,
 ) -> Result<Image, NoAnswer<'a>>
     ensures image { IfOk result (IsListed linux text.now.bytes.now) }
-    ensures refused { IfErr result (IsRefusalBy (RefusesListed linux text.now.bytes.now)) }
+    ensures left { IfErr result (IsLeftBy (RefusesListed linux text.now.bytes.now) (λ e. ⊥)
+        (CannotList linux text.now.bytes.now)) }
 {
     if linux {
         code_for_linux(alloc, text, hints, told)
@@ -165,9 +185,11 @@ pub fn answer_list<'a>(
     hints: bool,
     told: &mut String,
 ) -> Result<Answer<'a>, NoAnswer<'a>>
-    ensures done { IfOk result (HasListed linux (is_some source.entry) text.now.bytes.now) }
-    ensures refused { IfErr result
-        (IsRefusalBy (RefusesListing linux text.now.bytes.now second.now)) }
+    ensures done { IfOk result
+        (HasListed linux (is_some source.entry) text.now.bytes.now second.now) }
+    ensures left { IfErr result
+        (IsLeftBy (RefusesListing linux text.now.bytes.now second.now) (λ e. ⊥)
+        (FailsListing linux source.entry text.now.bytes.now second.now)) }
 {
     let image = listed_image(alloc, text, linux, hints, told)?;
     list_image(alloc, &image, source, second, hints, told)

@@ -1,7 +1,8 @@
-ghost use Rattle.std.specs.Prelude.{◌≡◌, ◌≤◌, ◌<◌, ◌+◌, ◌^◌, true, false};
+ghost use Rattle.std.specs.Prelude.{◌≡◌, ◌≤◌, ◌<◌, ◌+◌, ◌^◌, IfErr, length, true, false};
 ghost use Rattle.runner.specs.Logs.{cost, event_cost};
 ghost use Rattle.answers.specs.LogLimits.{log_bytes};
 
+use crate::failure::Failure;
 use machine::Entry;
 use packed_log::LogReader;
 
@@ -17,6 +18,18 @@ pub fn log_bytes(steps: u32) -> usize
     ensures few { (2 ^ 20 ≤ result) × (result < 2 ^ 40) }
 {
     STEP_BYTES * steps as usize + MORE_BYTES
+}
+
+/// Refuses the lines of a log that has more bytes than one of at most so many steps may have.
+pub fn check_bytes<'a>(lines: &[u8], steps: u32) -> Result<(), Failure<'a>>
+    ensures { IfErr result (λ f. (f ≡ Failure.LogBytes (log_bytes steps))
+        × (log_bytes steps < length lines.now)) }
+{
+    let most = log_bytes(steps);
+    if lines.len() > most {
+        return Err(Failure::LogBytes(most));
+    }
+    Ok(())
 }
 
 /// Whether a log has at most so many steps.

@@ -3,21 +3,23 @@ ghost use Rattle.compiler.specs.Accepts.{RefusesTextAs};
 ghost use Rattle.commandline.specs.CommandLine.{version_by};
 ghost use Rattle.answers.specs.Asked.{IsImageRunBy, IsReplayedAs, IsRunAs, IsRunBy, log_beside, outside_by};
 ghost use Rattle.answers.specs.Done.{HasExecuted, HasRun, RunsImage};
-ghost use Rattle.answers.specs.Failures.{IsLeftBy, IsRefusalBy, IsRefusalOrMemory};
+ghost use Rattle.answers.specs.Causes.{CannotRun, FailsReplay, FailsRun, FailsTextLog, FailsTextTurns};
+ghost use Rattle.answers.specs.Failures.{IsLeftBy, IsRefusalOrMemory};
 ghost use Rattle.answers.specs.Images.{UnassemblesAs};
 ghost use Rattle.answers.specs.Replaying.{IsReplayOfText};
 ghost use Rattle.answers.specs.Running.{IsRefusedRun};
 ghost use Rattle.answers.specs.LogLimits.{HasFewSteps};
-ghost use Rattle.answers.specs.SourceLog.{IsReplayOfLog};
+ghost use Rattle.answers.specs.SourceLog.{CannotFollow, IsReplayOfLog};
 ghost use Rattle.answers.specs.Turns.{turns_in};
 ghost use Rattle.answers.specs.declared.source_run.RunSourceFault.TheVariants.{Run};
+ghost use Rattle.runner.specs.Reports.{CanFail};
 ghost use Rattle.runner.specs.declared.fault.RunFault.TheVariants.{Broken};
 
 use crate::answer::Answer;
 use crate::failure::{Failure, NoAnswer};
 use crate::following::formed_image;
 use crate::hinting::SourceText;
-use crate::log_limits::log_bytes;
+use crate::log_limits::check_bytes;
 use crate::paging::{Kept, report_answer};
 use crate::replaying::replay;
 use crate::schedule::schedule_of;
@@ -116,7 +118,8 @@ pub fn answer_exec<'a, R: AllocGlobal + Threads + Wait + Sync>(
     options: RunOptions<'a>,
 ) -> Result<Answer<'a>, NoAnswer<'a>>
     ensures done { IfOk result (HasExecuted text.now.exits form options.entry text.now.bytes.now) }
-    ensures refused { IfErr result (IsLeftBy (λ e. ⊥) (UnassemblesAs form text.now.bytes.now)) }
+    ensures left { IfErr result (IsLeftBy (λ e. ⊥) (UnassemblesAs form text.now.bytes.now)
+        (FailsRun text.now.exits form options.entry text.now.bytes.now)) }
 {
     let formed = formed_image(rt.alloc(), text, form)?;
     exec_image(rt, &formed.image, options)
@@ -129,7 +132,8 @@ fn exec_image<'a, R: AllocGlobal + Threads + Wait + Sync>(
     options: RunOptions<'a>,
 ) -> Result<Answer<'a>, NoAnswer<'a>>
     ensures done { IfOk result (RunsImage options.entry image.now) }
-    ensures refused { IfErr result (IsLeftBy (λ e. ⊥) (λ e. ⊥)) }
+    ensures left { IfErr result
+        (IsLeftBy (λ e. ⊥) (λ e. ⊥) (CannotRun options.entry image.now)) }
 {
     match run_image(rt, image, options.steps, options.order) {
         Ok(report) => Answer::of_report(rt.alloc(), &report, options.trace, options.log, None),
@@ -144,7 +148,8 @@ fn run_image<R: AllocGlobal + Threads + Wait + Sync>(
     steps: u32,
     order: Order,
 ) -> Result<Report, RunFault>
-    ensures { IfOk result (λ report. IsImageRunBy order steps image.now report) }
+    ensures ok { IfOk result (λ report. IsImageRunBy order steps image.now report) }
+    ensures err { IfErr result (CanFail image.now (outside_by order) steps) }
 {
     match order {
         Order::Workers => {
@@ -179,8 +184,9 @@ pub fn answer_replay<'a>(
 ) -> Result<Answer<'a>, NoAnswer<'a>>
     ensures done { IfOk result (HasRun (IsReplayedAs (version_by text.now.exits) by.entry second.now)
         trace (log_beside by.entry) page.entry text.now.bytes.now) }
-    ensures refused { IfErr result
-        (IsRefusalBy (RefusesTextAs (version_by text.now.exits) text.now.bytes.now)) }
+    ensures left { IfErr result
+        (IsLeftBy (RefusesTextAs (version_by text.now.exits) text.now.bytes.now) (λ e. ⊥)
+        (FailsReplay (version_by text.now.exits) by.entry text.now.bytes.now second.now)) }
 {
     let report = replay_by(alloc, text, second, by, told)?;
     tell_run(alloc, told, text, &report, way_by(by));
@@ -207,8 +213,9 @@ fn replay_by<'a>(
 ) -> Result<Report, NoAnswer<'a>>
     ensures report { IfOk result (λ report. IsReplayedAs (version_by text.now.exits) by.entry
         second.now text.now.bytes.now report) }
-    ensures refused { IfErr result
-        (IsRefusalBy (RefusesTextAs (version_by text.now.exits) text.now.bytes.now)) }
+    ensures left { IfErr result
+        (IsLeftBy (RefusesTextAs (version_by text.now.exits) text.now.bytes.now) (λ e. ⊥)
+        (FailsReplay (version_by text.now.exits) by.entry text.now.bytes.now second.now)) }
 {
     match by {
         ReplayedBy::Schedule { .. } => replay_schedule(alloc, text, second, told),
@@ -226,8 +233,9 @@ fn replay_schedule<'a>(
     ensures report { IfOk result
         (λ report. IsReplayOfText (version_by text.now.exits) text.now.bytes.now
         (turns_in schedule.now) report) }
-    ensures refused { IfErr result
-        (IsRefusalBy (RefusesTextAs (version_by text.now.exits) text.now.bytes.now)) }
+    ensures left { IfErr result
+        (IsLeftBy (RefusesTextAs (version_by text.now.exits) text.now.bytes.now) (λ e. ⊥)
+        (FailsTextTurns (version_by text.now.exits) text.now.bytes.now schedule.now)) }
 {
     let turns = schedule_of(alloc, schedule)?;
     match replay(alloc, text.bytes, text.exits, turns.as_slice()) {
@@ -247,12 +255,12 @@ fn replay_log<'a>(
     ensures report { IfOk result
         (λ report. IsReplayOfLog (version_by text.now.exits) text.now.bytes.now
         lines.now report × HasFewSteps lines.now steps) }
-    ensures refused { IfErr result
-        (IsRefusalBy (RefusesTextAs (version_by text.now.exits) text.now.bytes.now)) }
+    ensures left { IfErr result
+        (IsLeftBy (RefusesTextAs (version_by text.now.exits) text.now.bytes.now) (λ e. ⊥)
+        (FailsTextLog (CannotFollow (version_by text.now.exits) text.now.bytes.now lines.now)
+        steps text.now.bytes.now lines.now)) }
 {
-    if lines.len() > log_bytes(steps) {
-        return Err(NoAnswer::Failed(Failure::LogBytes(log_bytes(steps))));
-    }
+    check_bytes(lines, steps)?;
     match replay_log_text(alloc, text.bytes, text.exits, lines, steps) {
         Ok(report) => Ok(report),
         Err(fault) => Err(told_entry(alloc, told, text, lines, fault)),

@@ -1,4 +1,5 @@
-ghost use Rattle.std.specs.Prelude.{◌≡◌, IfOk, Some};
+ghost use Rattle.std.specs.Prelude.{◌≡◌, ◌<◌, IfErr, IfOk, Some, length};
+ghost use Rattle.answers.specs.Failures.{OrMemory};
 ghost use Rattle.answers.specs.Turns.{digit_behind, is_white_space, number_from, turn_of, turns_in};
 
 use crate::failure::Failure;
@@ -15,7 +16,9 @@ fn is_white_space(byte: u8) -> bool
 
 /// The turns of the schedule that these bytes are.
 pub fn schedule_of<'a>(alloc: Global, bytes: &[u8]) -> Result<Vec<Turn>, Failure<'a>>
-    ensures { IfOk result (λ turns. turns.items ≡ turns_in bytes.now) }
+    ensures turns { IfOk result (λ turns. turns.items ≡ turns_in bytes.now) }
+    ensures failed { IfErr result
+        (OrMemory (λ f. (f ≡ Failure.Schedule 0) × (MOST_BYTES < length bytes.now))) }
 {
     if bytes.len() > MOST_BYTES {
         return Err(Failure::Schedule(0));

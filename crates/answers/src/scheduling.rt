@@ -1,13 +1,14 @@
 ghost use Rattle.std.specs.Prelude.{◌≡◌, ◌++◌, IfOk, IfErr, OnOk, Some, length, string_bytes};
 ghost use Rattle.schedules.specs.OfLog.{log_turns};
 ghost use Rattle.answers.specs.Answers.{TellsAlone};
+ghost use Rattle.answers.specs.Causes.{FailsLines};
 ghost use Rattle.answers.specs.Failures.{HasNoMemory, IsLeftBy};
 ghost use Rattle.answers.specs.Images.{schedule_text};
 ghost use Rattle.answers.specs.Scheduling.{HasScheduled, steps_line};
 
 use crate::answer::{Answer, OutFiles};
-use crate::failure::{Failure, NoAnswer};
-use crate::log_limits::log_bytes;
+use crate::failure::NoAnswer;
+use crate::log_limits::check_bytes;
 use crate::searching::schedule_file;
 use crate::source_log::entries_of;
 use crate::status::Status;
@@ -24,11 +25,9 @@ pub fn answer_schedule<'a>(
     out: &'a str,
 ) -> Result<Answer<'a>, NoAnswer<'a>>
     ensures done { IfOk result (HasScheduled steps out.entry lines.now) }
-    ensures refused { IfErr result (IsLeftBy (λ e. ⊥) (λ e. ⊥)) }
+    ensures left { IfErr result (IsLeftBy (λ e. ⊥) (λ e. ⊥) (FailsLines steps lines.now)) }
 {
-    if lines.len() > log_bytes(steps) {
-        return Err(NoAnswer::Failed(Failure::LogBytes(log_bytes(steps))));
-    }
+    check_bytes(lines, steps)?;
     let entries = entries_of(alloc, lines, steps)?;
     schedule_answer(alloc, entries.iter(), out)
 }

@@ -1,5 +1,6 @@
 ghost use Rattle.std.specs.Prelude.{◌≡◌, ◌++◌, IfOk, IfErr, List, OnOk, is_some, ℕ, string_bytes};
 ghost use Rattle.answers.specs.Answers.{put_of};
+ghost use Rattle.answers.specs.Causes.{FailsImage};
 ghost use Rattle.answers.specs.Failures.{HasNoMemory, IsLeftBy};
 ghost use Rattle.answers.specs.Images.{AreShown, HasSearched, SearchesImage, TellsSearch, UnassemblesAs, finds_run};
 ghost use Rattle.answers.specs.Images.{ending_lines, exit_line, found_put, is_whole, later_lines, machine_line, none_fails};
@@ -53,7 +54,8 @@ pub fn answer_search<'a, P: Progress>(
 ) -> Result<Answer<'a>, NoAnswer<'a>>
     ensures done { IfOk result (HasSearched text.now.exits form outside states wanted.entry
         text.now.bytes.now) }
-    ensures refused { IfErr result (IsLeftBy (λ e. ⊥) (UnassemblesAs form text.now.bytes.now)) }
+    ensures left { IfErr result (IsLeftBy (λ e. ⊥) (UnassemblesAs form text.now.bytes.now)
+        (FailsImage text.now.exits form text.now.bytes.now)) }
 {
     let formed = formed_image(alloc, text, form)?;
     search_formed(

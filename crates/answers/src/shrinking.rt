@@ -2,13 +2,14 @@ ghost use Rattle.std.specs.Prelude.{◌≡◌, ◌++◌, IfOk, IfErr, OnOk, Some
 ghost use Rattle.compiler.specs.Accepts.{RefusesTextAs};
 ghost use Rattle.commandline.specs.CommandLine.{version_by};
 ghost use Rattle.answers.specs.Answers.{TellsAlone};
-ghost use Rattle.answers.specs.Failures.{HasNoMemory, IsRefusalBy};
+ghost use Rattle.answers.specs.Causes.{FailsShrinking};
+ghost use Rattle.answers.specs.Failures.{HasNoMemory, IsLeftBy, OfSchedule, OfShrink};
 ghost use Rattle.answers.specs.Images.{schedule_text};
 ghost use Rattle.answers.specs.Shrinking.{HasShrunk, failure_line, minimal_line, shrunk_lines, sizes_line};
 
 use crate::answer::{Answer, OutFiles};
 use crate::compiled::compile_by;
-use crate::failure::{Failure, NoAnswer};
+use crate::failure::NoAnswer;
 use crate::hinting::SourceText;
 use crate::replaying::ReplayFault;
 use crate::schedule::schedule_of;
@@ -31,8 +32,9 @@ pub fn answer_shrink<'a>(
 ) -> Result<Answer<'a>, NoAnswer<'a>>
     ensures done { IfOk result (HasShrunk (version_by text.now.exits) out.entry
         text.now.bytes.now second.now) }
-    ensures refused { IfErr result
-        (IsRefusalBy (RefusesTextAs (version_by text.now.exits) text.now.bytes.now)) }
+    ensures left { IfErr result
+        (IsLeftBy (RefusesTextAs (version_by text.now.exits) text.now.bytes.now) (λ e. ⊥)
+        (FailsShrinking (version_by text.now.exits) text.now.bytes.now second.now)) }
 {
     let turns = schedule_of(alloc, second)?;
     let image = compile_by(alloc, text.bytes, text.exits)?;
@@ -51,12 +53,11 @@ fn told_fault<'a>(
     given: &[Turn],
     fault: ShrinkFault,
 ) -> NoAnswer<'a>
-    ensures { IsRefusalBy (λ e. ⊥) result }
+    ensures { OfShrink fault result }
 {
     match fault {
-        ShrinkFault::NoFailure => NoAnswer::Failed(Failure::NoFailure),
-        ShrinkFault::Memory => NoAnswer::Failed(Failure::Memory),
         ShrinkFault::Schedule(fault) => told_entry(alloc, told, text, given, fault),
+        other => NoAnswer::from(other),
     }
 }
 
@@ -68,14 +69,13 @@ fn told_entry<'a>(
     given: &[Turn],
     fault: ScheduleFault,
 ) -> NoAnswer<'a>
-    ensures { IsRefusalBy (λ e. ⊥) result }
+    ensures { OfSchedule fault result }
 {
     match fault {
         ScheduleFault::BadEntry(number) => {
             told_turn(alloc, told, text, given, ReplayFault::BadEntry(number))
         }
-        ScheduleFault::Broken(number) => NoAnswer::Failed(Failure::Broken(number)),
-        ScheduleFault::Memory => NoAnswer::Failed(Failure::Memory),
+        other => NoAnswer::from(other),
     }
 }
 

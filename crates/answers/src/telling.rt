@@ -1,8 +1,10 @@
+ghost use Rattle.std.specs.Prelude.{◌≡◌, string_bytes};
 ghost use Rattle.answers.specs.Failures.{OfReplay, OfSourceLog};
+ghost use Rattle.answers.specs.Hinting.{TellsMore, help_to};
 
 use crate::explained_run::ExplainedRun;
 use crate::failure::{Failure, NoAnswer};
-use crate::hinting::{SourceText, append_told};
+use crate::hinting::{SourceText, append_told, push_told};
 use crate::replaying::ReplayFault;
 use crate::run_ends::{explained_hints, report_hints};
 use crate::run_entries::{log_entry_hints, schedule_entry_hints};
@@ -13,7 +15,7 @@ use program::Checked;
 use run_hints::{Way, end_hints};
 use runner::{Report, Turn};
 use source_states::Action;
-use std::alloc::Global;
+use std::alloc::{AllocError, Global};
 use std::io::ErrorKind;
 
 // What a line of a log has.
@@ -26,31 +28,50 @@ const SECOND: &str = "  --exits linux takes an image of version 2\n";
 // What takes a longer log.
 const LONGER: &str = "  --steps N takes a log of at most N steps\n";
 
-// Appends the system's reason, where it is known.
-fn append_reason(told: &mut String, reason: Option<ErrorKind>) {
+// The line of the system's reason, where it is known.
+fn reason_line(alloc: Global, reason: Option<ErrorKind>) -> Result<String, AllocError> {
+    let mut line = String::new(alloc);
     if let Some(reason) = reason {
-        let _appended = writeln!(told, "  {reason}");
+        writeln!(line, "  {reason}")?;
+    }
+    Ok(line)
+}
+
+// What helps with a failure, where more is known than its line tells.
+fn help_to(failure: Failure<'_>) -> &'static str
+    ensures { result.now ≡ help_to failure.entry }
+{
+    match failure {
+        Failure::LogLine(_) => LINE,
+        Failure::LogSteps(_) | Failure::LogBytes(_) => LONGER,
+        Failure::FirstVersion => SECOND,
+        Failure::Read { .. }
+        | Failure::Write { .. }
+        | Failure::OtherImage(_)
+        | Failure::Image(_)
+        | Failure::Run(_)
+        | Failure::Schedule(_)
+        | Failure::Broken(_)
+        | Failure::NoFailure
+        | Failure::LogEntry(_)
+        | Failure::Memory => "",
     }
 }
 
-/// Appends what helps where a job has no answer, and more is known than its line tells.
-pub fn tell_more(told: &mut String, left: NoAnswer<'_>) {
+/// Appends what helps where a job has no answer, and more is known than its line tells. Where there is no memory for it
+/// nothing is appended; where the job failed for want of memory nothing is left.
+pub fn tell_more(alloc: Global, told: &mut String, left: NoAnswer<'_>)
+    ensures { TellsMore left.entry (string_bytes told.old) (string_bytes told.new) }
+{
     let NoAnswer::Failed(failure) = left else {
         return;
     };
     match failure {
-        Failure::LogLine(_) => {
-            let _appended = told.push_str(LINE);
+        Failure::Read { reason, .. } | Failure::Write { reason, .. } => {
+            append_told(told, reason_line(alloc, reason))
         }
-        Failure::LogSteps(_) | Failure::LogBytes(_) => {
-            let _appended = told.push_str(LONGER);
-        }
-        Failure::FirstVersion => {
-            let _appended = told.push_str(SECOND);
-        }
-        Failure::Read { reason, .. } | Failure::Write { reason, .. } => append_reason(told, reason),
         Failure::Memory => told.clear(),
-        _ => {}
+        other => push_told(told, help_to(other)),
     }
 }
 

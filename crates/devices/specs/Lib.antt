@@ -3,3 +3,4 @@ pub mod Reading
 pub mod Writing
 pub mod Reports
 pub mod Files
+pub mod Failures

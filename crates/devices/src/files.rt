@@ -1,11 +1,15 @@
-ghost use Rattle.std.specs.Prelude.{OnOk};
-ghost use Rattle.devices.specs.Files.{IsPut};
+ghost use Rattle.std.specs.Prelude.{◌≤◌, ◌^◌, IfErr, IfOk, OnErr, OnOk};
+ghost use Rattle.devices.specs.Failures.{HaveFailed, IsCounted};
+ghost use Rattle.devices.specs.Files.{IsOfFile, IsPut};
 
 use crate::counted::Counted;
+use crate::failures::FileFailures;
+use crate::reading::{ReadFault, read_front};
 use crate::sweeping::{ENDING, sweep};
 use crate::writing::write_bytes;
+use std::alloc::Global;
 use std::fs::{Metadata, OpenFile, OpenOptions, Permissions};
-use std::io::ErrorKind;
+use std::io::{ErrorKind, Read};
 use std::os::unix::fs::{MetadataExt, OpenOptionsExt, PermissionsExt};
 use std::rt::Files;
 use std::{fs, io};
@@ -24,6 +28,73 @@ const ALL: u32 = 0o777;
 
 // Those of all but the file's group.
 const NO_GROUP: u32 = 0o707;
+
+/// Why the bytes of a file aren't read.
+#[derive(Drop)]
+pub enum FileFault {
+    /// It couldn't be opened.
+    Open(io::Error),
+    /// It was opened, and its bytes weren't read.
+    Read(ReadFault),
+}
+
+/// The bytes of the file of this name, or the first so many of a longer one. A file that can't be opened or read is counted.
+pub fn read_file<R: Files + AllocGlobal>(
+    rt: &R,
+    failures: &mut FileFailures,
+    name: &str,
+    most: usize,
+) -> Result<Vec<u8>, FileFault>
+    requires { (1 ≤ most) × (most ≤ 2 ^ 62) }
+    ensures read { IfOk result (λ v. IsOfFile R.File.remaining most v.items) }
+    ensures failed { IfErr result (IsCounted failures.new) }
+{
+    match fs::open(rt, name) {
+        Ok(file) => read_opened(rt.alloc(), failures, file, most),
+        Err(error) => {
+            failures.add();
+            Err(FileFault::Open(error))
+        }
+    }
+}
+
+// The bytes of a file that was opened.
+fn read_opened<F: Read + Drop>(
+    alloc: Global,
+    failures: &mut FileFailures,
+    file: F,
+    most: usize,
+) -> Result<Vec<u8>, FileFault>
+    requires { (1 ≤ most) × (most ≤ 2 ^ 62) }
+    ensures read { IfOk result (λ v. IsOfFile F.remaining most v.items) }
+    ensures failed { IfErr result (IsCounted failures.new) }
+{
+    match read_front(alloc, &mut Counted::new(file), most) {
+        Ok(bytes) => Ok(bytes),
+        Err(ReadFault::Memory) => Err(FileFault::Read(ReadFault::Memory)),
+        Err(ReadFault::Device) => {
+            failures.add();
+            Err(FileFault::Read(ReadFault::Device))
+        }
+    }
+}
+
+/// Writes a file as `put_file` does. One that isn't written is counted.
+pub fn put_counted<R: Files + AllocGlobal>(
+    rt: &R,
+    failures: &mut FileFailures,
+    name: &str,
+    bytes: &[u8],
+) -> io::Result<()>
+    ensures put { OnOk result (IsPut R.File.contents bytes.now) }
+    ensures failed { OnErr result (HaveFailed failures.new) }
+{
+    let put = put_file(rt, name, bytes);
+    if put.is_err() {
+        failures.add();
+    }
+    put
+}
 
 /// Writes a file of this name with these bytes, in place of what it held: it has all of them, or what it had before.
 /// The contract says that some file of the runtime has got them; which one stands under the name no call of it tells.

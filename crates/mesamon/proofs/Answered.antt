@@ -8,7 +8,7 @@ use Rattle.commandline.specs.declared.job.Job.TheVariants.{Check, Compile, List 
 use Rattle.commandline.specs.declared.job.Job.TheVariants.{Assemble, Fmt, Follow, Search, Shrink, Schedule as ScheduleLog}
 use Rattle.commandline.proofs.Workers.{compiling_workers}
 use Rattle.commandline.specs.declared.options.Exits.{Exits}
-use Rattle.answers.proofs.Told.{ok_so, refused_so}
+use Rattle.answers.proofs.Told.{lefts_so, ok_so}
 use Rattle.log_text.specs.LogLines.{line_feed}
 use Rattle.assembler.specs.Refusals.{refusal_text as assembly_refusal_text}
 use Rattle.assembler.specs.declared.refusal.AssemblyRefusal.{AssemblyRefusal}
@@ -18,7 +18,8 @@ use Rattle.runner.specs.declared.report.Verdict.{Verdict}
 use Rattle.runner.specs.declared.report.Verdict.TheVariants as verdict
 use Rattle.answers.specs.Answers.{IsTold, IsToldOrMemory, status_of_verdict}
 use Rattle.mesamon.specs.Asked.{HasWorkers, asks_for_hints, exits_of}
-use Rattle.mesamon.specs.Commands.{Devices, EndsSo, FailsJob, FinishesSo, HasAnswered, HasDone, HasDoneSome, IsNoCommand}
+use Rattle.mesamon.specs.Commands.{Devices, EndsSo, FailsJob, FailsSome, FinishesSo, HasAnswered, HasDone, HasDoneSome}
+use Rattle.mesamon.specs.Commands.{IsNoCommand}
 use Rattle.mesamon.specs.Commands.{IsToldFailed}
 use Rattle.mesamon.specs.Commands.{IsToldLeft, RefusesJob, RefusesSome, UnassemblesJob, UnassemblesSome}
 use Rattle.image_search.specs.declared.ending.Ending.{Ending}
@@ -28,11 +29,10 @@ use Rattle.image_search.specs.declared.ending.Sleeping.TheVariants as sleeping
 use Rattle.answers.specs.Exploring.{found_status, is_failed}
 use Rattle.answers.specs.Formatting.{layout_status}
 use Rattle.answers.specs.Images.{search_status, sleeping_status}
-use Rattle.answers.specs.Failures.{IsFailureBy, IsLeftBy, IsRefusalBy, IsRefusalOrMemory}
+use Rattle.answers.specs.Failures.{IsLeftBy, OrMemory}
 use Rattle.mesamon.specs.Overwriting.{overwrites}
 use Rattle.answers.specs.declared.answer.Answer.{Answer}
 use Rattle.answers.specs.declared.failure.Failure.{Failure}
-use Rattle.answers.specs.declared.failure.Failure.TheVariants.{Memory as NoMemory}
 use Rattle.answers.specs.declared.failure.NoAnswer.{NoAnswer}
 use Rattle.answers.specs.declared.failure.NoAnswer.TheVariants as left
 use Rattle.answers.specs.declared.status.Status.{Status}
@@ -53,81 +53,35 @@ done_by r job same bytes second e Holds is by on h =
     (ok_so r (Holds (exits_of same)) (HasDone same bytes second) on
     (subst (λ (x : Exits). IfOk r (Holds x)) (by ∙ ap exits_of is) h))
 
-is_left : (n : NoAnswer) (job : Job) (bytes second : List ℕ) → IsRefusalBy (RefusesJob job bytes second) n
-    → IsLeftBy (RefusesJob job bytes second) (UnassemblesJob job bytes) n
-is_left (left.Refused e) job bytes second h = h
-is_left (left.Unassembled e) job bytes second h = absurd h
-is_left (left.Failed f) job bytes second h = tt
+-- why it has no answer, of the job that it is
+pub left_as : {T : Type 0} (r : Result T NoAnswer) (R : Refusal → Type 0) (U : AssemblyRefusal → Type 0)
+    (F : Failure → Type 0) (job same : Job) (bytes second : List ℕ) → job ≡ same
+    → ((e : Refusal) → R e → RefusesJob same bytes second e)
+    → ((e : AssemblyRefusal) → U e → UnassemblesJob same bytes e) → ((f : Failure) → F f → FailsJob same bytes second f)
+    → IfErr r (IsLeftBy R U F)
+    → IfErr r (IsLeftBy (RefusesJob job bytes second) (UnassemblesJob job bytes) (FailsJob job bytes second))
+left_as r R U F job same bytes second is refuses unassembles fails h =
+    subst
+    (λ (j : Job). IfErr r (IsLeftBy (RefusesJob j bytes second) (UnassemblesJob j bytes) (FailsJob j bytes second)))
+    (sym is) (lefts_so r R (RefusesJob same bytes second) U (UnassemblesJob same bytes) F (FailsJob same bytes second)
+    refuses unassembles fails h)
 
-failure_so : (n : NoAnswer) (Refuses : Refusal → Type 0) (job : Job) → ((f : Failure) → f ≡ NoMemory → FailsJob job f)
-    → IsRefusalOrMemory Refuses n → IsFailureBy (λ f. FailsJob job f) n
-failure_so (left.Refused e) Refuses job on h = tt
-failure_so (left.Unassembled e) Refuses job on h = tt
-failure_so (left.Failed f) Refuses job on h = on f h
+-- the same where it is known of the rule of exits that a text has, which is the job's
+pub left_by : {T : Type 0} (r : Result T NoAnswer) (R : Exits → Refusal → Type 0) (U : AssemblyRefusal → Type 0)
+    (F : Exits → Failure → Type 0) (job same : Job) (bytes second : List ℕ) (e : Exits) → job ≡ same → e ≡ exits_of job
+    → ((x : Refusal) → R (exits_of same) x → RefusesJob same bytes second x)
+    → ((x : AssemblyRefusal) → U x → UnassemblesJob same bytes x)
+    → ((f : Failure) → F (exits_of same) f → FailsJob same bytes second f) → IfErr r (IsLeftBy (R e) U (F e))
+    → IfErr r (IsLeftBy (RefusesJob job bytes second) (UnassemblesJob job bytes) (FailsJob job bytes second))
+left_by r R U F job same bytes second e is by refuses unassembles fails h =
+    left_as r (R (exits_of same)) U (F (exits_of same)) job same bytes second is refuses unassembles fails
+    (subst (λ (x : Exits). IfErr r (IsLeftBy (R x) U (F x))) (by ∙ ap exits_of is) h)
 
-failure_any : (n : NoAnswer) (job : Job) → ((f : Failure) → FailsJob job f) → IsFailureBy (λ f. FailsJob job f) n
-failure_any (left.Refused e) job on = tt
-failure_any (left.Unassembled e) job on = tt
-failure_any (left.Failed f) job on = on f
-
-all_left : {T : Type 0} (r : Result T NoAnswer) (job : Job) (bytes second : List ℕ)
-    → IfErr r (IsRefusalBy (RefusesJob job bytes second))
-    → IfErr r (IsLeftBy (RefusesJob job bytes second) (UnassemblesJob job bytes))
-all_left (Ok x) job bytes second h = tt
-all_left (Err n) job bytes second h = is_left n job bytes second h
-
--- and why it has no answer
-pub refused_as : {T : Type 0} (r : Result T NoAnswer) (job same : Job) (bytes second : List ℕ) → job ≡ same
-    → IfErr r (IsRefusalBy (RefusesJob same bytes second))
-    → IfErr r (IsLeftBy (RefusesJob job bytes second) (UnassemblesJob job bytes))
-refused_as r job same bytes second is h =
-    subst (λ (j : Job). IfErr r (IsLeftBy (RefusesJob j bytes second) (UnassemblesJob j bytes))) (sym is)
-    (all_left r same bytes second h)
-
-pub refused_by : {T : Type 0} (r : Result T NoAnswer) (job same : Job) (bytes second : List ℕ) (e : Exits)
-    (Refuses : Exits → Refusal → Type 0) → job ≡ same → e ≡ exits_of job
-    → ((x : Refusal) → Refuses (exits_of same) x → RefusesJob same bytes second x) → IfErr r (IsRefusalBy (Refuses e))
-    → IfErr r (IsLeftBy (RefusesJob job bytes second) (UnassemblesJob job bytes))
-refused_by r job same bytes second e Refuses is by on h =
-    refused_as r job same bytes second is
-    (refused_so r (Refuses (exits_of same)) (RefusesJob same bytes second) on
-    (subst (λ (x : Exits). IfErr r (IsRefusalBy (Refuses x))) (by ∙ ap exits_of is) h))
-
--- and why it fails: for want of memory alone, or in any way
-pub fails_as : {T : Type 0} (r : Result T NoAnswer) (Refuses : Refusal → Type 0) (job same : Job) → job ≡ same
-    → ((f : Failure) → f ≡ NoMemory → FailsJob same f) → IfErr r (IsRefusalOrMemory Refuses)
-    → IfErr r (IsFailureBy (λ f. FailsJob job f))
-fails_as (Ok x) Refuses job same is on h = tt
-fails_as (Err n) Refuses job same is on h =
-    subst (λ (j : Job). IsFailureBy (λ f. FailsJob j f) n) (sym is) (failure_so n Refuses same on h)
-
-pub fails_freely : {T : Type 0} (r : Result T NoAnswer) (job same : Job) → job ≡ same
-    → ((f : Failure) → FailsJob same f) → IfErr r (IsFailureBy (λ f. FailsJob job f))
-fails_freely (Ok x) job same is on = tt
-fails_freely (Err n) job same is on =
-    subst (λ (j : Job). IsFailureBy (λ f. FailsJob j f) n) (sym is) (failure_any n same on)
-
--- the same of an assembly text: no source text is refused
-unassembled : (n : NoAnswer) (U : AssemblyRefusal → Type 0) (job : Job) (bytes second : List ℕ)
-    → ((e : AssemblyRefusal) → U e → UnassemblesJob job bytes e) → IsLeftBy (λ e. ⊥) U n
-    → IsLeftBy (RefusesJob job bytes second) (UnassemblesJob job bytes) n
-unassembled (left.Refused e) U job bytes second on h = absurd h
-unassembled (left.Unassembled e) U job bytes second on h = on e h
-unassembled (left.Failed f) U job bytes second on h = tt
-
-all_unassembled : {T : Type 0} (r : Result T NoAnswer) (U : AssemblyRefusal → Type 0) (job : Job) (bytes second : List ℕ)
-    → ((e : AssemblyRefusal) → U e → UnassemblesJob job bytes e) → IfErr r (IsLeftBy (λ e. ⊥) U)
-    → IfErr r (IsLeftBy (RefusesJob job bytes second) (UnassemblesJob job bytes))
-all_unassembled (Ok x) U job bytes second on h = tt
-all_unassembled (Err n) U job bytes second on h = unassembled n U job bytes second on h
-
-pub unassembled_as : {T : Type 0} (r : Result T NoAnswer) (U : AssemblyRefusal → Type 0) (job same : Job)
-    (bytes second : List ℕ) → job ≡ same → ((e : AssemblyRefusal) → U e → UnassemblesJob same bytes e)
-    → IfErr r (IsLeftBy (λ e. ⊥) U)
-    → IfErr r (IsLeftBy (RefusesJob job bytes second) (UnassemblesJob job bytes))
-unassembled_as r U job same bytes second is on h =
-    subst (λ (j : Job). IfErr r (IsLeftBy (RefusesJob j bytes second) (UnassemblesJob j bytes))) (sym is)
-    (all_unassembled r U same bytes second on h)
+-- a file that isn't read is counted
+pub unread : (P : Refusal → Type 0) (U : AssemblyRefusal → Type 0) (Misses : Type 0) (F : Failure → Type 0) (n : NoAnswer)
+    (f : Failure) → n ≡ left.Failed f → OrMemory (λ f. Misses) f → IsLeftBy P U (λ f. Misses ⊎ F f) n
+unread P U Misses F n f is (inl memory) = subst (IsLeftBy P U (λ f. Misses ⊎ F f)) (sym is) (inl memory)
+unread P U Misses F n f is (inr missed) = subst (IsLeftBy P U (λ f. Misses ⊎ F f)) (sym is) (inr (inl missed))
 
 -- a job that words ask for has a number of workers that may be
 pub has_workers : (ws : List (List ℕ)) (job : Job) → AsksFor ws job → HasWorkers job
@@ -220,6 +174,11 @@ module _ (ws : List (List ℕ)) (on : Devices) where
   abbrev Ends : Status → Type 0
   Ends s = EndsSo ws on s
 
+  cause_of : (job : Job) (f : Failure) → on.Misses ⊎ FailsSome on.Had job f
+      → on.Misses ⊎ ((failure : Failure) × FailsSome on.Had job failure)
+  cause_of job f (inl missed) = inl missed
+  cause_of job f (inr fails) = inr (f, fails)
+
   failed : (s : Status) → s ≡ Failed → on.Fails → Ends s
   failed s is fails = subst Ends (sym is) (inl fails)
 
@@ -245,12 +204,27 @@ module _ (ws : List (List ℕ)) (on : Devices) where
   told_usage F text s by none unasked (inl (is, told)) = subst Ends (sym is) (unasked, none)
   told_usage F text s by none unasked (inr (is, fails)) = failed s is (by fails)
 
-  -- a failure
-  pub told_failure : (F : Type 0) (s : Status) → (F → on.Fails) → on.Wrote [] → IsToldFailed on.Told F s → Ends s
-  told_failure F s by none (inl (inl (is, w))) =
-      subst Ends (sym is) (inr (record { name = w.0; hints = w.1; wrote = none; told = w.2 }))
-  told_failure F s by none (inl (inr (is, fails))) = failed s is (by fails)
-  told_failure F s by none (inr memory) = told_memory F s by none memory
+  -- a job that failed
+  pub told_failure : (F : Type 0) (job : Job) (f : Failure) (hints : List ℕ) (s : Status) → (F → on.Fails) → on.Wrote []
+      → AsksFor ws job → overwrites job ≡ false
+      → OrMemory (λ f. on.Misses ⊎ FailsSome on.Had job f) f → (asks_for_hints job ≡ false → hints ≡ [])
+      → IsToldFailed on.Told F hints f s → Ends s
+  told_failure F job f hints s by none asks apart (inl memory) unasked (inl (inl (is, named))) = absurd (named.0 memory)
+  told_failure F job f hints s by none asks apart (inr cause) unasked (inl (inl (is, named))) =
+      subst Ends (sym is)
+      (inr (record {
+        job = job;
+        asks = asks;
+        apart = apart;
+        cause = cause_of job f cause;
+        name = named.1.0;
+        hints = hints;
+        unasked = unasked;
+        wrote = none;
+        told = named.1.1;
+      }))
+  told_failure F job f hints s by none asks apart cause unasked (inl (inr (is, fails))) = failed s is (by fails)
+  told_failure F job f hints s by none asks apart cause unasked (inr memory) = told_memory F s by none memory
 
   -- a job that was done
   pub told_answer : (job : Job) (a : Answer) (asked : Bool) (s : Status) → AsksFor ws job → overwrites job ≡ false
@@ -272,17 +246,20 @@ module _ (ws : List (List ℕ)) (on : Devices) where
         told = both.1;
       }))
   told_answer job a asked s asks apart done same (inl (put, hints, unasked, inr (is, fails))) = failed s is fails
-  told_answer job a asked s asks apart done same (inr (none, told)) = told_failure on.Fails s (λ f. f) none told
+  told_answer job a asked s asks apart done same (inr (none, missed, f, hints, unasked, told)) =
+      told_failure on.Fails job f hints s (λ f. f) none asks apart (inr (inl missed)) (λ unwanted. unasked (same ∙ unwanted))
+      told
 
   -- a text that is refused
   told_refusal : (F : Type 0) (job : Job) (e : Refusal) (hints : List ℕ) (s : Status) → (F → on.Fails) → on.Wrote []
-      → AsksFor ws job → RefusesSome on.Had job e → (asks_for_hints job ≡ false → hints ≡ [])
+      → AsksFor ws job → overwrites job ≡ false → RefusesSome on.Had job e → (asks_for_hints job ≡ false → hints ≡ [])
       → IsToldOrMemory on.Told (on.Told ((refusal_text e ++ line_feed) ++ hints)) F Refused s → Ends s
-  told_refusal F job e hints s by none asks refuses unasked (inl (inl (is, told))) =
+  told_refusal F job e hints s by none asks apart refuses unasked (inl (inl (is, told))) =
       subst Ends (sym is)
       (inl (record {
         job = job;
         asks = asks;
+        apart = apart;
         refusal = e;
         refuses = refuses;
         hints = hints;
@@ -290,18 +267,19 @@ module _ (ws : List (List ℕ)) (on : Devices) where
         wrote = none;
         told = told;
       }))
-  told_refusal F job e hints s by none asks refuses unasked (inl (inr (is, fails))) = failed s is (by fails)
-  told_refusal F job e hints s by none asks refuses unasked (inr memory) = told_memory F s by none memory
+  told_refusal F job e hints s by none asks apart refuses unasked (inl (inr (is, fails))) = failed s is (by fails)
+  told_refusal F job e hints s by none asks apart refuses unasked (inr memory) = told_memory F s by none memory
 
   -- an assembly text that is refused
   told_unassembled : (F : Type 0) (job : Job) (e : AssemblyRefusal) (hints : List ℕ) (s : Status) → (F → on.Fails)
-      → on.Wrote [] → AsksFor ws job → UnassemblesSome on.Had job e → (asks_for_hints job ≡ false → hints ≡ [])
+      → on.Wrote [] → AsksFor ws job → overwrites job ≡ false → UnassemblesSome on.Had job e → (asks_for_hints job ≡ false → hints ≡ [])
       → IsToldOrMemory on.Told (on.Told ((assembly_refusal_text e ++ line_feed) ++ hints)) F Refused s → Ends s
-  told_unassembled F job e hints s by none asks refuses unasked (inl (inl (is, told))) =
+  told_unassembled F job e hints s by none asks apart refuses unasked (inl (inl (is, told))) =
       subst Ends (sym is)
       (inr (record {
         job = job;
         asks = asks;
+        apart = apart;
         refusal = e;
         refuses = refuses;
         hints = hints;
@@ -309,16 +287,18 @@ module _ (ws : List (List ℕ)) (on : Devices) where
         wrote = none;
         told = told;
       }))
-  told_unassembled F job e hints s by none asks refuses unasked (inl (inr (is, fails))) = failed s is (by fails)
-  told_unassembled F job e hints s by none asks refuses unasked (inr memory) = told_memory F s by none memory
+  told_unassembled F job e hints s by none asks apart refuses unasked (inl (inr (is, fails))) = failed s is (by fails)
+  told_unassembled F job e hints s by none asks apart refuses unasked (inr memory) = told_memory F s by none memory
 
   -- a job without an answer
   pub told_left : (F : Type 0) (job : Job) (n : NoAnswer) (hints : List ℕ) (s : Status) → (F → on.Fails) → on.Wrote []
-      → AsksFor ws job → IsLeftBy (RefusesSome on.Had job) (UnassemblesSome on.Had job) n
+      → AsksFor ws job → overwrites job ≡ false
+      → IsLeftBy (RefusesSome on.Had job) (UnassemblesSome on.Had job) (λ f. on.Misses ⊎ FailsSome on.Had job f) n
       → (asks_for_hints job ≡ false → hints ≡ [])
       → IsToldLeft on.Told F hints n s → Ends s
-  told_left F job (left.Refused e) hints s by none asks refuses unasked told =
-      told_refusal F job e hints s by none asks refuses unasked told
-  told_left F job (left.Unassembled e) hints s by none asks refuses unasked told =
-      told_unassembled F job e hints s by none asks refuses unasked told
-  told_left F job (left.Failed f) hints s by none asks refuses unasked told = told_failure F s by none told
+  told_left F job (left.Refused e) hints s by none asks apart refuses unasked told =
+      told_refusal F job e hints s by none asks apart refuses unasked told
+  told_left F job (left.Unassembled e) hints s by none asks apart refuses unasked told =
+      told_unassembled F job e hints s by none asks apart refuses unasked told
+  told_left F job (left.Failed f) hints s by none asks apart cause unasked told =
+      told_failure F job f hints s by none asks apart cause unasked told

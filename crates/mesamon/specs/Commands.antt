@@ -1,5 +1,5 @@
 -- What a command has done, of the bytes of the file that it is about, and how the program ends.
-use Rattle.std.specs.Prelude.{codes, ◌≡◌, ◌⊎◌, ◌++◌, ℕ, Bool, true, false, List, [], Option, Some, is_some, ⊤}
+use Rattle.std.specs.Prelude.{codes, ◌≡◌, ◌≢◌, ◌⊎◌, ◌++◌, ℕ, Bool, true, false, List, [], Option, Some, is_some}
 use Rattle.clap.specs.Words.{takes}
 use Rattle.words.specs.declared.version.ImageVersion.TheVariants.{Linux}
 use Rattle.scanner.specs.declared.refusal.Refusal.{Refusal}
@@ -20,11 +20,15 @@ use Rattle.answers.specs.declared.failure.NoAnswer.{NoAnswer}
 use Rattle.answers.specs.declared.failure.NoAnswer.TheVariants as left
 use Rattle.answers.specs.declared.status.Status.{Status}
 use Rattle.answers.specs.declared.status.Status.TheVariants.{Done, Refused, Usage, Stuck, Limit, Memory, Failed, Found}
+use Rattle.devices.specs.Failures.{HaveFailed}
 use Rattle.devices.specs.Files.{IsOfFile, IsPut}
 use Rattle.devices.specs.Writing.{HasAll}
 use Rattle.devices.specs.declared.counted.Counted.{Counted}
+use Rattle.devices.specs.declared.failures.FileFailures.{FileFailures}
 use Rattle.answers.specs.Answers.{ArePut, HasMetFailure, IsTold, IsToldOrMemory}
 use Rattle.answers.specs.Asked.{IsReplayedAs, IsRunAs, log_beside}
+use Rattle.answers.specs.Causes.{FailsExplanation, FailsFollowing, FailsImage, FailsLines, FailsListing, FailsReplay, FailsRun}
+use Rattle.answers.specs.Causes.{FailsShrinking}
 use Rattle.answers.specs.Done.{HasAssembled, HasChecked, HasCompiled, HasEmitted, HasExecuted, HasExplained, HasListed, HasRun}
 use Rattle.answers.specs.Done.{RefusesListing}
 use Rattle.mesamon.specs.Asked.{AreRead, asks_for_hints}
@@ -41,7 +45,7 @@ use Rattle.mesamon.specs.Overwriting.{overwrites}
 abbrev pub HasDone : Job → (bytes second : List ℕ) → Answer → Type 0
 HasDone (Check file hints) bytes second a = HasChecked bytes a
 HasDone (Compile file out workers version hints) bytes second a = HasCompiled version out bytes a
-HasDone (ListImage image linux source hints) bytes second a = HasListed linux (is_some source) bytes a
+HasDone (ListImage image linux source hints) bytes second a = HasListed linux (is_some source) bytes second a
 HasDone (Run file exits options page hints) bytes second a =
     HasRun (IsRunAs (version_by exits) options) options.trace options.log page bytes a
 HasDone (Exec image form exits options) bytes second a = HasExecuted exits form options bytes a
@@ -99,23 +103,25 @@ UnassemblesJob (Fmt file check hints) bytes e = ⊥
 UnassemblesJob (ScheduleLog log out steps hints) bytes e = ⊥
 UnassemblesJob (Shrink file exits schedule out hints) bytes e = ⊥
 
--- why a job may fail: one on a source text that makes no run by a schedule or a log for want of memory alone
-abbrev pub FailsJob : Job → Failure → Type 0
-FailsJob (Check file hints) f = f ≡ NoMemory
-FailsJob (Compile file out workers version hints) f = f ≡ NoMemory
-FailsJob (ListImage image linux source hints) f = ⊤
-FailsJob (Run file exits options page hints) f = f ≡ NoMemory
-FailsJob (Exec image form exits options) f = ⊤
-FailsJob (Replay file exits by trace page hints) f = ⊤
-FailsJob (Explain file exits by chart timeline page places hints) f = ⊤
-FailsJob (Emit file out hints) f = f ≡ NoMemory
-FailsJob (Explore file exits states strays kills ends chart timeline page schedule places hints) f = f ≡ NoMemory
-FailsJob (Search file form exits states strays kills files hints) f = ⊤
-FailsJob (Follow file form exits by trace hints) f = ⊤
-FailsJob (Assemble file out hints) f = ⊤
-FailsJob (Fmt file check hints) f = f ≡ NoMemory
-FailsJob (ScheduleLog log out steps hints) f = ⊤
-FailsJob (Shrink file exits schedule out hints) f = ⊤
+-- why a job fails, where that is no want of memory: with these bytes. A text that is checked, compiled, run, searched or
+-- laid out never does
+abbrev pub FailsJob : Job → (bytes second : List ℕ) → Failure → Type 0
+FailsJob (Check file hints) bytes second f = ⊥
+FailsJob (Compile file out workers version hints) bytes second f = ⊥
+FailsJob (ListImage image linux source hints) bytes second f = FailsListing linux source bytes second f
+FailsJob (Run file exits options page hints) bytes second f = ⊥
+FailsJob (Exec image form exits options) bytes second f = FailsRun exits form options bytes f
+FailsJob (Replay file exits by trace page hints) bytes second f = FailsReplay (version_by exits) by bytes second f
+FailsJob (Explain file exits by chart timeline page places hints) bytes second f =
+    FailsExplanation (version_by exits) by bytes second f
+FailsJob (Emit file out hints) bytes second f = ⊥
+FailsJob (Explore file exits states strays kills ends chart timeline page schedule places hints) bytes second f = ⊥
+FailsJob (Search file form exits states strays kills files hints) bytes second f = FailsImage exits form bytes f
+FailsJob (Follow file form exits by trace hints) bytes second f = FailsFollowing exits form by bytes second f
+FailsJob (Assemble file out hints) bytes second f = ⊥
+FailsJob (Fmt file check hints) bytes second f = ⊥
+FailsJob (ScheduleLog log out steps hints) bytes second f = FailsLines steps bytes f
+FailsJob (Shrink file exits schedule out hints) bytes second f = FailsShrinking (version_by exits) bytes second f
 
 -- the job was done on bytes that were read of its files
 pub record HasDoneSome (IsOf : (most : ℕ) → List ℕ → Type 0) (job : Job) (a : Answer) : Type 0 where
@@ -138,21 +144,32 @@ pub record UnassemblesSome (IsOf : (most : ℕ) → List ℕ → Type 0) (job : 
   pub read : AreRead IsOf job bytes second
   pub refuses : UnassemblesJob job bytes e
 
+-- it fails on bytes that were read of its files
+pub record FailsSome (IsOf : (most : ℕ) → List ℕ → Type 0) (job : Job) (f : Failure) : Type 0 where
+  pub bytes : List ℕ
+  pub second : List ℕ
+  pub read : AreRead IsOf job bytes second
+  pub fails : FailsJob job bytes second f
+
 -- what is known of the devices of a program: that its files had bytes, of so many at most; that a file has got bytes; that
--- standard output, or standard error, has got bytes and no others; and that a call of one of those two failed
+-- one couldn't be opened, read or written; that standard output, or standard error, has got bytes and no others; and that a
+-- call of one of those two failed
 pub record Devices : Type 1 where
   pub Had : (most : ℕ) → List ℕ → Type 0
   pub Got : List ℕ → Type 0
+  pub Misses : Type 0
   pub Wrote : List ℕ → Type 0
   pub Told : List ℕ → Type 0
   pub Fails : Type 0
 
--- by what is known of the bytes of its files, of its standard output and of its standard error
-abbrev pub devices_by : {F O E : Type 0} → (remaining contents : F → Option (List ℕ)) (printed : O → Option (List ℕ))
-    (told : E → Option (List ℕ)) (output output' : Counted O) (errors errors' : Counted E) → Devices
-devices_by remaining contents printed told output output' errors errors' = record {
+-- by what is known of the bytes of its files, of those that failed, of its standard output and of its standard error
+abbrev pub devices_by : {F O E : Type 0} → (remaining contents : F → Option (List ℕ)) (failures : FileFailures)
+    (printed : O → Option (List ℕ)) (told : E → Option (List ℕ)) (output output' : Counted O) (errors errors' : Counted E)
+    → Devices
+devices_by remaining contents failures printed told output output' errors errors' = record {
   Had = IsOfFile remaining;
   Got = IsPut contents;
+  Misses = HaveFailed failures;
   Wrote = HasAll printed output output';
   Told = HasAll told errors errors';
   Fails = HasMetFailure output' ⊎ HasMetFailure errors';
@@ -178,6 +195,7 @@ pub record HasAnswered (words : List (List ℕ)) (on : Devices) (status : Status
 pub record IsRefused (words : List (List ℕ)) (on : Devices) : Type 0 where
   pub job : Job
   pub asks : AsksFor words job
+  pub apart : overwrites job ≡ false
   pub refusal : Refusal
   pub refuses : RefusesSome on.Had job refusal
   pub hints : List ℕ
@@ -189,6 +207,7 @@ pub record IsRefused (words : List (List ℕ)) (on : Devices) : Type 0 where
 pub record IsUnassembled (words : List (List ℕ)) (on : Devices) : Type 0 where
   pub job : Job
   pub asks : AsksFor words job
+  pub apart : overwrites job ≡ false
   pub refusal : AssemblyRefusal
   pub refuses : UnassemblesSome on.Had job refusal
   pub hints : List ℕ
@@ -202,10 +221,12 @@ IsNoCommand words =
     ((job : Job) → takes command_line words ≡ true → AsksFor words job → ⊥)
     ⊎ ((job : Job) × AsksFor words job × (overwrites job ≡ true))
 
--- what failed was named, with more behind its line
-abbrev pub IsToldFailed : (Told : List ℕ → Type 0) (Fails : Type 0) → Status → Type 0
-IsToldFailed Told Fails status =
-    IsToldOrMemory Told ((name : List ℕ) × (more : List ℕ) × Told ((name ++ line_feed) ++ more)) Fails Failed status
+-- this failure, which is no want of memory, was named, with hints behind its line
+abbrev pub IsNamed : (Told : List ℕ → Type 0) (hints : List ℕ) → Failure → Type 0
+IsNamed Told hints f = (f ≢ NoMemory) × ((name : List ℕ) × Told ((name ++ line_feed) ++ hints))
+
+abbrev pub IsToldFailed : (Told : List ℕ → Type 0) (Fails : Type 0) (hints : List ℕ) → Failure → Status → Type 0
+IsToldFailed Told Fails hints f status = IsToldOrMemory Told (IsNamed Told hints f) Fails Failed status
 
 -- why a job has no answer was told, with hints behind it: a refusal by its line, and what failed by its name
 abbrev pub IsToldLeft : (Told : List ℕ → Type 0) (Fails : Type 0) (hints : List ℕ) → NoAnswer → Status → Type 0
@@ -213,12 +234,19 @@ IsToldLeft Told Fails hints (left.Refused e) status =
     IsToldOrMemory Told (Told ((refusal_text e ++ line_feed) ++ hints)) Fails Refused status
 IsToldLeft Told Fails hints (left.Unassembled e) status =
     IsToldOrMemory Told (Told ((assembly_refusal_text e ++ line_feed) ++ hints)) Fails Refused status
-IsToldLeft Told Fails hints (left.Failed f) status = IsToldFailed Told Fails status
+IsToldLeft Told Fails hints (left.Failed f) status = IsToldFailed Told Fails hints f status
 
--- a failure was named to standard error, and nothing was written to standard output
-pub record IsNamed (on : Devices) : Type 0 where
+-- the job that the words ask for failed: a file couldn't be opened, read or written, or it fails on the bytes that were read.
+-- What failed was named to standard error, with hints behind it where the job asks for hints; to standard output nothing was
+-- written
+pub record HasFailed (words : List (List ℕ)) (on : Devices) : Type 0 where
+  pub job : Job
+  pub asks : AsksFor words job
+  pub apart : overwrites job ≡ false
+  pub cause : on.Misses ⊎ ((failure : Failure) × FailsSome on.Had job failure)
   pub name : List ℕ
   pub hints : List ℕ
+  pub unasked : asks_for_hints job ≡ false → hints ≡ []
   pub wrote : on.Wrote []
   pub told : on.Told ((name ++ line_feed) ++ hints)
 
@@ -228,9 +256,10 @@ abbrev pub FinishesSo : (on : Devices) (asked : Bool) → Answer → Status → 
 FinishesSo on asked a status =
     (ArePut on.Got a.files × (hints : List ℕ) × (asked ≡ false → hints ≡ [])
     × IsTold (on.Wrote a.output.items × on.Told (a.account.items ++ hints)) on.Fails a.status status)
-    ⊎ (on.Wrote [] × IsToldFailed on.Told on.Fails status)
+    ⊎ (on.Wrote [] × on.Misses
+    × ((f : Failure) × (hints : List ℕ) × (asked ≡ false → hints ≡ []) × IsToldFailed on.Told on.Fails hints f status))
 
--- what is so of a program that ended with this status: where it failed, one of its two writers did, or what failed was named
+-- what is so of a program that ended with this status: where it failed, one of its two writers did, or its job
 abbrev pub EndsSo : (words : List (List ℕ)) (on : Devices) → Status → Type 0
 EndsSo words on Done = HasAnswered words on Done
 EndsSo words on Stuck = HasAnswered words on Stuck
@@ -239,4 +268,4 @@ EndsSo words on Found = HasAnswered words on Found
 EndsSo words on Refused = IsRefused words on ⊎ IsUnassembled words on
 EndsSo words on Usage = IsNoCommand words × on.Wrote []
 EndsSo words on Memory = on.Wrote [] × on.Told (codes "memory\n")
-EndsSo words on Failed = on.Fails ⊎ IsNamed on
+EndsSo words on Failed = on.Fails ⊎ HasFailed words on

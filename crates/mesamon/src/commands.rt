@@ -15,7 +15,7 @@ use crate::overwriting::overwrites;
 use answers::{Answer, Failure, NoAnswer, Status, tell_more, write_text};
 use assembler::AssemblyRefusal;
 use commandline::{Job, WordsFault, line};
-use devices::Counted;
+use devices::{Counted, FileFailures};
 use scanner::Refusal;
 use source_search::Progress;
 use std::alloc::{AllocError, Global};
@@ -35,6 +35,8 @@ const TWICE: &str = "error: a file that is to be written is named twice\n";
 /// and `errors` stand for standard output and standard error; the hints that the words ask for stand behind all else that
 /// `errors` gets. `progress` is told how far a search over all runs has come, as it goes, and gives nothing back.
 ///
+/// `failures` counts the files that can't be opened, read or written.
+///
 /// The first fault decides: of the words, of reading the files, of the source text or the image, of its run, of writing
 /// the files, of writing what is told.
 ///
@@ -49,28 +51,36 @@ pub fn perform_with_hints<
     O: Write,
     E: Write,
     P: Progress,
->(rt: &R, words: &[&str], output: &mut Counted<O>, errors: &mut Counted<E>, progress: &mut P) -> u8
+>(
+    rt: &R,
+    words: &[&str],
+    failures: &mut FileFailures,
+    output: &mut Counted<O>,
+    errors: &mut Counted<E>,
+    progress: &mut P,
+) -> u8
     ensures { (status : StatusOf) × (result ≡ status_code status) × EndsSo (map (λ w. w.now) words.now)
-        (devices_by R.File.remaining R.File.contents O.contents E.contents output.old output.new
+        (devices_by R.File.remaining R.File.contents failures.new O.contents E.contents output.old output.new
         errors.old errors.new) status }
 {
-    perform(rt, words, output, errors, progress).code()
+    perform(rt, words, failures, output, errors, progress).code()
 }
 
 // The same, and answers how it ended.
 fn perform<R: Files + AllocGlobal + Threads + Wait + Sync, O: Write, E: Write, P: Progress>(
     rt: &R,
     words: &[&str],
+    failures: &mut FileFailures,
     output: &mut Counted<O>,
     errors: &mut Counted<E>,
     progress: &mut P,
 ) -> Status
     ensures { EndsSo (map (λ w. w.now) words.now)
-        (devices_by R.File.remaining R.File.contents O.contents E.contents output.old output.new
+        (devices_by R.File.remaining R.File.contents failures.new O.contents E.contents output.old output.new
         errors.old errors.new) result }
 {
     match line(rt.alloc(), words) {
-        Ok(job) => perform_job(rt, job, output, errors, progress),
+        Ok(job) => perform_job(rt, job, failures, output, errors, progress),
         Err(WordsFault::Usage(text)) => tell(errors, text.as_str(), Status::Usage),
         Err(WordsFault::Memory) => tell(errors, MEMORY, Status::Memory),
     }
@@ -80,25 +90,26 @@ fn perform<R: Files + AllocGlobal + Threads + Wait + Sync, O: Write, E: Write, P
 fn perform_job<R: Files + AllocGlobal + Threads + Wait + Sync, O: Write, E: Write, P: Progress>(
     rt: &R,
     job: Job<'_>,
+    failures: &mut FileFailures,
     output: &mut Counted<O>,
     errors: &mut Counted<E>,
     progress: &mut P,
 ) -> Status
     requires { (ws : List (List ℕ)) × AsksFor ws job }
     ensures { (ws : List (List ℕ)) → AsksFor ws job.entry → EndsSo ws
-        (devices_by R.File.remaining R.File.contents O.contents E.contents output.old output.new
+        (devices_by R.File.remaining R.File.contents failures.new O.contents E.contents output.old output.new
         errors.old errors.new) result }
 {
     if overwrites(&job) {
         return tell(errors, TWICE, Status::Usage);
     }
     let mut hints = String::new(rt.alloc());
-    let done = do_job(rt, job, &mut hints, progress);
+    let done = do_job(rt, failures, job, &mut hints, progress);
     let asked = asks_for_hints(&job);
     match done {
-        Ok(answer) => finish(rt, &answer, asked, hints.as_str(), output, errors),
+        Ok(answer) => finish(rt, &answer, asked, hints.as_str(), failures, output, errors),
         Err(left) => {
-            tell_more(&mut hints, left);
+            tell_more(rt.alloc(), &mut hints, left);
             tell_left(rt.alloc(), left, asked_hints(asked, hints.as_str()), errors)
         }
     }
@@ -110,14 +121,15 @@ fn finish<R: Files + AllocGlobal, O: Write, E: Write>(
     answer: &Answer<'_>,
     asked: bool,
     hints: &str,
+    failures: &mut FileFailures,
     output: &mut Counted<O>,
     errors: &mut Counted<E>,
 ) -> Status
     ensures { FinishesSo
-        (devices_by R.File.remaining R.File.contents O.contents E.contents output.old output.new
+        (devices_by R.File.remaining R.File.contents failures.new O.contents E.contents output.old output.new
         errors.old errors.new) asked answer.now result }
 {
-    match put_files(rt, &answer.files) {
+    match put_files(rt, failures, &answer.files) {
         Ok(()) => tell_answer(answer, asked_hints(asked, hints), output, errors),
         Err(failure) => tell_unput(rt.alloc(), failure, asked, errors),
     }
@@ -130,10 +142,12 @@ fn tell_unput<E: Write>(
     asked: bool,
     errors: &mut Counted<E>,
 ) -> Status
-    ensures { IsToldFailed (HasAll E.contents errors.old errors.new) (HasMetFailure errors.new) result }
+    ensures { (hints : List ℕ) × (asked ≡ false → hints ≡ [])
+        × IsToldFailed (HasAll E.contents errors.old errors.new) (HasMetFailure errors.new) hints
+        failure.entry result }
 {
     let mut hints = String::new(alloc);
-    tell_more(&mut hints, NoAnswer::Failed(failure));
+    tell_more(alloc, &mut hints, NoAnswer::Failed(failure));
     tell_failed(alloc, failure, asked_hints(asked, hints.as_str()), errors)
 }
 
@@ -230,7 +244,8 @@ fn tell_failed<E: Write>(
     hints: &str,
     errors: &mut Counted<E>,
 ) -> Status
-    ensures { IsToldFailed (HasAll E.contents errors.old errors.new) (HasMetFailure errors.new) result }
+    ensures { IsToldFailed (HasAll E.contents errors.old errors.new) (HasMetFailure errors.new)
+        hints.now failure.entry result }
 {
     if let Failure::Memory = failure {
         return tell(errors, MEMORY, Status::Memory);

@@ -1,12 +1,13 @@
-ghost use Rattle.std.specs.Prelude.{◌≡◌, IfOk, IfErr, IfSome};
+ghost use Rattle.std.specs.Prelude.{◌≡◌, ◌⊎◌, IfErr, IfOk, IfSome};
+ghost use Rattle.devices.specs.Failures.{HaveFailed};
 ghost use Rattle.devices.specs.Files.{IsOfFile};
 ghost use Rattle.mesamon.specs.Asked.{HasWorkers, asks_for_hints, exits_of, first_most, most_first, most_formed, most_of};
 ghost use Rattle.mesamon.specs.Asked.{read_of_explained, read_of_replay, read_of_source, read_second};
-ghost use Rattle.mesamon.specs.Commands.{FailsJob, HasDone, HasDoneSome, RefusesJob, RefusesSome};
+ghost use Rattle.mesamon.specs.Commands.{FailsJob, FailsSome, HasDone, HasDoneSome, RefusesJob, RefusesSome};
 ghost use Rattle.mesamon.specs.Commands.{UnassemblesJob, UnassemblesSome};
-ghost use Rattle.answers.specs.Failures.{IsFailureBy, IsLeftBy};
+ghost use Rattle.answers.specs.Failures.{IsLeftBy, OrMemory};
 
-use crate::files::{bytes_of, front_of, whole_bytes_of};
+use crate::files::{bytes_of, front_of};
 use answers::{
     Answer, Drawings, Failure, NoAnswer, Searched, SourceText, answer_assemble, answer_check,
     answer_compile, answer_emit, answer_exec, answer_explain, answer_explore, answer_fmt,
@@ -14,6 +15,7 @@ use answers::{
     answer_shrink, log_bytes, tell_refused,
 };
 use commandline::{Exits, ExplainedBy, ImageForm, Job, ReplayedBy};
+use devices::FileFailures;
 use image_states::Outside as ImageOutside;
 use source_search::{Asked, Outside, Progress};
 use std::rt::Files;
@@ -162,6 +164,9 @@ fn second_of<'a>(job: Job<'a>) -> Second<'a>
     }
 }
 
+// How many bytes are read of a file of which all are wanted: more than there is memory for.
+const ALL: usize = 1 << 62;
+
 // How much is read of the file that a job is about.
 #[derive(Clone, Copy)]
 enum First {
@@ -207,45 +212,55 @@ fn first_formed(form: ImageForm) -> First
 }
 
 // The bytes of the file that a job is about.
-fn first_bytes<'a, R: Files + AllocGlobal>(rt: &R, job: Job<'a>) -> Result<Vec<u8>, Failure<'a>>
-    ensures { IfOk result (λ v. IsOfFile R.File.remaining (first_most job.entry) v.items) }
+fn first_bytes<'a, R: Files + AllocGlobal>(
+    rt: &R,
+    failures: &mut FileFailures,
+    job: Job<'a>,
+) -> Result<Vec<u8>, Failure<'a>>
+    ensures read { IfOk result (λ v. IsOfFile R.File.remaining (first_most job.entry) v.items) }
+    ensures failed { IfErr result (OrMemory (λ f. HaveFailed failures.new)) }
 {
     match first_of(job) {
-        First::Text => bytes_of(rt, file_of(job)),
-        First::All => whole_bytes_of(rt, file_of(job)),
-        First::Log { steps } => front_of(rt, file_of(job), log_bytes(steps) + 1),
+        First::Text => bytes_of(rt, failures, file_of(job)),
+        First::All => front_of(rt, failures, file_of(job), ALL),
+        First::Log { steps } => front_of(rt, failures, file_of(job), log_bytes(steps) + 1),
     }
 }
 
 // The bytes of a job's second file; none, where it has no such file.
 fn second_bytes<'a, R: Files + AllocGlobal>(
     rt: &R,
+    failures: &mut FileFailures,
     second: Second<'a>,
 ) -> Result<Vec<u8>, Failure<'a>>
-    ensures { IfOk result
+    ensures read { IfOk result
         (λ v. IfSome (most_of second.entry) (λ most. IsOfFile R.File.remaining most v.items)) }
+    ensures failed { IfErr result (OrMemory (λ f. HaveFailed failures.new)) }
 {
     match second {
         Second::None => Ok(Vec::new(rt.alloc())),
-        Second::Text(name) => bytes_of(rt, name),
-        Second::Log { name, steps } => front_of(rt, name, log_bytes(steps) + 1),
+        Second::Text(name) => bytes_of(rt, failures, name),
+        Second::Log { name, steps } => front_of(rt, failures, name, log_bytes(steps) + 1),
     }
 }
 
 /// Reads a job's files and does it. What is to stand behind what it tells is appended to `told`, where hints are asked for.
+/// A file that isn't read is counted.
 pub fn do_job<'a, R: Files + AllocGlobal + Threads + Wait + Sync, P: Progress>(
     rt: &R,
+    failures: &mut FileFailures,
     job: Job<'a>,
     told: &mut String,
     progress: &mut P,
 ) -> Result<Answer<'a>, NoAnswer<'a>>
     requires { HasWorkers job }
     ensures done { IfOk result (HasDoneSome (IsOfFile R.File.remaining) job.entry) }
-    ensures refused { IfErr result (IsLeftBy (RefusesSome (IsOfFile R.File.remaining) job.entry)
-        (UnassemblesSome (IsOfFile R.File.remaining) job.entry)) }
+    ensures left { IfErr result (IsLeftBy (RefusesSome (IsOfFile R.File.remaining) job.entry)
+        (UnassemblesSome (IsOfFile R.File.remaining) job.entry)
+        (λ f. HaveFailed failures.new ⊎ FailsSome (IsOfFile R.File.remaining) job.entry f)) }
 {
-    let bytes = first_bytes(rt, job)?;
-    let second = second_bytes(rt, second_of(job))?;
+    let bytes = first_bytes(rt, failures, job)?;
+    let second = second_bytes(rt, failures, second_of(job))?;
     answer_job(rt, job, bytes.as_slice(), second.as_slice(), told, progress)
 }
 
@@ -261,8 +276,8 @@ pub fn do_job<'a, R: Files + AllocGlobal + Threads + Wait + Sync, P: Progress>(
 /// The refusal of the text that the job is about, or of the source text beside an image. Else the failure: bytes that are
 /// no image, the image of another text, or one of the first version that is to be run by Linux's rule of exits; an
 /// entry of the schedule or of the log, or a line of the log, that is refused, or a log that is too long; a schedule whose
-/// run doesn't fail; a fault of the run of an image; or want of memory. A job on a source text that makes no run by a
-/// schedule or a log fails for want of memory alone.
+/// run doesn't fail; a fault of the run of an image; or want of memory. Each but the last has its cause in the bytes
+/// (`FailsJob`). A job on a source text that makes no run by a schedule or a log fails for want of memory alone.
 pub fn answer_job<'a, R: AllocGlobal + Threads + Wait + Sync, P: Progress>(
     rt: &R,
     job: Job<'a>,
@@ -273,9 +288,8 @@ pub fn answer_job<'a, R: AllocGlobal + Threads + Wait + Sync, P: Progress>(
 ) -> Result<Answer<'a>, NoAnswer<'a>>
     requires { HasWorkers job }
     ensures done { IfOk result (HasDone job.entry bytes.now second.now) }
-    ensures refused { IfErr result (IsLeftBy (RefusesJob job.entry bytes.now second.now)
-        (UnassemblesJob job.entry bytes.now)) }
-    ensures failed { IfErr result (IsFailureBy (λ f. FailsJob job.entry f)) }
+    ensures left { IfErr result (IsLeftBy (RefusesJob job.entry bytes.now second.now)
+        (UnassemblesJob job.entry bytes.now) (FailsJob job.entry bytes.now second.now)) }
 {
     let text = SourceText {
         file: file_of(job),
@@ -302,9 +316,9 @@ fn answer_of<'a, R: AllocGlobal + Threads + Wait + Sync, P: Progress>(
     requires workers { HasWorkers job }
     requires exits { text.now.exits ≡ exits_of job }
     ensures done { IfOk result (HasDone job.entry text.now.bytes.now second.now) }
-    ensures refused { IfErr result (IsLeftBy (RefusesJob job.entry text.now.bytes.now second.now)
-        (UnassemblesJob job.entry text.now.bytes.now)) }
-    ensures failed { IfErr result (IsFailureBy (λ f. FailsJob job.entry f)) }
+    ensures left { IfErr result (IsLeftBy (RefusesJob job.entry text.now.bytes.now second.now)
+        (UnassemblesJob job.entry text.now.bytes.now)
+        (FailsJob job.entry text.now.bytes.now second.now)) }
 {
     let alloc = rt.alloc();
     match job {

@@ -21,7 +21,7 @@ pub use compiler::{
     check_text, compile, compile_as, compile_checked, compile_checked_as, compile_with,
     compile_with_as,
 };
-pub use devices::Counted;
+pub use devices::{Counted, FileFailures};
 pub use jobs::answer_job;
 pub use progress::ProgressLines;
 pub use source_search::{Asked, Progress, Untold};

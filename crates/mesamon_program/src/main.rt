@@ -7,7 +7,7 @@ mod stack;
 
 use crate::piped::Piped;
 use crate::stack::stack_for;
-use mesamon::{Counted, Progress, ProgressLines, Status, perform_with_hints};
+use mesamon::{Counted, FileFailures, Progress, ProgressLines, Status, perform_with_hints};
 use std::io::Write;
 use std::process::ExitCode;
 use std::rt::{Env, Files};
@@ -67,7 +67,15 @@ fn perform_words<
 >(rt: &R, output: &mut Counted<O>, errors: &mut Counted<E>, progress: &mut P) -> io::Result<u8> {
     let words: Vec<String> = env::args(rt)?.skip(1).collect(rt.alloc())?;
     let texts: Vec<&str> = words.iter().map(|word| word.as_str()).collect(rt.alloc())?;
-    Ok(perform_with_hints(rt, texts.as_slice(), output, errors, progress))
+    let mut failures = FileFailures::new();
+    Ok(perform_with_hints(
+        rt,
+        texts.as_slice(),
+        &mut failures,
+        output,
+        errors,
+        progress,
+    ))
 }
 
 // Says why there are no words: one of them is no UTF-8, or there was no memory for them.

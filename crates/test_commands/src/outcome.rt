@@ -1,7 +1,7 @@
 use crate::device::Device;
 use crate::fault::RowFault;
 use crate::row::Row;
-use mesamon::{Counted, ProgressLines, perform_with_hints};
+use mesamon::{Counted, FileFailures, ProgressLines, perform_with_hints};
 use std::alloc::{AllocError, Global};
 use std::rt::Files;
 use std::sync::Wait;
@@ -90,9 +90,11 @@ impl Outcome {
         let mut output = Counted::new(Device::new(rt.alloc(), row.output_room)?);
         let mut errors = Counted::new(Device::new(rt.alloc(), row.errors_room)?);
         let mut progress = ProgressLines::new(Device::new(rt.alloc(), row.errors_room)?, STATES);
+        let mut failures = FileFailures::new();
         let status = perform_with_hints(
             rt,
             words.as_slice(),
+            &mut failures,
             &mut output,
             &mut errors,
             &mut progress,

@@ -1,6 +1,7 @@
 use Rattle.std.proofs.Common.{List, ℕ, Option, Bor, None, subst}
 use Rattle.answers.specs.Answers.{TellsReport}
-use Rattle.answers.proofs.Told.{no_memory_left, ok_so}
+use Rattle.answers.proofs.Refusing.{left_as}
+use Rattle.answers.proofs.Told.{no_memory, ok_so}
 use Rattle.answers.proofs.following.follow_image.Goals as goal
 
 pub returns-clause-done : goal.returns-clause-done
@@ -13,5 +14,8 @@ returns-clause-done c =
           c.log_beside-log.ensures tells;
     }) c.of_report.ensures.told
 
-pub returns-clause-refused : goal.returns-clause-refused
-returns-clause-refused c = no_memory_left c.of_report.result _ _ c.of_report.ensures.failed
+pub returns-in_err-report-clause-left : goal.returns-in_err-report-clause-left
+returns-in_err-report-clause-left c = left_as _ _ _ c.from_residual.ensures c.in_err-report.ensures.left
+
+pub returns-clause-left : goal.returns-clause-left
+returns-clause-left c = no_memory c.of_report.result _ _ _ c.of_report.ensures.failed

@@ -3,7 +3,7 @@ use Rattle.compiler.specs.Accepts.{RefusesTextAs}
 use Rattle.answers.proofs.Refusing.{refused_by}
 use Rattle.answers.proofs.listing.code_for_linux.Goals as goal
 
-pub returns-in-Err-clause-refused : goal.returns-in-Err-clause-refused
-returns-in-Err-clause-refused c =
-    refused_by (RefusesTextAs Linux c.args.text.now.bytes.now) _ c.from-refused.result c.in-Err.ensures.refusal
-    c.from-refused.ensures
+pub returns-in-Err-clause-left : goal.returns-in-Err-clause-left
+returns-in-Err-clause-left c =
+    refused_by (RefusesTextAs Linux c.args.text.now.bytes.now) (λ e. ⊥) (λ f. ⊥) _ c.from-refused.result
+    c.in-Err.ensures.refusal c.from-refused.ensures

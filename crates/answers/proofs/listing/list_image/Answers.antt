@@ -1,8 +1,15 @@
 use Rattle.std.proofs.Common.{List, ℕ, is_some, refl, subst, sym}
 use Rattle.isa.specs.Lines.{lines}
 use Rattle.answers.specs.Answers.{AreTold}
+use Rattle.answers.proofs.Refusing.{left_as, left_by, memory_left}
 use Rattle.answers.proofs.Told.{are_puts}
 use Rattle.answers.proofs.listing.list_image.Goals as goal
+
+pub returns-in_err-lines-clause-left : goal.returns-in_err-lines-clause-left
+returns-in_err-lines-clause-left c = left_by _ _ _ c.from_residual.ensures (λ n gives. memory_left _ _ _ n gives)
+
+pub returns-in_err-output-clause-left : goal.returns-in_err-output-clause-left
+returns-in_err-output-clause-left c = left_as _ _ _ c.from_residual-in_err-output.ensures c.in_err-output.ensures.left
 
 pub returns-clause-done : goal.returns-clause-done
 returns-clause-done c = record {

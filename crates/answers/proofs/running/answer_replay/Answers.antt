@@ -4,9 +4,9 @@ use Rattle.answers.proofs.Refusing.{left_as}
 use Rattle.answers.proofs.Told.{no_memory, ok_so}
 use Rattle.answers.proofs.running.answer_replay.Goals as goal
 
-pub returns-in_err-report-clause-refused : goal.returns-in_err-report-clause-refused
-returns-in_err-report-clause-refused c =
-    left_as _ _ _ c.from_residual.ensures c.in_err-report.ensures.refused
+pub returns-in_err-report-clause-left : goal.returns-in_err-report-clause-left
+returns-in_err-report-clause-left c =
+    left_as _ _ _ c.from_residual.ensures c.in_err-report.ensures.left
 
 pub returns-clause-done : goal.returns-clause-done
 returns-clause-done c =
@@ -18,5 +18,5 @@ returns-clause-done c =
           c.log_beside-log.ensures tells;
     }) c.report_answer.ensures.told
 
-pub returns-clause-refused : goal.returns-clause-refused
-returns-clause-refused c = no_memory _ _ c.report_answer.ensures.failed
+pub returns-clause-left : goal.returns-clause-left
+returns-clause-left c = no_memory _ _ _ _ c.report_answer.ensures.failed

@@ -1,15 +1,29 @@
 use Rattle.std.proofs.Common.{◌∙◌, List, subst}
 use Rattle.runner.specs.declared.schedule.Turn.{Turn}
 use Rattle.commandline.specs.CommandLine.{version_by}
+use Rattle.compiler.specs.Accepts.{RefusesTextAs}
+use Rattle.answers.specs.Causes.{FailsTextTurns}
 use Rattle.answers.specs.Replaying.{IsReplayOfText}
-use Rattle.answers.proofs.Refusing.{replay_left_by}
+use Rattle.answers.proofs.Refusing.{failure_left, left_by, replay_left_by, text_turns_unread}
 use Rattle.answers.proofs.running.replay_schedule.Goals as goal
+
+pub returns-in_err-turns-clause-left : goal.returns-in_err-turns-clause-left
+returns-in_err-turns-clause-left c =
+    let v = version_by c.args.text.now.exits in
+    let text = c.args.text.now.bytes.now in
+    let schedule = c.args.schedule.now in
+    left_by _ _ _ c.from_residual.ensures
+    (λ n gives. failure_left (RefusesTextAs v text) (λ e. ⊥) (FailsTextTurns v text schedule) n c.in_err-turns.field-0.0 gives
+    (text_turns_unread v text schedule c.in_err-turns.field-0.0 c.in_err-turns.ensures.failed))
 
 pub returns-in-Ok-clause-report : goal.returns-in-Ok-clause-report
 returns-in-Ok-clause-report c =
     subst
     (λ (turns : List Turn). IsReplayOfText (version_by c.args.text.now.exits) c.args.text.now.bytes.now turns c.in-Ok.report)
-    (c.as_slice.ensures.value ∙ c.in_ok-turns.ensures) c.in-Ok.ensures.report
+    (c.as_slice.ensures.value ∙ c.in_ok-turns.ensures.turns) c.in-Ok.ensures.report
 
-pub returns-clause-refused : goal.returns-clause-refused
-returns-clause-refused c = replay_left_by _ _ _ _ c.told_turn.result c.in-Err.ensures.fault c.told_turn.ensures
+pub returns-clause-left : goal.returns-clause-left
+returns-clause-left c =
+    replay_left_by (version_by c.args.text.now.exits) c.args.text.now.bytes.now c.args.schedule.now c.as_slice.result.now
+    c.in-Err.fault c.told_turn.result (c.as_slice.ensures.value ∙ c.in_ok-turns.ensures.turns) c.in-Err.ensures.fault
+    c.told_turn.ensures

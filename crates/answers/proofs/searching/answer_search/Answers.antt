@@ -1,5 +1,9 @@
-use Rattle.answers.proofs.Told.{no_memory_left, ok_so}
+use Rattle.answers.proofs.Refusing.{left_as}
+use Rattle.answers.proofs.Told.{no_memory, ok_so}
 use Rattle.answers.proofs.searching.answer_search.Goals as goal
+
+pub returns-in_err-formed-clause-left : goal.returns-in_err-formed-clause-left
+returns-in_err-formed-clause-left g c = left_as _ _ _ c.from_residual.ensures c.in_err-formed.ensures.left
 
 pub returns-clause-done : goal.returns-clause-done
 returns-clause-done g c =
@@ -10,5 +14,5 @@ returns-clause-done g c =
       searches = searches;
     }) c.search_formed.ensures.done
 
-pub returns-clause-refused : goal.returns-clause-refused
-returns-clause-refused g c = no_memory_left c.search_formed.result _ _ c.search_formed.ensures.failed
+pub returns-clause-left : goal.returns-clause-left
+returns-clause-left g c = no_memory c.search_formed.result _ _ _ c.search_formed.ensures.failed

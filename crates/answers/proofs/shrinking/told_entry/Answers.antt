@@ -1,5 +1,8 @@
-use Rattle.answers.proofs.Refusing.{fails}
+use Rattle.std.proofs.Common.{subst, sym}
+use Rattle.runner.specs.declared.schedule.ScheduleFault.{ScheduleFault}
+use Rattle.answers.specs.Failures.{OfSchedule}
 use Rattle.answers.proofs.shrinking.told_entry.Goals as goal
 
 pub returns-in-BadEntry : goal.returns-in-BadEntry
-returns-in-BadEntry c = fails (λ e. ⊥) c.told_turn.result _ c.told_turn.ensures
+returns-in-BadEntry c =
+    subst (λ (f : ScheduleFault). OfSchedule f c.told_turn.result) (sym c.in-BadEntry.is) c.told_turn.ensures

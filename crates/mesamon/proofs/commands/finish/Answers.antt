@@ -7,14 +7,19 @@ use Rattle.mesamon.proofs.commands.finish.Goals as goal
 
 pub returns-in-Ok : goal.returns-in-Ok
 returns-in-Ok g c =
-    inl (c.in-Ok.ensures, c.asked_hints.result.now, c.asked_hints.ensures, c.tell_answer.ensures)
+    inl (c.in-Ok.ensures.put, c.asked_hints.result.now, c.asked_hints.ensures, c.tell_answer.ensures)
 
 pub returns-in-Err : goal.returns-in-Err
 returns-in-Err g c =
-    let errors = c.tell_unput.new.errors in (
+    let errors = c.tell_unput.new.errors in
+    let (hints, unasked, told) = c.tell_unput.ensures in (
     inr (
       Appends-nil _,
-      told_failed_by (HasAll g.E.Write.contents c.args.errors.now errors) (HasMetFailure errors) _ _ (λ f. inr f)
-          c.tell_unput.ensures,
+      c.in-Err.ensures.failed,
+      c.in-Err.failure,
+      hints,
+      unasked,
+      told_failed_by (HasAll g.E.Write.contents c.args.errors.now errors) (HasMetFailure errors) _ _ _ _ (λ f. inr f)
+          told,
     )
     )

@@ -19,6 +19,7 @@ returns-in-Ok g c ws asks =
 
 pub returns : goal.returns
 returns g c ws asks =
-    let left = rw c.in-Err.is at c.do_job-done.ensures.refused in
-    told_left ws _ _ c.args.job _ c.asked_hints.result.now c.tell_left.result (λ f. inr f) (Appends-nil _) asks left
+    let left = rw c.in-Err.is at c.do_job-done.ensures.left in
+    told_left ws _ _ c.args.job _ c.asked_hints.result.now c.tell_left.result (λ f. inr f) (Appends-nil _) asks
+    (sym c.overwrites.ensures ∙ c.if-overwrites.false) left
     (λ e. c.asked_hints.ensures (c.asks_for_hints-asked.ensures ∙ e)) c.tell_left.ensures

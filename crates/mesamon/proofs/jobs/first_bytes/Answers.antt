@@ -3,14 +3,16 @@ use Rattle.devices.specs.Files.{IsOfFile}
 use Rattle.mesamon.proofs.ReadFiles.{first_so}
 use Rattle.mesamon.proofs.jobs.first_bytes.Goals as goal
 
-pub returns-in-Text : goal.returns-in-Text
-returns-in-Text g c = first_so _ (λ v. v.items) _ _ _ _ c.first_of.ensures c.in-Text.is c.bytes_of.ensures
+pub returns-in-Text-clause-read : goal.returns-in-Text-clause-read
+returns-in-Text-clause-read g c =
+    first_so _ (λ v. v.items) _ _ _ _ c.first_of.ensures c.in-Text.is c.bytes_of.ensures.read
 
-pub returns-in-All : goal.returns-in-All
-returns-in-All g c = first_so _ (λ v. v.items) _ _ _ _ c.first_of.ensures c.in-All.is c.whole_bytes_of.ensures
+pub returns-in-All-clause-read : goal.returns-in-All-clause-read
+returns-in-All-clause-read g c =
+    first_so _ (λ v. v.items) _ _ _ _ c.first_of.ensures c.in-All.is c.front_of.ensures.read
 
-pub returns-in-Log : goal.returns-in-Log
-returns-in-Log g c =
-    let read = subst (λ (n : ℕ). IfOk c.front_of.result (λ v. IsOfFile g.R.File.Read.remaining (n + 1) v.items))
-    c.log_bytes.ensures.value c.front_of.ensures in
+pub returns-in-Log-clause-read : goal.returns-in-Log-clause-read
+returns-in-Log-clause-read g c =
+    let read = subst (λ (n : ℕ). IfOk c.front_of-in-Log.result (λ v. IsOfFile g.R.File.Read.remaining (n + 1) v.items))
+    c.log_bytes.ensures.value c.front_of-in-Log.ensures.read in
     first_so _ (λ v. v.items) _ _ _ _ c.first_of.ensures c.in-Log.is read
