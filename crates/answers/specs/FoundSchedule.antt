@@ -12,7 +12,7 @@ use Rattle.guided_schedules.specs.declared.following.GuidedSchedule.TheVariants.
 use Rattle.source_search.specs.declared.runs.Exploration.{Exploration}
 use Rattle.compiler.specs.Compiles.{IsCompiledAs}
 use Rattle.answers.specs.Answers.{Put}
-use Rattle.answers.specs.Images.{schedule_text}
+use Rattle.answers.specs.ScheduleText.{schedule_text}
 
 -- a run that was found fails so: by getting stuck where one does, and else by a fault
 abbrev pub IsFailureOf : Exploration → RunFailure → Type 0

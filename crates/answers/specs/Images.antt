@@ -33,10 +33,10 @@ use Rattle.runner.specs.Logs.{cost}
 use Rattle.runner.specs.Schedules.{IsFollowed}
 use Rattle.runner.specs.declared.report.Report.{Report}
 use Rattle.runner.specs.declared.schedule.Turn.{Turn}
-use Rattle.runner.specs.declared.schedule.Turn.TheVariants as turn
 use Rattle.answers.specs.Answers.{Put, TellsReport, name_of, put_of}
 use Rattle.answers.specs.Asked.{log_beside}
 use Rattle.answers.specs.Exploring.{states_line}
+use Rattle.answers.specs.ScheduleText.{schedule_text}
 use Rattle.answers.specs.Turns.{turns_in}
 use Rattle.answers.specs.declared.answer.Answer.{Answer}
 use Rattle.answers.specs.declared.answer.OutFiles.{OutFiles}
@@ -160,15 +160,6 @@ ending_lines may sleeping (ending.Bounded bound) = []
 
 abbrev pub search_lines : Outside → ImageExploration → List ℕ
 search_lines may e = states_line e.states (is_whole e.ending) ++ ending_lines may e.sleeping e.ending
-
--- the word of a turn, and the text of a schedule
-abbrev pub turn_line : Turn → List ℕ
-turn_line (turn.Step t) = decimal t ++ codes "\n"
-turn_line (turn.Stray t) = codes "s" ++ (decimal t ++ codes "\n")
-turn_line (turn.Kill t) = codes "k" ++ (decimal t ++ codes "\n")
-
-abbrev pub schedule_text : List Turn → List ℕ
-schedule_text turns = flat_map turn_line turns
 
 -- the file that the schedule of what was found is written to
 abbrev pub schedule_put : Option (Bor (List ℕ)) → List Turn → Option Put

@@ -16,6 +16,7 @@ pub mod Exploring
 pub mod FoundSchedule
 pub mod Formatting
 pub mod Images
+pub mod ScheduleText
 pub mod Scheduling
 pub mod Shrinking
 pub mod Done

@@ -7,7 +7,7 @@ use Rattle.machine.specs.declared.event.Entry.{Entry}
 use Rattle.runner.specs.Logs.{cost}
 use Rattle.schedules.specs.OfLog.{log_turns}
 use Rattle.answers.specs.Answers.{TellsAlone}
-use Rattle.answers.specs.Images.{schedule_text}
+use Rattle.answers.specs.ScheduleText.{schedule_text}
 use Rattle.answers.specs.declared.answer.Answer.{Answer}
 
 -- the line that tells of so many steps

@@ -13,7 +13,7 @@ use Rattle.schedules.specs.declared.failing.RunFailure.TheVariants.{Stuck, Abort
 use Rattle.schedules.specs.declared.shrinking.ShrunkSchedule.{ShrunkSchedule}
 use Rattle.compiler.specs.Compiles.{IsCompiledAs}
 use Rattle.answers.specs.Answers.{TellsAlone}
-use Rattle.answers.specs.Images.{schedule_text}
+use Rattle.answers.specs.ScheduleText.{schedule_text}
 use Rattle.answers.specs.Turns.{turns_in}
 use Rattle.answers.specs.declared.answer.Answer.{Answer}
 

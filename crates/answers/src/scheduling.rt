@@ -3,7 +3,7 @@ ghost use Rattle.schedules.specs.OfLog.{log_turns};
 ghost use Rattle.answers.specs.Answers.{TellsAlone};
 ghost use Rattle.answers.specs.Causes.{FailsLines};
 ghost use Rattle.answers.specs.Failures.{HasNoMemory, IsLeftBy};
-ghost use Rattle.answers.specs.Images.{schedule_text};
+ghost use Rattle.answers.specs.ScheduleText.{schedule_text};
 ghost use Rattle.answers.specs.Scheduling.{HasScheduled, steps_line};
 
 use crate::answer::{Answer, OutFiles};

@@ -5,8 +5,9 @@ ghost use Rattle.answers.specs.Failures.{HasNoMemory, IsLeftBy};
 ghost use Rattle.answers.specs.Images.{AreShown, HasSearched, SearchesImage, TellsSearch, UnassemblesAs, finds_run};
 ghost use Rattle.answers.specs.Images.{ending_lines, exit_line, found_put, is_whole, later_lines, machine_line, none_fails};
 ghost use Rattle.answers.specs.Images.{none_sleeps};
-ghost use Rattle.answers.specs.Images.{schedule_put, schedule_text, search_lines, search_status, sleepers_line};
-ghost use Rattle.answers.specs.Images.{sleeping_lines, sleeping_put, sleeping_status, thread_word, turn_line};
+ghost use Rattle.answers.specs.Images.{schedule_put, search_lines, search_status, sleepers_line};
+ghost use Rattle.answers.specs.ScheduleText.{schedule_text, turn_line};
+ghost use Rattle.answers.specs.Images.{sleeping_lines, sleeping_put, sleeping_status, thread_word};
 ghost use Rattle.std.specs.List.{flat_map};
 
 use crate::answer::{Answer, OutFile, OutFiles};

@@ -4,7 +4,7 @@ ghost use Rattle.commandline.specs.CommandLine.{version_by};
 ghost use Rattle.answers.specs.Answers.{TellsAlone};
 ghost use Rattle.answers.specs.Causes.{FailsShrinking};
 ghost use Rattle.answers.specs.Failures.{HasNoMemory, IsLeftBy, OfSchedule, OfShrink};
-ghost use Rattle.answers.specs.Images.{schedule_text};
+ghost use Rattle.answers.specs.ScheduleText.{schedule_text};
 ghost use Rattle.answers.specs.Shrinking.{HasShrunk, failure_line, minimal_line, shrunk_lines, sizes_line};
 
 use crate::answer::{Answer, OutFiles};

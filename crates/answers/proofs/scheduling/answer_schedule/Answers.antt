@@ -4,7 +4,7 @@ use Rattle.machine.specs.declared.event.Entry.{Entry}
 use Rattle.schedules.specs.OfLog.{log_turns}
 use Rattle.answers.specs.Answers.{TellsAlone}
 use Rattle.answers.specs.Causes.{FailsLines}
-use Rattle.answers.specs.Images.{schedule_text}
+use Rattle.answers.specs.ScheduleText.{schedule_text}
 use Rattle.answers.specs.Scheduling.{steps_line}
 use Rattle.answers.proofs.Refusing.{failure_left, left_by, long_lines, not_read}
 use Rattle.answers.proofs.Told.{no_memory, ok_so}

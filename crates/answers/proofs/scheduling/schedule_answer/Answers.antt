@@ -1,7 +1,7 @@
 use Rattle.std.proofs.Common.{◌∙◌, List, ℕ, Some, Vec, ap, length}
 use Rattle.std.specs.Global.{Global}
 use Rattle.runner.specs.declared.schedule.Turn.{Turn}
-use Rattle.answers.specs.Images.{schedule_text}
+use Rattle.answers.specs.ScheduleText.{schedule_text}
 use Rattle.answers.specs.Scheduling.{steps_line}
 use Rattle.answers.proofs.Told.{are_puts}
 use Rattle.answers.proofs.scheduling.schedule_answer.Goals as goal

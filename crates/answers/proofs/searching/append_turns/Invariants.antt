@@ -1,5 +1,5 @@
 use Rattle.std.proofs.Common.{◌≡◌, ◌++◌, take, string_bytes}
-use Rattle.answers.specs.Images.{schedule_text}
+use Rattle.answers.specs.ScheduleText.{schedule_text}
 use Rattle.answers.proofs.searching.append_turns.Given as goal
 
 abbrev pub invariant-loop-turn : goal.invariant-loop-turn

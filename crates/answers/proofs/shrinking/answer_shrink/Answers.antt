@@ -5,7 +5,7 @@ use Rattle.commandline.specs.CommandLine.{version_by}
 use Rattle.compiler.specs.Accepts.{RefusesTextAs}
 use Rattle.answers.specs.Answers.{TellsAlone}
 use Rattle.answers.specs.Causes.{FailsShrinking}
-use Rattle.answers.specs.Images.{schedule_text}
+use Rattle.answers.specs.ScheduleText.{schedule_text}
 use Rattle.answers.specs.Shrinking.{shrunk_lines}
 use Rattle.answers.proofs.Refusing.{failure_left, left_by, refused_by, shrink_left, shrink_unread}
 use Rattle.answers.proofs.Told.{no_memory, ok_so}

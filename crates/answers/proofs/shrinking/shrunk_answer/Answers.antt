@@ -1,7 +1,7 @@
 use Rattle.std.proofs.Common.{◌∙◌, ◌++◌, ℕ, List, Some, Vec, ap}
 use Rattle.std.specs.Global.{Global}
 use Rattle.runner.specs.declared.schedule.Turn.{Turn}
-use Rattle.answers.specs.Images.{schedule_text}
+use Rattle.answers.specs.ScheduleText.{schedule_text}
 use Rattle.answers.specs.Shrinking.{failure_line, minimal_line, sizes_line}
 use Rattle.answers.proofs.Told.{are_puts}
 use Rattle.answers.proofs.shrinking.shrunk_answer.Goals as goal
