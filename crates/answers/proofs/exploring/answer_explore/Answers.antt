@@ -1,7 +1,7 @@
 use Rattle.commandline.specs.CommandLine.{version_by}
 use Rattle.compiler.specs.Accepts.{RefusesTextAs}
 use Rattle.answers.proofs.Refusing.{left_by, refused_or_memory}
-use Rattle.answers.proofs.Told.{memory_alone, ok_so}
+use Rattle.answers.proofs.Told.{ok_so}
 use Rattle.answers.proofs.exploring.answer_explore.Goals as goal
 
 pub returns-in_err-explored-clause-refused : goal.returns-in_err-explored-clause-refused
@@ -17,4 +17,4 @@ returns-clause-done g c =
     c.found_answer.ensures.told
 
 pub returns-clause-refused : goal.returns-clause-refused
-returns-clause-refused g c = memory_alone _ _ c.found_answer.ensures.failed
+returns-clause-refused g c = c.found_answer.ensures.refused

@@ -1,1 +1,0 @@
-use Rattle.answers.proofs.exploring.found_answer.Goals as goal
