@@ -256,8 +256,8 @@ abbrev pub FinishesSo : (on : Devices) (asked : Bool) → Answer → Status → 
 FinishesSo on asked a status =
     (ArePut on.Got a.files × (hints : List ℕ) × (asked ≡ false → hints ≡ [])
     × IsTold (on.Wrote a.output.items × on.Told (a.account.items ++ hints)) on.Fails a.status status)
-    ⊎ (on.Wrote [] × on.Misses
-    × ((f : Failure) × (hints : List ℕ) × (asked ≡ false → hints ≡ []) × IsToldFailed on.Told on.Fails hints f status))
+    ⊎ (on.Wrote [] × on.Misses × (f : Failure) × (hints : List ℕ) × (asked ≡ false → hints ≡ [])
+    × IsToldFailed on.Told on.Fails hints f status)
 
 -- what is so of a program that ended with this status: where it failed, one of its two writers did, or its job
 abbrev pub EndsSo : (words : List (List ℕ)) (on : Devices) → Status → Type 0

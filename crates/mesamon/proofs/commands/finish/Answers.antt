@@ -1,4 +1,4 @@
-use Rattle.std.proofs.Common.{inl, inr}
+use Rattle.std.proofs.Common.{◌⊎◌, inl, inr}
 use Rattle.std.proofs.KnownBytes.{Appends-nil}
 use Rattle.devices.specs.Writing.{HasAll}
 use Rattle.answers.specs.Answers.{HasMetFailure}
@@ -19,7 +19,8 @@ returns-in-Err g c =
       c.in-Err.failure,
       hints,
       unasked,
-      told_failed_by (HasAll g.E.Write.contents c.args.errors.now errors) (HasMetFailure errors) _ _ _ _ (λ f. inr f)
+      told_failed_by (HasAll g.E.Write.contents c.args.errors.now errors) (HasMetFailure errors)
+          (HasMetFailure c.args.output.now ⊎ HasMetFailure errors) hints c.in-Err.failure c.tell_unput.result (λ f. inr f)
           told,
     )
     )
