@@ -1,7 +1,7 @@
 -- How the program ends, by what it told.
 use Rattle.std.proofs.Common.{◌≡◌, ◌++◌, ◌⊎◌, ℕ, Bool, true, false, List, [], Result, Ok, Err, IfOk, IfErr, inl, inr, refl, codes}
 use Rattle.std.proofs.Common.{◌∙◌, Bor, ap, is_some, sym, subst}
-use Rattle.std.specs.Prelude.{bytes_eq}
+use Rattle.std.specs.Prelude.{IsErr, IsErrAnd, bytes_eq}
 use Rattle.commandline.specs.CommandLine.{AsksFor}
 use Rattle.commandline.specs.declared.job.Job.{Job}
 use Rattle.commandline.specs.declared.job.Job.TheVariants.{Check, Compile, List as ListImage, Run, Exec, Replay, Explain, Emit, Explore}
@@ -76,6 +76,12 @@ pub left_by : {T : Type 0} (r : Result T NoAnswer) (R : Exits → Refusal → Ty
 left_by r R U F job same bytes second e is by refuses unassembles fails h =
     left_as r (R (exits_of same)) U (F (exits_of same)) job same bytes second is refuses unassembles fails
     (subst (λ (x : Exits). IfErr r (IsLeftBy (R x) U (F x))) (by ∙ ap exits_of is) h)
+
+-- what comes of a failure that is passed on
+pub passed_on : {T E : Type 0} (r : Result T E) (Q P : E → Type 0) → IsErr r × IsErrAnd r Q → ((n : E) → Q n → P n)
+    → IfErr r P
+passed_on (Ok x) Q P h on = tt
+passed_on (Err n) Q P h on = on n h.1
 
 -- a file that isn't read is counted
 pub unread : (P : Refusal → Type 0) (U : AssemblyRefusal → Type 0) (Misses : Type 0) (F : Failure → Type 0) (n : NoAnswer)

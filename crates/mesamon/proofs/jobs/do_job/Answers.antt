@@ -1,17 +1,16 @@
 use Rattle.std.proofs.Common.{inr}
-use Rattle.mesamon.proofs.Answered.{unread}
+use Rattle.mesamon.proofs.Answered.{passed_on, unread}
 use Rattle.mesamon.proofs.ReadFiles.{are_read}
-use Rattle.answers.proofs.Refusing.{left_by}
 use Rattle.answers.proofs.Told.{lefts_so, ok_so}
 use Rattle.mesamon.proofs.jobs.do_job.Goals as goal
 
 pub returns-in_err-bytes-clause-left : goal.returns-in_err-bytes-clause-left
 returns-in_err-bytes-clause-left g c =
-    left_by _ _ _ c.from_residual.ensures (λ n gives. unread _ _ _ _ n _ gives c.in_err-bytes.ensures.failed)
+    passed_on _ _ _ c.from_residual.ensures (λ n gives. unread _ _ _ _ n _ gives c.in_err-bytes.ensures.failed)
 
 pub returns-in_err-second-clause-left : goal.returns-in_err-second-clause-left
 returns-in_err-second-clause-left g c =
-    left_by _ _ _ c.from_residual-in_err-second.ensures
+    passed_on _ _ _ c.from_residual-in_err-second.ensures
     (λ n gives. unread _ _ _ _ n _ gives c.in_err-second.ensures.failed)
 
 pub returns-clause-done : goal.returns-clause-done
