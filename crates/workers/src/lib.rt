@@ -8,6 +8,7 @@ mod ended;
 mod hiring;
 mod image_ref;
 mod lookout;
+mod moments;
 mod no_words;
 mod owed;
 mod parker;

@@ -5,15 +5,15 @@ ghost use Rattle.workers.specs.PutOffs.{AreNone};
 
 use crate::bucket_waiters::BucketWaiters;
 use crate::lookout::Lookout;
+use crate::moments::Moments;
 use crate::patience::Patience;
 use crate::put_off::PutOff;
-use std::hint::spin_loop;
 use std::sync::atomic::{AtomicU64, Ordering};
 use std::sync::{Condvar, Wait};
 use std::thread;
 
 // For how many moments a worker looks for a call before it sleeps: a few times as long as being woken takes.
-const LOOKS: u64 = 2000;
+const LOOKS: u32 = 2000;
 
 /// Which workers were called, by the numbers of their threads, and whether the calling thread was, which starts workers. Nothing
 /// adds to it but a call.
@@ -100,11 +100,12 @@ impl Parker {
 
     // Looks for a call past so many.
     fn look_for(&self, calls: u64) -> bool {
+        let moments = Moments::new();
         for _ in 0..LOOKS {
             if self.calls() != calls {
                 return true;
             }
-            spin_loop();
+            moments.pass_one();
         }
         self.calls() != calls
     }

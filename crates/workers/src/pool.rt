@@ -16,6 +16,7 @@ use crate::ended::Ended;
 use crate::hiring::Hiring;
 use crate::image_ref::ImageRef;
 use crate::lookout::Lookout;
+use crate::moments::Moments;
 use crate::owed::Owed;
 use crate::parker::{Called, Parker};
 use crate::precedence::Precedence;
@@ -27,7 +28,6 @@ use machine::ThreadSet;
 use runner::{After, RunName, Share};
 use std::alloc::{AllocError, Global};
 use std::fmt::Write;
-use std::hint::spin_loop;
 use std::sync::{Condvar, Mutex, MutexGuard, Wait};
 use std::thread;
 use std::thread::{Builder, JoinHandle, Scope, Threads};
@@ -37,7 +37,7 @@ use words::{Gate, MOST_THREADS};
 // woken takes.
 const TRIALS: u32 = 25;
 
-const MOMENT: u32 = 8;
+const MOMENTS: u32 = 8;
 
 // A worker's stack. It has room for a few pieces, which are what takes most of it.
 const STACK_BYTES: usize = 256 * 1024;
@@ -434,9 +434,10 @@ impl<J: RunName> Pool<J> {
         if !self.lookout.enter() {
             return None;
         }
+        let moments = Moments::new();
         let mut found = None;
         for _ in 0..TRIALS {
-            linger();
+            moments.pass(MOMENTS);
             found = self.shared_run.try_lock();
             if found.is_some() {
                 break;
@@ -573,13 +574,6 @@ impl<J: RunName> Pool<J> {
             self.call(t, &mut called);
         }
         called
-    }
-}
-
-// Lets a moment go by.
-fn linger() {
-    for _ in 0..MOMENT {
-        spin_loop();
     }
 }
 

@@ -1,16 +1,18 @@
 use crate::lookout::Lookout;
-use crate::patience::Patience;
+use crate::moments::Moments;
 use crossbeam_utils::CachePadded;
-use std::hint::spin_loop;
 use std::sync::atomic::{AtomicU64, Ordering};
 use std::sync::{Mutex, Wait};
 use std::thread::yield_now;
 
-// For how many moments a worker looks for precedence in one go: about as long as being woken takes.
-const LOOKS: u32 = 400;
+// For how many moments a worker looks for precedence in one go: about a microsecond.
+const LOOKS: u32 = 100;
+
+// After so many goes in a row in which the one that has it made no entry, that one doesn't run: about as long as being woken takes.
+const MOST_STILL: u32 = 8;
 
 // How often it looks at most, as long as the one that has it makes entries: longer than that one keeps it.
-const MOST_GOES: u32 = 400;
+const MOST_GOES: u32 = 1000;
 
 // Behind so many entries the one that has it says that it runs.
 const SEVERAL: usize = 4;
@@ -23,8 +25,8 @@ pub struct Precedence {
     holder: CachePadded<AtomicU64>,
     // How often it said that it runs.
     progress: CachePadded<AtomicU64>,
-    // Where one looks for it, and whether it does.
-    room: CachePadded<Mutex<Patience>>,
+    // Where one looks for it.
+    room: CachePadded<Mutex<Moments>>,
 }
 
 impl Precedence {
@@ -33,46 +35,55 @@ impl Precedence {
         Precedence {
             holder: CachePadded::new(AtomicU64::new(0)),
             progress: CachePadded::new(AtomicU64::new(0)),
-            room: CachePadded::new(Mutex::new(Patience::new())),
+            room: CachePadded::new(Mutex::new(Moments::new())),
         }
     }
 
     /// Takes it for the worker of thread `t`: at once where nobody else has it, else when that one gives it up, and anyhow
-    /// where that one makes no entry for a moment. Where there is no place to look from, it is left where it is.
+    /// where that one makes no entry for a while. It isn't taken from one that makes entries: two that take it from one another
+    /// at each entry would hand everything that the lock keeps to and fro. Where there is no place to look from, it is left where
+    /// it is.
     pub fn take<R: Wait>(&self, rt: &R, lookout: &Lookout, t: u32) {
         let me = u64::from(t);
         if !lookout.has_places() || self.holder.load(Ordering::SeqCst) == me || self.claim(me) {
             return;
         }
-        let mut patience = self.room.lock(rt);
-        if !patience.looks() || !self.wait(me, &mut patience) {
+        let moments = self.room.lock(rt);
+        if !self.wait(me, &moments) {
             self.holder.store(me, Ordering::SeqCst);
         }
     }
 
-    // Looks for it, again and again as long as the one that has it runs. In between others may have the processor. Says whether
-    // it came.
-    fn wait(&self, me: u64, patience: &mut Patience) -> bool {
+    // Looks for it, again and again as long as the one that has it runs. Behind each entry of that one others may have the
+    // processor. Says whether it came.
+    fn wait(&self, me: u64, moments: &Moments) -> bool {
+        let mut progress = self.progress.load(Ordering::SeqCst);
+        let mut still = 0;
         for _ in 0..MOST_GOES {
-            let progress = self.progress.load(Ordering::SeqCst);
-            if self.look(me) {
-                return patience.note(true);
+            if self.look(me, moments) {
+                return true;
             }
-            if self.progress.load(Ordering::SeqCst) == progress {
-                return patience.note(false);
+            let now = self.progress.load(Ordering::SeqCst);
+            if now != progress {
+                progress = now;
+                still = 0;
+                yield_now();
+            } else if still < MOST_STILL {
+                still += 1;
+            } else {
+                return false;
             }
-            yield_now();
         }
         false
     }
 
     // Looks for it in one go, and says whether it came.
-    fn look(&self, me: u64) -> bool {
+    fn look(&self, me: u64, moments: &Moments) -> bool {
         for _ in 0..LOOKS {
             if self.claim(me) {
                 return true;
             }
-            spin_loop();
+            moments.pass_one();
         }
         false
     }
