@@ -7,6 +7,7 @@ several real threads.
 
 import sys
 
+import assembly
 from explaining import NAMES, Explainer
 from language import Refusal, program_of
 from lowering import image_bytes, LINUX, lowered, MOST
@@ -22,12 +23,13 @@ WANTED = ("output", "errors", "logged", "image", "status")
 OPTIONS = {
     "check": [], "list": ["linux"], "compile": ["workers=", "image="],
     "run": ["steps=", "in-order", "seed=", "strays=", "kills=", "trace", "log=", "linux"],
-    "exec": ["steps=", "in-order", "seed=", "strays=", "kills=", "trace", "log=", "exits="],
-    "replay": ["steps=", "trace", "log=", "image", "linux", "exits="],
+    "exec": ["steps=", "in-order", "seed=", "strays=", "kills=", "trace", "log=", "exits=", "assembly"],
+    "replay": ["steps=", "trace", "log=", "image", "linux", "exits=", "assembly"],
+    "assemble": [],
     "explain": ["steps=", "seed=", "strays=", "kills=", "schedule=", "log=", "linux"],
 }
 FILES = {"check": [["program.mesa"]], "list": [["program.mesa"]], "compile": [["program.mesa", "program.image"]],
-         "run": [["program.mesa"]], "exec": [["program.mesa"]], "explain": [["program.mesa"]],
+         "run": [["program.mesa"]], "exec": [["program.mesa"]], "assemble": [["program.mesa", "program.image"]], "explain": [["program.mesa"]],
          "replay": [["program.mesa"], ["program.mesa", "program.schedule"]]}
 
 
@@ -148,7 +150,7 @@ def expected(row):
         return globals()["do_" + command](row, files, options).lines()
     except NotCovered:
         return None
-    except Refusal as refusal:
+    except (Refusal, assembly.Refusal) as refusal:
         return Outcome(errors=[refusal.line()], status=1).lines()
     except FirstVersion:
         return Outcome(errors=["image of version 1, by Linux's exits"], status=6).lines()
@@ -167,6 +169,11 @@ def do_compile(row, _files, options):
     number(options, "workers", 1, 1, 64)
     code = lowered(program_of(row.program), number(options, "image", 2, 1, 2))
     return Outcome([f"ok {len(code.code)} instructions"], image=image_bytes(code))
+
+
+def do_assemble(row, _files, _options):
+    image = assembly.image_of_text(row.program)
+    return Outcome([f"ok {len(image_of(image)[3])} instructions"], image=image)
 
 
 def do_list(row, _files, options):
@@ -193,7 +200,7 @@ def machine_of(image, options):
 
 def given_image(row, options):
     """The image of a row, which is of the second version where Linux's rule of exits is asked for by name."""
-    image = image_of(row.program.encode("latin-1"))
+    image = image_of(assembly.image_of_text(row.program) if "assembly" in options else row.program.encode("latin-1"))
     if options.get("exits") == "linux" and image[0] == MOST[1]:
         raise FirstVersion
     return image
@@ -209,9 +216,9 @@ def do_exec(row, _files, options):
 
 def ran(image, options):
     """A run by the program's own choice."""
-    machine = machine_of(image, options)
+    machine, name = machine_of(image, options), row_log(options)
     log = list(entries_by(machine, options, "in-order" in options))
-    return told(machine, log, options, None if row_log(options) is None else log)
+    return told(machine, log, options, None if name is None else log)
 
 
 def most_steps(options):
@@ -252,12 +259,12 @@ class Refused(Exception):
 
 
 def do_replay(row, files, options):
-    by_log = len(files) == 1
-    if by_log and ("log" not in options or "image" in options) or not by_log and "steps" in options:
+    by_log, forms = len(files) == 1, {"image", "assembly"} & set(options)
+    if by_log and "log" not in options or not by_log and "steps" in options or len(forms) == 2:
         raise NotCovered
-    if "exits" in options and "image" not in options or {"linux", "image"} <= set(options):
+    if "exits" in options and not forms or "linux" in options and forms:
         raise NotCovered
-    machine = machine_of(given_image(row, options) if "image" in options else code_and_image(row, options)[1], options)
+    machine = machine_of(given_image(row, options) if forms else code_and_image(row, options)[1], options)
     row_log(options)
     try:
         log = list(log_entries(row, machine, options) if by_log else schedule_entries(row, machine))
