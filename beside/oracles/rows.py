@@ -25,12 +25,13 @@ OPTIONS = {
     "run": ["steps=", "in-order", "seed=", "strays=", "kills=", "trace", "log=", "linux"],
     "exec": ["steps=", "in-order", "seed=", "strays=", "kills=", "trace", "log=", "exits=", "assembly"],
     "replay": ["steps=", "trace", "log=", "image", "linux", "exits=", "assembly"],
-    "assemble": [],
+    "assemble": [], "schedule": ["steps="],
     "explain": ["steps=", "seed=", "strays=", "kills=", "schedule=", "log=", "linux"],
 }
 FILES = {"check": [["program.mesa"]], "list": [["program.mesa"]], "compile": [["program.mesa", "program.image"]],
-         "run": [["program.mesa"]], "exec": [["program.mesa"]], "assemble": [["program.mesa", "program.image"]], "explain": [["program.mesa"]],
-         "replay": [["program.mesa"], ["program.mesa", "program.schedule"]]}
+         "run": [["program.mesa"]], "exec": [["program.mesa"]], "explain": [["program.mesa"]],
+         "replay": [["program.mesa"], ["program.mesa", "program.schedule"]],
+         "assemble": [["program.mesa", "program.image"]], "schedule": [["program.log", "program.image"]]}
 
 
 class NotCovered(Exception):
@@ -107,7 +108,7 @@ def words_of(row):
         if name in options:
             raise NotCovered
         options[name] = value
-    if files not in FILES[command] or row.program is None:
+    if files not in FILES[command] or row.program is None and command != "schedule":
         raise NotCovered
     return command, files, options
 
@@ -306,6 +307,21 @@ def log_entries(row, machine, options):
             yield runs.by_entry(machine, entry)
         except (CannotMove, Broken):
             raise Refused(f"log entry {at}") from None
+
+
+def do_schedule(row, _files, options):
+    try:
+        turns = [turn for entry in read_log(row, options) for turn in turns_of_entry(*entry)]
+    except Refused as refused:
+        return Outcome(errors=[refused.args[0]], status=6)
+    return Outcome([f"ok {len(turns)} steps"], image="".join(turn + "\n" for turn in turns).encode())
+
+
+def turns_of_entry(thread, count, event):
+    """The turns of a schedule that an entry of a log is."""
+    if event is not None and event[0] in ("STRAY", "KILL"):
+        return [f"{'s' if event[0] == 'STRAY' else 'k'}{thread}"]
+    return [str(thread)] * (count + (event is not None))
 
 
 def do_explain(row, _files, options):
