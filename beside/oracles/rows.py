@@ -7,6 +7,7 @@ several real threads.
 
 import sys
 
+import assembly
 from explaining import NAMES, Explainer
 from language import Refusal, program_of
 from lowering import image_bytes, LINUX, lowered, MOST
@@ -22,13 +23,15 @@ WANTED = ("output", "errors", "logged", "image", "status")
 OPTIONS = {
     "check": [], "list": ["linux"], "compile": ["workers=", "image="],
     "run": ["steps=", "in-order", "seed=", "strays=", "kills=", "trace", "log=", "linux"],
-    "exec": ["steps=", "in-order", "seed=", "strays=", "kills=", "trace", "log=", "exits="],
-    "replay": ["steps=", "trace", "log=", "image", "linux", "exits="],
+    "exec": ["steps=", "in-order", "seed=", "strays=", "kills=", "trace", "log=", "exits=", "assembly"],
+    "replay": ["steps=", "trace", "log=", "image", "linux", "exits=", "assembly"],
+    "assemble": [], "schedule": ["steps="],
     "explain": ["steps=", "seed=", "strays=", "kills=", "schedule=", "log=", "linux"],
 }
 FILES = {"check": [["program.mesa"]], "list": [["program.mesa"]], "compile": [["program.mesa", "program.image"]],
          "run": [["program.mesa"]], "exec": [["program.mesa"]], "explain": [["program.mesa"]],
-         "replay": [["program.mesa"], ["program.mesa", "program.schedule"]]}
+         "replay": [["program.mesa"], ["program.mesa", "program.schedule"]],
+         "assemble": [["program.mesa", "program.image"]], "schedule": [["program.log", "program.image"]]}
 
 
 class NotCovered(Exception):
@@ -105,7 +108,7 @@ def words_of(row):
         if name in options:
             raise NotCovered
         options[name] = value
-    if files not in FILES[command] or row.program is None:
+    if files not in FILES[command] or row.program is None and command != "schedule":
         raise NotCovered
     return command, files, options
 
@@ -148,7 +151,7 @@ def expected(row):
         return globals()["do_" + command](row, files, options).lines()
     except NotCovered:
         return None
-    except Refusal as refusal:
+    except (Refusal, assembly.Refusal) as refusal:
         return Outcome(errors=[refusal.line()], status=1).lines()
     except FirstVersion:
         return Outcome(errors=["image of version 1, by Linux's exits"], status=6).lines()
@@ -167,6 +170,11 @@ def do_compile(row, _files, options):
     number(options, "workers", 1, 1, 64)
     code = lowered(program_of(row.program), number(options, "image", 2, 1, 2))
     return Outcome([f"ok {len(code.code)} instructions"], image=image_bytes(code))
+
+
+def do_assemble(row, _files, _options):
+    image = assembly.image_of_text(row.program)
+    return Outcome([f"ok {len(image_of(image)[3])} instructions"], image=image)
 
 
 def do_list(row, _files, options):
@@ -193,7 +201,7 @@ def machine_of(image, options):
 
 def given_image(row, options):
     """The image of a row, which is of the second version where Linux's rule of exits is asked for by name."""
-    image = image_of(row.program.encode("latin-1"))
+    image = image_of(assembly.image_of_text(row.program) if "assembly" in options else row.program.encode("latin-1"))
     if options.get("exits") == "linux" and image[0] == MOST[1]:
         raise FirstVersion
     return image
@@ -209,9 +217,9 @@ def do_exec(row, _files, options):
 
 def ran(image, options):
     """A run by the program's own choice."""
-    machine = machine_of(image, options)
+    machine, name = machine_of(image, options), row_log(options)
     log = list(entries_by(machine, options, "in-order" in options))
-    return told(machine, log, options, None if row_log(options) is None else log)
+    return told(machine, log, options, None if name is None else log)
 
 
 def most_steps(options):
@@ -252,12 +260,12 @@ class Refused(Exception):
 
 
 def do_replay(row, files, options):
-    by_log = len(files) == 1
-    if by_log and ("log" not in options or "image" in options) or not by_log and "steps" in options:
+    by_log, forms = len(files) == 1, {"image", "assembly"} & set(options)
+    if by_log and "log" not in options or not by_log and "steps" in options or len(forms) == 2:
         raise NotCovered
-    if "exits" in options and "image" not in options or {"linux", "image"} <= set(options):
+    if "exits" in options and not forms or "linux" in options and forms:
         raise NotCovered
-    machine = machine_of(given_image(row, options) if "image" in options else code_and_image(row, options)[1], options)
+    machine = machine_of(given_image(row, options) if forms else code_and_image(row, options)[1], options)
     row_log(options)
     try:
         log = list(log_entries(row, machine, options) if by_log else schedule_entries(row, machine))
@@ -299,6 +307,21 @@ def log_entries(row, machine, options):
             yield runs.by_entry(machine, entry)
         except (CannotMove, Broken):
             raise Refused(f"log entry {at}") from None
+
+
+def do_schedule(row, _files, options):
+    try:
+        turns = [turn for entry in read_log(row, options) for turn in turns_of_entry(*entry)]
+    except Refused as refused:
+        return Outcome(errors=[refused.args[0]], status=6)
+    return Outcome([f"ok {len(turns)} steps"], image="".join(turn + "\n" for turn in turns).encode())
+
+
+def turns_of_entry(thread, count, event):
+    """The turns of a schedule that an entry of a log is."""
+    if event is not None and event[0] in ("STRAY", "KILL"):
+        return [f"{'s' if event[0] == 'STRAY' else 'k'}{thread}"]
+    return [str(thread)] * (count + (event is not None))
 
 
 def do_explain(row, _files, options):
