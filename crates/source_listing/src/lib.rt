@@ -1,5 +1,5 @@
-//! What stands beside the instructions of an image in its listing: the source lines that they became, and the names of
-//! words.
+//! Which source lines the instructions of an image come from, and what stands beside them in its listing: these lines, and
+//! the names of words.
 #![tactic(auto)]
 
 mod asides;
@@ -7,4 +7,4 @@ mod lengths;
 mod monitor_words;
 mod plan;
 
-pub use asides::{Listing, listing_of};
+pub use asides::{Listing, line_starts, listing_of};
