@@ -1,5 +1,5 @@
 use Rattle.std.proofs.Common.{nat_eq, rules, tests}
-use Rattle.std.proofs.lemmas.Iterator.{map_from_collect}
+use Rattle.std.proofs.lemmas.Iterator.Consumers.{map_from_collect}
 use Rattle.std.proofs.lemmas.Iterator.Splits.{YieldsList-from_slice_split}
 use Rattle.emit_image.proofs.comments.lines_in.Goals as goal
 
