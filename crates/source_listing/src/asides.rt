@@ -60,9 +60,10 @@ fn add_start(
 ) -> Result<(), AllocError> {
     let line = places.place(token).line;
     match starts.last() {
-        Some(last) if last.line == line => Ok(()),
-        _ => starts.push(LineStart { place, line }),
+        Some(last) if last.line == line => {}
+        _ => starts.push(LineStart { place, line })?,
     }
+    Ok(())
 }
 
 // The lines of the statements that begin before a piece's end; how many statements there were up to there.
