@@ -6,5 +6,7 @@ mod asides;
 mod lengths;
 mod monitor_words;
 mod plan;
+mod starts;
 
-pub use asides::{Listing, line_starts, listing_of};
+pub use asides::{Listing, listing_of};
+pub use starts::line_starts;
