@@ -9,6 +9,7 @@ use Rattle.isa.specs.Spelling.{HasByte, IsSpelled, spelling}
 use Rattle.isa.specs.Lines.{lines}
 use Rattle.scanner.specs.declared.refusal.Refusal.{Refusal}
 use Rattle.emit_image.specs.Texts.{c_text}
+use Rattle.emit_image.specs.declared.comments.LineStart.{LineStart}
 use Rattle.assembler.specs.Listings.{IsAssembled}
 use Rattle.runner.specs.declared.report.Report.{Report}
 use Rattle.program.specs.Trees.{Program as ProgramOf}
@@ -36,12 +37,17 @@ pub record HasChecked (text : List ℕ) (a : Answer) : Type 0 where
   pub accepts : AcceptsText text program
   pub tells : TellsAlone (codes "ok\n") None a
 
+-- the C of an image is written to the file of this name, with lines of the text where their code begins, and that was told
+pub record TellsC (out : Bor (List ℕ)) (text : List ℕ) (image : Program) (a : Answer) : Type 0 where
+  pub starts : List LineStart
+  pub tells : TellsAlone (codes "ok\n") (Some (out, c_text image text starts)) a
+
 -- the text was compiled to an image of the layout Linux, the C of which is written to the file of this name, and that was
 -- told
 pub record HasEmitted (out : Bor (List ℕ)) (text : List ℕ) (a : Answer) : Type 0 where
   pub image : Program
   pub compiled : IsCompiledAs Linux text image
-  pub tells : TellsAlone (codes "ok\n") (Some (out, c_text image)) a
+  pub tells : TellsC out text image a
 
 -- the text was compiled to an image of this version, which is written to the file of this name, and its line was told
 pub record HasCompiled (version : ImageVersion) (out : Bor (List ℕ)) (text : List ℕ) (a : Answer) : Type 0 where

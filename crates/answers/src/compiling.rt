@@ -1,10 +1,9 @@
 ghost use Rattle.std.specs.Prelude.{◌≤◌, ◌++◌, IfOk, IfErr, None, Some, codes, length};
 ghost use Rattle.compiler.specs.Accepts.{RefusesProgram, RefusesTextAs};
-ghost use Rattle.emit_image.specs.Texts.{c_text};
 ghost use Rattle.isa.specs.Spelling.{spelling};
 ghost use Rattle.answers.specs.Answers.{TellsAlone, put_of};
 ghost use Rattle.assembler.specs.Listings.{RefusesText as RefusesAssembly};
-ghost use Rattle.answers.specs.Done.{HasAssembled, HasChecked, HasCompiled, HasEmitted};
+ghost use Rattle.answers.specs.Done.{HasAssembled, HasChecked, HasCompiled, HasEmitted, TellsC};
 ghost use Rattle.answers.specs.Failures.{HasNoMemory, IsLeftBy, IsRefusalOrMemory};
 ghost use Rattle.answers.specs.ImageLine.{image_line};
 
@@ -14,9 +13,11 @@ use crate::hinting::SourceText;
 use crate::lines::line_of_image;
 use crate::status::Status;
 use assembler::assemble;
-use compiler::{check_text, compile_as, compile_with_as};
+use compiler::{check_text, compile_checked_as, compile_with_as};
 use emit_image::emit_image;
 use isa::{Image, encode};
+use program::Checked;
+use source_listing::line_starts;
 use std::alloc::{AllocError, Global};
 use std::sync::Wait;
 use std::thread::Threads;
@@ -88,7 +89,8 @@ fn image_answer<'a>(alloc: Global, image: &Image, out: &'a str) -> Result<Answer
     ))
 }
 
-/// Makes of the program of a text one in C, for the file of this name: its code for Linux, instruction by instruction.
+/// Makes of the program of a text one in C, for the file of this name: its code for Linux, instruction by instruction, with
+/// the lines of the text that it comes from as comments.
 pub fn answer_emit<'a>(
     alloc: Global,
     text: &SourceText<'_>,
@@ -98,15 +100,22 @@ pub fn answer_emit<'a>(
     ensures refused { IfErr result
         (IsRefusalOrMemory (RefusesTextAs ImageVersion.Linux text.now.bytes.now)) }
 {
-    let image = compile_as(alloc, text.bytes, ImageVersion::Linux)?;
-    c_answer(alloc, &image, out)
+    let (checked, lowered) = compile_checked_as(alloc, text.bytes, ImageVersion::Linux)?;
+    c_answer(alloc, text.bytes, &checked, &lowered.image, out)
 }
 
-// That the C of an image is made, and its bytes for the file of this name.
-fn c_answer<'a>(alloc: Global, image: &Image, out: &'a str) -> Result<Answer<'a>, NoAnswer<'a>>
-    ensures told { IfOk result (TellsAlone (codes "ok\n") (Some (out.entry, c_text image.now))) }
+// That the C of an image of a text is made, and its bytes for the file of this name.
+fn c_answer<'a>(
+    alloc: Global,
+    text: &[u8],
+    checked: &Checked,
+    image: &Image,
+    out: &'a str,
+) -> Result<Answer<'a>, NoAnswer<'a>>
+    ensures told { IfOk result (TellsC out.entry text.now image.now) }
     ensures failed { IfErr result HasNoMemory }
 {
-    let bytes = emit_image(alloc, image)?;
+    let starts = line_starts(alloc, text, checked, image.version())?;
+    let bytes = emit_image(alloc, image, text, starts.as_slice())?;
     ok(alloc, Some(OutFile { name: out, bytes }))
 }

@@ -1,3 +1,4 @@
 pub mod Operands
 pub mod Functions
+pub mod Comments
 pub mod Texts

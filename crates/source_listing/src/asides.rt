@@ -1,5 +1,7 @@
 use crate::monitor_words::Words;
 use crate::plan::Plan;
+use crate::starts::starts_of;
+use emit_image::LineStart;
 use isa::Instr;
 use places::{Places, places_of};
 use program::Checked;
@@ -14,13 +16,6 @@ pub struct Listing {
     pub head: String,
     /// What stands behind each line, and before its line feed.
     pub tails: Vec<String>,
-}
-
-// A line of the text that becomes instructions from a place on.
-#[derive(Clone, Copy)]
-struct Mark {
-    place: usize,
-    line: u32,
 }
 
 // The text, as it stands beside a listing.
@@ -57,57 +52,11 @@ fn append_byte(out: &mut TextWriter, byte: u8) {
     }
 }
 
-// Adds the mark of a token.
-fn add_mark(
-    marks: &mut Vec<Mark>,
-    places: &Places<'_>,
-    place: usize,
-    token: usize,
-) -> Result<(), AllocError> {
-    let line = places.place(token).line;
-    marks.push(Mark { place, line })?;
-    Ok(())
-}
-
-// The marks of the statements that begin before a piece's end; how many statements there were up to there.
-fn add_statements(
-    marks: &mut Vec<Mark>,
-    places: &Places<'_>,
-    plan: &Plan<'_>,
-    from: usize,
-    end: usize,
-) -> Result<usize, AllocError> {
-    let mut number = from;
-    for place in plan.statements.iter().skip(from) {
-        if *place >= end {
-            break;
-        }
-        if let Some(spot) = places.spot(number) {
-            add_mark(marks, places, *place, spot.token)?;
-        }
-        number = number.saturating_add(1);
-    }
-    Ok(number)
-}
-
-// The marks of a program, by rising place.
-fn marks_of(alloc: Global, places: &Places<'_>, plan: &Plan<'_>) -> Result<Vec<Mark>, AllocError> {
-    let mut marks = Vec::new(alloc);
-    let mut number = 0;
-    let bounds = plan.pieces.iter().zip(plan.ends.iter());
-    for ((start, end), piece) in bounds.zip(places.pieces.iter()) {
-        add_mark(&mut marks, places, *start, piece.token)?;
-        number = add_statements(&mut marks, places, plan, number, *end)?;
-        add_mark(&mut marks, places, *end, piece.end)?;
-    }
-    Ok(marks)
-}
-
 // What is still to be written beside the instructions.
 #[derive(Drop)]
 struct Beside<'m, 't> {
     source: &'m Source<'t>,
-    marks: &'m [Mark],
+    starts: &'m [LineStart],
     numbers: &'m [usize],
     last: u32,
 }
@@ -116,11 +65,11 @@ impl Beside<'_, '_> {
     // The line that begins at a place, where one does that isn't the last one.
     fn line_at(&mut self, place: usize) -> Option<u32> {
         let mut line = None;
-        for _mark in 0..self.marks.len() {
-            match self.marks {
+        for _start in 0..self.starts.len() {
+            match self.starts {
                 [first, rest @ ..] if first.place <= place => {
                     line = Some(first.line);
-                    self.marks = rest;
+                    self.starts = rest;
                 }
                 _ => break,
             }
@@ -205,8 +154,8 @@ fn listing_by(
     code: &[Instr],
     places: &Places<'_>,
 ) -> Result<Listing, AllocError> {
-    let plan = Plan::of(alloc, checked.program())?;
-    let marks = marks_of(alloc, places, &plan)?;
+    let plan = Plan::of(alloc, checked.program(), version)?;
+    let starts = starts_of(alloc, places, &plan)?;
     let numbers = plan.numbers.as_slice();
     listing_with(
         alloc,
@@ -214,26 +163,26 @@ fn listing_by(
         checked,
         version,
         code,
-        marks.as_slice(),
+        starts.as_slice(),
         numbers,
     )
 }
 
-// The listing, where these are the marks and the numbers of the program's plan.
+// The listing, where the code of lines begins at these places, and these are the numbers of the program's plan.
 fn listing_with(
     alloc: Global,
     text: &[u8],
     checked: &Checked,
     version: ImageVersion,
     code: &[Instr],
-    marks: &[Mark],
+    starts: &[LineStart],
     numbers: &[usize],
 ) -> Result<Listing, AllocError> {
     let source = Source::of(alloc, text)?;
     let words = Words::of(alloc, checked.program(), checked.names(), version)?;
     let beside = Beside {
         source: &source,
-        marks,
+        starts,
         numbers,
         last: 0,
     };

@@ -1,10 +1,12 @@
-//! What stands beside the instructions of an image in its listing: the source lines that they became, and the names of
-//! words.
+//! Which source lines the instructions of an image come from, and what stands beside them in its listing: these lines, and
+//! the names of words.
 #![tactic(auto)]
 
 mod asides;
 mod lengths;
 mod monitor_words;
 mod plan;
+mod starts;
 
 pub use asides::{Listing, listing_of};
+pub use starts::line_starts;

@@ -1,13 +1,15 @@
 // Where the code of each statement begins, in the order of the text, which is that of the code.
 
-use crate::lengths::{BROADCAST, JOIN, JOIN_ALONE, NOTIFY, WAIT, ending, entering};
+use crate::lengths::{broadcast, ending, entering, join, join_alone, notify, wait};
 use program::{Expression, Procedure, Program, Role, Statement, Target};
 use std::alloc::{AllocError, Global};
+use words::ImageVersion;
 
 /// Where things of the code lie.
 #[derive(Drop)]
 pub(crate) struct Plan<'p> {
     program: &'p Program,
+    version: ImageVersion,
     // Whether memory ran out.
     failed: bool,
     // Where the next instruction lies.
@@ -92,7 +94,7 @@ fn tested(statements: &[Statement], condition: &Expression, behind: usize, plan:
 // Passes a JOIN with an ABORTED part.
 #[cycle(statements)]
 fn join_aborted(statements: &[Statement], handle: &Expression, plan: &mut Plan<'_>) {
-    value(handle, JOIN, plan);
+    value(handle, join(), plan);
     block(statements, plan)
 }
 
@@ -126,13 +128,13 @@ fn statement(s: &Statement, plan: &mut Plan<'_>) {
             ..
         } => match aborted {
             Some(statements) => join_aborted(statements, handle, plan),
-            None => value(handle, JOIN_ALONE, plan),
+            None => value(handle, join_alone(), plan),
         },
         Statement::Return(e) => return_from(e, plan),
         Statement::Print(e) => value(e, 1, plan),
-        Statement::Wait(_) => plan.pass(WAIT),
-        Statement::Notify(_) => plan.pass(NOTIFY),
-        Statement::Broadcast(_) => plan.pass(BROADCAST),
+        Statement::Wait(_) => plan.pass(wait(plan.version)),
+        Statement::Notify(_) => plan.pass(notify()),
+        Statement::Broadcast(_) => plan.pass(broadcast()),
         Statement::Abort => plan.pass(1),
     }
 }
@@ -168,7 +170,7 @@ impl<'p> Plan<'p> {
 
     // A piece of a role begins.
     fn begin_piece(&mut self, role: Role) {
-        self.ending = ending(role);
+        self.ending = ending(role, self.version);
         if self.pieces.push(self.place).is_err() {
             self.failed = true;
         }
@@ -203,9 +205,13 @@ impl<'p> Plan<'p> {
         self.pass(self.ending)
     }
 
-    /// The plan of a program.
-    pub fn of(alloc: Global, program: &'p Program) -> Result<Plan<'p>, AllocError> {
-        let mut plan = Plan::new(alloc, program);
+    /// The plan of a program, for an image of this version.
+    pub fn of(
+        alloc: Global,
+        program: &'p Program,
+        version: ImageVersion,
+    ) -> Result<Plan<'p>, AllocError> {
+        let mut plan = Plan::new(alloc, program, version);
         plan.pass_all();
         match plan.failed {
             true => Err(AllocError),
@@ -221,9 +227,10 @@ impl<'p> Plan<'p> {
     }
 
     // A plan of nothing yet.
-    fn new(alloc: Global, program: &'p Program) -> Plan<'p> {
+    fn new(alloc: Global, program: &'p Program, version: ImageVersion) -> Plan<'p> {
         Plan {
             program,
+            version,
             failed: false,
             place: 0,
             ending: 1,

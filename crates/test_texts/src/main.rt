@@ -7,7 +7,7 @@
 //! alone TEXT                compiled by one worker through the same gate, where nobody else can come
 //! pieces COUNT NUMBER ..    empty pieces of these numbers are handed to a collector of so many
 //! times COUNT N TEXT        the code of the text's pieces is made so often, by N workers, or by `generate` where N is 0
-//! emit TEXT                 the C of the program
+//! emit TEXT                 the C of the program; in TEXT a `|` stands for a line feed
 //! search MOST RUNS TEXT     a search over all runs that keeps so many states at most; RUNS is `own`, or `ends`
 //!                           where it is asked too whether each run can end, or `strays` where those who wait may
 //!                           resume by themselves too, or `kills1`, `kills2` and so on where at most so many
