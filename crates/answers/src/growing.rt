@@ -79,10 +79,10 @@ fn is_element(checked: &Checked, place: Place) -> bool {
     let Some(monitor) = checked.program().monitors.get(place.monitor as usize) else {
         return false;
     };
-    matches!(
-        monitor.members.get(place.member as usize),
-        Some(MemberType::Array(_))
-    )
+    match monitor.members.get(place.member as usize) {
+        Some(MemberType::Array(_)) => true,
+        Some(MemberType::Variable(_) | MemberType::Condition) | None => false,
+    }
 }
 
 // Writes the name of a variable.
