@@ -16,6 +16,7 @@ use crate::compiled::compile_checked_by;
 use crate::drawing::{Drawings, ShownRun};
 use crate::failure::NoAnswer;
 use crate::found_schedule::schedule_of_found;
+use crate::growing::{counted_places, tell_growth};
 use crate::hinting::SourceText;
 use crate::status::Status;
 use crate::telling::tell_found;
@@ -29,6 +30,7 @@ use packed_log::PackedLog;
 use program::{Checked, Names};
 use run_hints::asides_of;
 use scanner::Refusal;
+use source_offers::Place;
 use source_search::{Asked, Blocked, Ending, Exploration, Outside, Progress, explore};
 use source_states::Action;
 use std::alloc::{AllocError, Global};
@@ -66,7 +68,7 @@ pub struct Searched {
 /// long as no more threads are killed. That is so where futex calls are whole, and where they are taken in pieces, by
 /// this rule of exits.
 ///
-/// How far the search has come is told as it goes.
+/// Where `grown` says so and the search ends early, what grew is counted. How far the search has come is told as it goes.
 ///
 /// # Errors
 ///
@@ -78,6 +80,7 @@ pub fn explore_source<'a, P: Progress>(
     most_states: usize,
     outside: Outside,
     asked: Asked,
+    grown: bool,
     progress: &mut P,
 ) -> Result<ExploredText<'a>, Refusal>
     ensures { MatchResult result
@@ -87,11 +90,35 @@ pub fn explore_source<'a, P: Progress>(
     text_laws();
     image_laws();
     let (checked, _lowered) = compile_checked_by(alloc, text, exits)?;
-    let exploration = explore_checked(alloc, &checked, most_states, outside, asked, progress)?;
+    let exploration = explore_checked(
+        alloc,
+        &checked,
+        most_states,
+        outside,
+        asked,
+        grown,
+        progress,
+    )?;
     Ok(ExploredText {
         checked,
         exploration,
     })
+}
+
+// The variables of which it is counted how many values each took, where that is wanted and there is memory for them.
+fn places_if(alloc: Global, checked: &Checked, grown: bool) -> Option<Vec<Place>> {
+    if !grown {
+        return None;
+    }
+    counted_places(alloc, checked).ok()
+}
+
+// The same places, lent.
+fn lent(places: &Option<Vec<Place>>) -> Option<&[Place]> {
+    match places {
+        Some(places) => Some(places.as_slice()),
+        None => None,
+    }
 }
 
 // What is found of a checked program.
@@ -101,17 +128,28 @@ fn explore_checked<P: Progress>(
     most_states: usize,
     outside: Outside,
     asked: Asked,
+    grown: bool,
     progress: &mut P,
 ) -> Result<Exploration, AllocError>
     ensures { IfOk result (IsFoundOf (said_by checked.now) outside asked most_states) }
 {
-    explore(alloc, checked, most_states, outside, asked, progress)
+    let places = places_if(alloc, checked, grown);
+    explore(
+        alloc,
+        checked,
+        most_states,
+        outside,
+        asked,
+        lent(&places),
+        progress,
+    )
 }
 
 /// Searches all runs of a source text, with as much from outside as may be, tells what is found and what is asked for,
 /// and shows it in other files where they are named and anything was found. A schedule by which the text's image fails as
 /// that run does is for the file of `schedule`; where none is known, standard error is told. How far the search has come is
-/// told as it goes.
+/// told as it goes. Where hints are wanted and the search wasn't complete, standard error is told which bound it met, and what
+/// grew.
 pub fn answer_explore<'a, P: Progress>(
     alloc: Global,
     text: &SourceText<'_>,
@@ -135,10 +173,12 @@ pub fn answer_explore<'a, P: Progress>(
         searched.states as usize,
         searched.outside,
         searched.asked,
+        text.hints,
         progress,
     )?;
     let found = shown(&explored.exploration);
     tell_found(alloc, told, text, &explored.checked, found);
+    tell_growth(alloc, told, text, &explored);
     found_answer(
         alloc,
         text,

@@ -12,6 +12,7 @@ mod failure;
 mod following;
 mod formatting;
 mod found_schedule;
+mod growing;
 mod hinting;
 mod images;
 mod lines;

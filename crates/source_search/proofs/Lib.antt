@@ -15,3 +15,4 @@ pub mod Ended
 pub mod Lively
 pub mod Endable
 pub mod Bounded
+pub mod Growing

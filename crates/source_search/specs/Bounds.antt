@@ -1,10 +1,11 @@
 -- What a search has kept, and why it ended early, if it did.
-use Rattle.std.specs.Prelude.{ℕ, ◌≡◌, ◌<◌, ◌≤◌, All, Contains, List, Option, Some, MatchOption, length, true, false}
+use Rattle.std.specs.Prelude.{ℕ, ◌≡◌, ◌<◌, ◌≤◌, All, Contains, IfSome, List, Option, Some, None, MatchOption, length, true, false}
 use Rattle.std.specs.List.Sorted.{IsStrictlyIncreasing}
 use Rattle.program.specs.Trees.{Program}
 use Rattle.program.specs.declared.kinds.Member.{Member}
 use Rattle.meaning.specs.States.{SourceState, opening}
 use Rattle.source_search.specs.Found.{interleaves}
+use Rattle.source_search.specs.Growth.{HasGrown}
 use Rattle.source_search.specs.Kept.{IsExpanded, IsSeen}
 use Rattle.source_search.specs.declared.bounds.Bound.{Bound}
 use Rattle.source_search.specs.declared.bounds.Bound.TheVariants.{Lost, Run, States, Waiters}
@@ -36,9 +37,12 @@ IsMet p may most kept Run = (length kept < most) × AreAll p may kept
 abbrev pub HasEnded : Program → Outside → ℕ → List SourceState → Option Bound → Type 0
 HasEnded p may most kept bound = MatchOption bound (AreAll p may kept) (IsMet p may most kept)
 
--- so many states were kept of those that may be, and the search was complete unless a bound was met
+-- so many states were kept of those that may be, and the search was complete unless a bound was met; where it is told what
+-- grew, that grew in these, and the search wasn't complete
 pub record HasSearched (p : Program) (may : Outside) (most : ℕ) (e : Exploration) : Type 0 where
   pub kept : List SourceState
   pub count : length kept ≡ e.states
   pub ended : HasEnded p may most kept e.bound
   pub complete : MatchOption e.bound (e.complete ≡ true) (λ b. e.complete ≡ false)
+  pub grown : IfSome e.growth (HasGrown kept)
+  pub ungrown : e.complete ≡ true → e.growth ≡ None

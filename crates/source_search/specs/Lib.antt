@@ -6,6 +6,8 @@ pub mod Spots
 pub mod Covered
 pub mod Waking
 pub mod Known
+pub mod Growth
+pub mod Counting
 pub mod Bounds
 pub mod Ends
 pub mod Living

@@ -53,8 +53,8 @@ fn greater(first: usize, second: usize) -> usize
     if first < second { second } else { first }
 }
 
-// How many processes there are at most in one of these states.
-fn most_made(states: &[Packed]) -> usize
+/// How many processes there are at most in one of these states.
+pub(crate) fn most_made(states: &[Packed]) -> usize
     ensures { All (λ x. length x.processes.items ≤ result) states.now }
 {
     let mut most = 0;

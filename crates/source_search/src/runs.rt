@@ -7,6 +7,7 @@ ghost use Rattle.source_search.specs.Blocking.{IsTold};
 ghost use Rattle.source_search.specs.Bounds.{AreAll, HasSearched, IsMet};
 ghost use Rattle.source_search.specs.Ending.{IsEndTold};
 ghost use Rattle.source_search.specs.Found.{HasFailed, LeadsNowhere, LeadsTo, interleaves};
+ghost use Rattle.source_search.specs.Growth.{places_in};
 ghost use Rattle.source_search.specs.declared.outside.Outside.{Outside as OutsideOf};
 ghost use Rattle.source_search.specs.Kept.{IsSeen, IsSound, states_of};
 
@@ -15,12 +16,14 @@ use crate::blocking::{Blocked, look_for_resting, told_blocked};
 use crate::bounds::Bound;
 use crate::ending::{Ending, look_for_lost, told_ending};
 use crate::ends::{has_failed, is_stuck};
+use crate::growth::{Growth, growth_if};
 use crate::kept::Kept;
 use crate::outside::{Outside, are_from};
 use crate::progress::Progress;
 use crate::replay::actions_to;
 use crate::search::{Findings, search};
 use program::Checked;
+use source_offers::Place;
 use source_states::{Action, SourceState, accepts};
 use std::alloc::{AllocError, Global};
 use words::ImageVersion;
@@ -42,6 +45,9 @@ pub struct Exploration {
     pub ending: Ending,
     /// Why the search wasn't complete, where it wasn't.
     pub bound: Option<Bound>,
+    /// What grew in the kept states, where it was asked for and the search ended early; none where there was no memory to
+    /// count it.
+    pub growth: Option<Growth>,
 }
 
 // Whether these are a run of actions that are searched, at whose end no process can move and not all are over.
@@ -242,6 +248,7 @@ fn explore_from<'a, P: Progress>(
     most_states: usize,
     outside: Outside,
     asked: Asked,
+    places: Option<&[Place]>,
     progress: &mut P,
 ) -> Result<Exploration, AllocError>
     requires sound { IsSound kept.old }
@@ -258,10 +265,14 @@ fn explore_from<'a, P: Progress>(
     ensures ending { IfOk result
         (λ e. IsEndTold (program_of checked.now.tree) outside asked.ends e.complete e.ending) }
     ensures searched { IfOk result (HasSearched (program_of checked.now.tree) outside most_states) }
+    ensures places { IfOk result (λ e. IfSome e.growth
+        (λ g. IfSome places.entry (λ xs. places_in g ≡ xs.now))) }
+    ensures unasked { places.entry ≡ None → IfOk result (λ e. e.growth ≡ None) }
 {
     let _program = checked.program();
     let opens = keep_opening(alloc, checked, kept, outside)?;
     let findings = search(alloc, checked, kept, most_states, outside, progress)?;
+    let growth = growth_if(alloc, kept, places, findings.complete);
     let all = kept.states.as_slice();
     let states = all.len();
     let lost = look_for_lost(alloc, checked, kept, asked.ends, findings.complete, outside)?;
@@ -289,6 +300,7 @@ fn explore_from<'a, P: Progress>(
         blocked,
         ending,
         bound,
+        growth,
     })
 }
 
@@ -300,13 +312,15 @@ fn explore_from<'a, P: Progress>(
 /// was found, there is none. Where nothing from outside is searched, a complete search tells a run at whose end some
 /// processes are blocked for good, or that there is none; and where it is asked for, a run that can't end any more, or
 /// that each run can end. It comes to its end unless it meets a bound, which is named: as many states are kept as may be,
-/// or one of the others. How far it has come is told as it goes.
+/// or one of the others. Where it ends early it is counted what grew in the kept states: of each of the variables of these
+/// places how many values it took, and of each process in how many ways it stood. How far it has come is told as it goes.
 pub fn explore<P: Progress>(
     alloc: Global,
     checked: &Checked,
     most_states: usize,
     outside: Outside,
     asked: Asked,
+    places: Option<&[Place]>,
     progress: &mut P,
 ) -> Result<Exploration, AllocError>
     ensures stuck { IfOk result (λ e. IfSome e.stuck (λ v. LeadsTo (program_of checked.now.tree) outside
@@ -322,6 +336,9 @@ pub fn explore<P: Progress>(
     ensures ending { IfOk result
         (λ e. IsEndTold (program_of checked.now.tree) outside asked.ends e.complete e.ending) }
     ensures searched { IfOk result (HasSearched (program_of checked.now.tree) outside most_states) }
+    ensures places { IfOk result (λ e. IfSome e.growth
+        (λ g. IfSome places.entry (λ xs. places_in g ≡ xs.now))) }
+    ensures unasked { places.entry ≡ None → IfOk result (λ e. e.growth ≡ None) }
 {
     let mut kept = Kept::new(alloc, most_states);
     explore_from(
@@ -331,6 +348,7 @@ pub fn explore<P: Progress>(
         most_states,
         outside,
         asked,
+        places,
         progress,
     )
 }

@@ -93,4 +93,6 @@ returns-clause-searched g c =
           → IsMet q may c.args.most_states states c.in_ok-findings.findings.bound)
           × (c.in_ok-opens.opens ≡ true → c.in_ok-findings.findings.complete ≡ true → AreAll q may states))
           c.bound_unless-bound.result c.bound_unless-bound.ensures;
+      grown = c.growth_if-growth.ensures.grown;
+      ungrown = λ complete. c.growth_if-growth.ensures.incomplete (c.is_complete-complete.ensures.complete complete);
     }
