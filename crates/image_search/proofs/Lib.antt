@@ -1,3 +1,4 @@
+pub mod Crowding
 pub mod Turning
 pub mod Keeping
 pub mod Searched

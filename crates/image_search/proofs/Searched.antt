@@ -12,6 +12,8 @@ use Rattle.proof_image_search.proofs.Closing.{grown, never_broken, never_failed,
 use Rattle.image_states.specs.Nexts.{AreNexts, Covers, Reaches}
 use Rattle.image_states.specs.Packed.{IsGrown, IsPrefix, IsWithin, kept_of}
 use Rattle.image_states.proofs.Growing.{kept_still, prefix_contains}
+use Rattle.image_states.proofs.Subsets.{contains_map}
+use Rattle.image_states.specs.declared.bound.Bound.TheVariants as reason
 use Rattle.image_states.specs.declared.next.Next.{Next as NextOf}
 use Rattle.image_states.specs.declared.packed.Packed.{Packed as PackedOf}
 use Rattle.image_states.specs.declared.parts.Parts.{Parts as PartsOf}
@@ -21,7 +23,7 @@ use Rattle.image_search.specs.declared.ending.Bound.TheVariants.{States, Nexts, 
 use Rattle.image_search.specs.declared.ending.Ending.{Ending}
 use Rattle.image_search.specs.declared.ending.Ending.TheVariants.{Complete, Stuck, Failed, Broken, Bounded}
 use Rattle.image_search.specs.declared.ends.Ends.{Ends as EndsOf}
-use Rattle.image_search.specs.Ends.{AreAll, AreAllBy, EndsSo, HasEnded, HasEndedBy, IsMet}
+use Rattle.image_search.specs.Ends.{AreAll, AreAllBy, EndsSo, HasEnded, HasEndedBy, IsMet, IsMetIn}
 use Rattle.image_search.specs.Kept.{AreEnds, HasKey, IsApartIn, IsEnd, IsExpandedAt, IsLookedAt, IsMetBy, IsPlain, IsSound}
 use Rattle.image_search.specs.Kept.{IsTold, IsToldAt, states_of}
 use Rattle.image_search.specs.Never.{NeverBreaks, NeverFails, NeverStuck}
@@ -179,7 +181,7 @@ module _ (p : Program) (alone : Bool) (may : May) (kept : List Kept) (place pass
 
   pub ended_so : (most : ℕ) (ending : Ending) → EndsSo passed ending → HasEndedBy p alone may most kept ending
   ended_so most Complete so = all_done so
-  ended_so most (Bounded Choice) so = so_far.ends so
+  ended_so most (Bounded Choice) so = let end = so_far.ends so in (end.0, end.1, inl end.2)
   ended_so most (Bounded States) so = absurd so
   ended_so most (Bounded (Nexts why)) so = absurd so
   ended_so most (Stuck turns) so = absurd so
@@ -214,12 +216,32 @@ looked_so p alone may kept kept' place passed passed' told is = record {
   told = subst (IsTold p passed passed') (same_Some told.0 is.0 (sym told.1 ∙ is.1)) told.2;
 }
 
--- a bound that is met as states are kept
-pub met_so : (p : Program) (kept : KeptOf) (bound : Bound) → IsMetBy kept bound
-    → IsMet p kept.most (states_of p kept) bound
-met_so p kept States is = omega (arith, is, length-map kept.states.items (kept_of p kept.parts))
-met_so p kept (Nexts why) is = tt
-met_so p kept Choice is = absurd is
+-- a bound that is met where a state is kept
+pub met_in : (p : Program) (may : May) (kept : KeptOf) (bound : Bound) → IsMetBy kept bound → IsMetIn p may kept bound
+met_in p may kept States is = is
+met_in p may kept (Nexts reason.Parts) is = is
+met_in p may kept (Nexts reason.Sleepers) is = absurd is
+met_in p may kept (Nexts reason.Foreign) is = tt
+met_in p may kept Choice is = absurd is
+
+-- or where what may come next of one is looked for
+pub met_so : (p : Program) (may : May) (kept : KeptOf) (bound : Bound) → IsMetIn p may kept bound
+    → IsMet p may kept.most (states_of p kept) bound
+met_so p may kept States is = omega (arith, is, length-map kept.states.items (kept_of p kept.parts))
+met_so p may kept (Nexts reason.Parts) is = (kept, refl, is)
+met_so p may kept (Nexts reason.Sleepers) is = is
+met_so p may kept (Nexts reason.Foreign) is = tt
+met_so p may kept Choice is = (
+  kept_of p kept.parts is.0,
+  contains_map (kept_of p kept.parts) kept.states.items is.0 is.1,
+  inr is.2,
+)
+
+-- what is so of a bound that another call met
+pub match_both : {X : Type 0} (A B : Type 0) (P Q : X → Type 0) (o : Option X) → (A → B) → ((x : X) → P x → Q x)
+    → MatchOption o A P → MatchOption o B Q
+match_both A B P Q None f g is = f is
+match_both A B P Q (Some x) f g is = g x is
 
 -- what the tests tell of a state
 pub plain_so : (p : Program) (r : Kept) (e : EndsOf) → AreEnds p r e → e.stuck ≡ false → e.failed ≡ false

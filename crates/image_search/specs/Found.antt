@@ -8,6 +8,7 @@ use Rattle.locals.specs.declared.request.Request.TheVariants as told
 use Rattle.machine.specs.States.{state_of}
 use Rattle.machine.specs.Views.{concrete}
 use Rattle.proof_image_search.specs.Searching.{HasFailed, May}
+use Rattle.image_search.specs.Crowds.{IsCrowded}
 use Rattle.runner.specs.Schedules.{FailsAt, IsFollowed}
 use Rattle.runner.specs.declared.report.Report.{Report}
 use Rattle.runner.specs.declared.report.Verdict.TheVariants.{Stuck}
@@ -53,6 +54,10 @@ EndsStuck report = report.verdict ≡ Stuck
 -- a thread is dying of a fault
 abbrev pub EndsFailed : Report → Type 0
 EndsFailed report = HasFailed (state_of (concrete report.last.view))
+
+-- more than twelve threads sleep on one address
+abbrev pub EndsCrowded : Report → Type 0
+EndsCrowded report = IsCrowded (state_of (concrete report.last.view)).asleep
 
 -- the step that writes that its thread dies of a fault
 abbrev pub IsFault : NextStep → Type 0

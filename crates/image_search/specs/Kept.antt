@@ -4,7 +4,8 @@ use Rattle.std.specs.List.{slice_get}
 use Rattle.isa.specs.Programs.{Program}
 use Rattle.machine.specs.Runs.{NextIsBroken}
 use Rattle.proof_image_search.specs.Searching.{HasFailed, IsApart, IsExpanded, IsStuck, Kept, May}
-use Rattle.image_states.specs.Packed.{IsGrown, IsPrefix, IsSameKey, IsWithin, kept_of}
+use Rattle.image_states.specs.Packed.{IsGrown, IsOutOfNumbers, IsPrefix, IsSameKey, IsWithin, kept_of}
+use Rattle.image_states.specs.declared.bound.Bound.TheVariants as reason
 use Rattle.image_states.specs.declared.packed.Packed.{Packed as PackedOf}
 use Rattle.image_states.specs.declared.parts.Parts.{Parts as PartsOf}
 use Rattle.image_search.specs.declared.ending.Bound.{Bound}
@@ -48,10 +49,12 @@ pub record IsMoreOf (kept kept' : KeptOf) : Type 0 where
 abbrev pub IsFull : KeptOf → Type 0
 IsFull kept = kept.most ≤ length kept.states.items
 
--- a bound that is met before all states are kept
+-- a bound that is met where a state is kept
 abbrev pub IsMetBy : KeptOf → Bound → Type 0
 IsMetBy kept States = IsFull kept
-IsMetBy kept (Nexts why) = ⊤
+IsMetBy kept (Nexts reason.Parts) = IsOutOfNumbers kept.parts
+IsMetBy kept (Nexts reason.Sleepers) = ⊥
+IsMetBy kept (Nexts reason.Foreign) = ⊤
 IsMetBy kept Choice = ⊥
 
 -- no end that is looked for: some thread can move or all have ended, none is dying of a fault, and no thread's next step may

@@ -5,10 +5,12 @@ use runner::Turn;
 pub enum Bound {
     /// As many states are kept as may be.
     States,
-    /// Not all that may come next of a kept state was found, for this reason.
+    /// Not all that may come next of a kept state was found, for this reason. Where the reason is `Sleepers`, a schedule leads
+    /// to where more than twelve threads sleep on one address.
     Nexts(image_states::Bound),
-    /// All states are kept, and some are ends that are looked for, but the schedules that lead there need another choice of
-    /// sleepers than this machine's, which takes them from the front of each list.
+    /// All states are kept, and some are ends that are looked for; or more than twelve threads sleep on one address in a kept
+    /// state. But the schedules that lead there need another choice of sleepers than this machine's, which takes them from the
+    /// front of each list.
     Choice,
 }
 

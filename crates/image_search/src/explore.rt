@@ -13,6 +13,7 @@ ghost use Rattle.image_search.specs.declared.ending.Ending.TheVariants.{Complete
 use crate::ending::{Bound, Ending, ImageExploration, Sleeping};
 use crate::kept::{KeptStates, Way};
 use crate::progress::Progress;
+use crate::reasons::numbers_bound;
 use crate::search::search;
 use crate::sleeping::sleeping_of;
 use image_states::{Doing, Outside, Scratch};
@@ -43,7 +44,7 @@ fn keep_opening(
         (IsMetBy kept.new)) }
 {
     let Some(packed) = kept.parts.opening(alloc, image, scratch)? else {
-        return Ok(Some(Bound::Nexts(image_states::Bound::Parts)));
+        return Ok(Some(numbers_bound(kept)));
     };
     let bound = kept.keep_state(alloc, packed, BEGIN)?;
     Ok(bound)

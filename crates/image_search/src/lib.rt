@@ -5,6 +5,7 @@
 mod apart;
 mod at_once;
 mod closing;
+mod crowds;
 mod ending;
 mod ends;
 mod explore;
@@ -17,6 +18,7 @@ mod matching;
 mod nexts;
 mod progress;
 mod reaching;
+mod reasons;
 mod search;
 mod shown;
 mod sleeping;

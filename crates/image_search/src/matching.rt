@@ -8,10 +8,11 @@ use crate::kept::KeptStates;
 use image_states::{Packed, Parts, Scratch, thread_number};
 use isa::Image;
 use machine::Machine;
-use words::{Addr, Mem};
+use sparse_memory::SparseMemory;
+use words::Addr;
 
 // Whether a memory is the machine's.
-fn has_words(machine: &Machine, words: &Mem) -> bool
+fn has_words(machine: &Machine, words: &SparseMemory) -> bool
     ensures { result ≡ true → words.now ≡ machine.now.words }
 {
     let size = words.len();

@@ -2,8 +2,8 @@ ghost use Rattle.std.specs.Prelude.{◌≡◌, ◌<◌, Bool, IfOk, IfSome, List
 ghost use Rattle.machine.specs.States.{opening_state};
 ghost use Rattle.proof_image_search.specs.Searching.{IsCovered, Kept as KeptOf};
 ghost use Rattle.image_states.specs.Nexts.{may_of};
-ghost use Rattle.image_search.specs.Ends.{EndsSo, HasEndedBy};
-ghost use Rattle.image_search.specs.Kept.{IsExpandedAt, IsLookedAt, IsMetBy, IsMore, IsSound, IsToldAt, states_of};
+ghost use Rattle.image_search.specs.Ends.{EndsSo, HasEndedBy, IsMetIn};
+ghost use Rattle.image_search.specs.Kept.{IsExpandedAt, IsLookedAt, IsMore, IsSound, IsToldAt, states_of};
 
 use crate::apart::is_apart_at;
 use crate::ending::{Bound, Ending};
@@ -11,6 +11,7 @@ use crate::ends::{ends_of, shown};
 use crate::kept::KeptStates;
 use crate::nexts::nexts_at;
 use crate::progress::Progress;
+use crate::reasons::bound_at;
 use image_states::{Outside, Scratch};
 use isa::Image;
 use std::alloc::{AllocError, Global};
@@ -72,7 +73,7 @@ fn expand(
     ensures expanded { IfOk result (λ o. MatchOption o
         (IsExpandedAt image.now kept.old.parts.alone (may_of outside) (states_of image.now kept.old)
         (states_of image.now kept.new) place)
-        (IsMetBy kept.new)) }
+        (IsMetIn image.now (may_of outside) kept.new)) }
 {
     let mut found = Vec::new(alloc);
     let why = nexts_at(
@@ -86,7 +87,8 @@ fn expand(
         &mut found,
     )?;
     if let Some(why) = why {
-        return Ok(Some(Bound::Nexts(why)));
+        let met = bound_at(alloc, image, kept, place, outside, why)?;
+        return Ok(Some(met));
     }
     let bound = kept.keep_all(alloc, &mut found, place)?;
     Ok(bound)

@@ -1,5 +1,5 @@
 -- The states that a search over an image keeps, packed as numbers: which state of the definitions each stands for.
-use Rattle.std.specs.Prelude.{ℕ, zero, suc, ◌≡◌, ◌<◌, ◌++◌, List, [], All, Option, Some, None, length, slice_index, slice_set}
+use Rattle.std.specs.Prelude.{ℕ, zero, suc, ◌≡◌, ◌<◌, ◌≤◌, ◌++◌, ◌^◌, ◌⊎◌, List, [], All, Option, Some, None, length, slice_index, slice_set}
 use Rattle.std.specs.List.{slice_get}
 use Rattle.words.specs.Versions.{most_of}
 use Rattle.words.specs.declared.mem.Addr.{Addr}
@@ -69,6 +69,10 @@ pub record IsGrown (parts parts' : PartsOf) : Type 0 where
   pub alone : parts'.alone ≡ parts.alone
   pub locals : IsPrefix parts.locals.items parts'.locals.items
   pub memories : IsPrefix parts.memories.items parts'.memories.items
+
+-- there are as many local states, or as many memories, as have numbers
+abbrev pub IsOutOfNumbers : PartsOf → Type 0
+IsOutOfNumbers parts = (2 ^ 32 ≤ length parts.locals.items) ⊎ (2 ^ 32 ≤ length parts.memories.items)
 
 -- the same numbers
 pub record IsSameKey (x y : PackedOf) : Type 0 where

@@ -7,7 +7,8 @@ ghost use Rattle.robustexit.specs.declared.rule.ExitRule.{ExitRule as ExitRuleOf
 ghost use Rattle.image_states.specs.Exits.{IsPlanOf};
 
 use robustexit::{ExitPhase, ExitRule, phase_at};
-use words::{Addr, MOST_BLOCKS, Mem, OWNER_DIED, ProcessWord, WAITERS, block, has_waiters, tid};
+use sparse_memory::SparseMemory;
+use words::{Addr, MOST_BLOCKS, OWNER_DIED, ProcessWord, WAITERS, block, has_waiters, tid};
 
 // The word of a lock whose owner died, and for which threads may wait.
 const DIED_WITH_WAITERS: u32 = OWNER_DIED | WAITERS;
@@ -25,7 +26,7 @@ pub(crate) struct ExitPlan {
 }
 
 // The lock word of an entry, where the entry isn't 0 and its two words lie in the memory.
-fn lock_of(mem: &Mem, entry: u32) -> Option<Addr>
+fn lock_of(mem: &SparseMemory, entry: u32) -> Option<Addr>
     ensures found { IfSome result (λ l. (l.0 ≡ entry + 1) × IsEntry (length mem.now) entry) }
     ensures none { IfNone result (IsEntry (length mem.now) entry → ⊥) }
 {
@@ -75,7 +76,7 @@ fn abandon(lock: Addr, word: u32, next: ExitPhase) -> ExitPlan
     }
 }
 
-fn entry_plan(mem: &Mem, t: u32, entry: Addr, seen: u32) -> ExitPlan
+fn entry_plan(mem: &SparseMemory, t: u32, entry: Addr, seen: u32) -> ExitPlan
     requires thread { (0 < t) × (t ≤ MOST_BLOCKS) }
     requires block { process_word t 5 < length mem.now }
     ensures { (rule : ExitRuleOf)
@@ -93,7 +94,7 @@ fn entry_plan(mem: &Mem, t: u32, entry: Addr, seen: u32) -> ExitPlan
     abandon(lock, word, next)
 }
 
-fn pending_plan(rule: ExitRule, mem: &Mem, t: u32) -> ExitPlan
+fn pending_plan(rule: ExitRule, mem: &SparseMemory, t: u32) -> ExitPlan
     requires thread { (0 < t) × (t ≤ MOST_BLOCKS) }
     requires block { process_word t 5 < length mem.now }
     ensures { IsPlanOf rule (length mem.now) t ExitPhase.Pending (word_of mem.now) result }
@@ -116,7 +117,7 @@ fn pending_plan(rule: ExitRule, mem: &Mem, t: u32) -> ExitPlan
 }
 
 /// What the step of thread `t`'s exit by this rule in this phase does.
-pub(crate) fn exit_plan(rule: ExitRule, mem: &Mem, t: u32, phase: ExitPhase) -> ExitPlan
+pub(crate) fn exit_plan(rule: ExitRule, mem: &SparseMemory, t: u32, phase: ExitPhase) -> ExitPlan
     requires thread { (0 < t) × (t ≤ MOST_BLOCKS) }
     requires block { process_word t 5 < length mem.now }
     ensures { IsPlanOf rule (length mem.now) t phase (word_of mem.now) result }

@@ -11,8 +11,9 @@ use crate::parts::Parts;
 use crate::running::Scratch;
 use isa::Image;
 use locals::opening_local;
+use sparse_memory::SparseMemory;
 use std::alloc::{AllocError, Global};
-use words::{Mem, ProcessWord, block};
+use words::{ProcessWord, block};
 
 fn total(numbers: &[u32]) -> u32
     requires { sum numbers.now < 2 ^ 32 }
@@ -30,12 +31,12 @@ fn memory_len(image: &Image) -> usize
 }
 
 // The words at the start of an image.
-fn opening_words(alloc: Global, image: &Image) -> Result<Mem, AllocError>
+fn opening_words(alloc: Global, image: &Image) -> Result<SparseMemory, AllocError>
     ensures { IfOk result (λ words. words ≡ slice_set (replicate (memory_size image.now) 0) 3 1) }
 {
-    let mut words = Mem::new(alloc, memory_len(image))?;
-    words.store(block(1, ProcessWord::Id), 1);
-    Ok(words)
+    let words = SparseMemory::new(alloc, memory_len(image));
+    let opened = words.with_word(alloc, block(1, ProcessWord::Id), 1)?;
+    Ok(opened)
 }
 
 // A state of one thread, which is awake.

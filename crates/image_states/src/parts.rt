@@ -1,4 +1,4 @@
-ghost use Rattle.std.specs.Prelude.{◌≡◌, ◌<◌, MatchOption, None, Some, true, IfOk, IfSome, OnOk, length, slice_index, slice_set};
+ghost use Rattle.std.specs.Prelude.{◌≡◌, ◌<◌, MatchOption, None, Some, false, true, IfOk, IfSome, OnOk, length, slice_index, slice_set};
 ghost use Rattle.std.specs.List.{slice_get};
 ghost use Rattle.image_states.specs.Stores.{AreStored, IsStored};
 
@@ -7,8 +7,9 @@ use crate::stored::{Stored, find_stored, make_room, note_stored};
 use digest_map::DigestMap;
 use isa::Image;
 use locals::Local;
+use sparse_memory::SparseMemory;
 use std::alloc::{AllocError, Global};
-use words::{Addr, Mem};
+use words::Addr;
 
 // How many numbers of one digest are looked at.
 const TRIES: u64 = 1 << 20;
@@ -20,8 +21,8 @@ pub struct Parts {
     alone: bool,
     // The local states of threads.
     locals: Vec<Local>,
-    // The memories.
-    memories: Vec<Mem>,
+    // The memories, of each of which the words that aren't 0 are listed.
+    memories: Vec<SparseMemory>,
     // The digest of each memory, by the words in it.
     digests: Vec<u64>,
     // The numbers of the local states, by their digests.
@@ -33,54 +34,8 @@ pub struct Parts {
     ghost stored: { AreStored memories.items stores.items },
 }
 
-// The word at this place of a memory with this word at an address.
-fn word_put(old: &Mem, at: u32, a: Addr, v: u32) -> u32
-    requires { at < length old.now }
-    ensures { result ≡ slice_index (slice_set old.now a.0 v) at }
-{
-    if at == a.0 { v } else { old.load(Addr(at)) }
-}
-
-// Whether a memory is another with this word at an address.
-fn is_put(old: &Mem, new: &Mem, a: Addr, v: u32) -> bool
-    ensures { result ≡ true → new.now ≡ slice_set old.now a.0 v }
-{
-    let size = old.len();
-    let other = new.len();
-    if other != size {
-        return false;
-    }
-    let Ok(count) = u32::try_from(size) else {
-        return false;
-    };
-    for at in 0..count {
-        let word = word_put(old, at, a, v);
-        let found = new.load(Addr(at));
-        if found != word {
-            return false;
-        }
-    }
-    true
-}
-
-// A memory of the same words.
-fn copied(alloc: Global, old: &Mem) -> Result<Option<Mem>, AllocError>
-    ensures { IfOk result (λ o. IfSome o (λ m. m ≡ old.now)) }
-{
-    let size = old.len();
-    let Ok(count) = u32::try_from(size) else {
-        return Ok(None);
-    };
-    let mut new = Mem::new(alloc, size)?;
-    for at in 0..count {
-        let word = old.load(Addr(at));
-        new.store(Addr(at), word);
-    }
-    Ok(Some(new))
-}
-
 impl Parts {
-    ghost use Rattle.image_states.specs.Packed.{IsGrown, words_in};
+    ghost use Rattle.image_states.specs.Packed.{IsGrown, IsOutOfNumbers, words_in};
 
     /// No parts yet, of states in which the rest of a thread's exit is followed alone, behind its robust list, or isn't:
     /// where the thread has no pending entry and nobody sleeps on its id, it is taken to its end at once.
@@ -114,7 +69,7 @@ impl Parts {
     }
 
     /// The memory of this number.
-    pub fn memory(&self, number: u32) -> Option<&Mem>
+    pub fn memory(&self, number: u32) -> Option<&SparseMemory>
         ensures { MatchOption result (slice_get self.now.memories.items number ≡ None)
             (λ m. slice_get self.now.memories.items number ≡ Some m.now) }
     {
@@ -126,6 +81,30 @@ impl Parts {
         ensures { result ≡ length self.now.locals.items }
     {
         self.locals.len()
+    }
+
+    // How many memories there are.
+    fn memory_count(&self) -> usize
+        ensures { result ≡ length self.now.memories.items }
+    {
+        self.memories.len()
+    }
+
+    /// Whether there are as many local states, or as many memories, as have numbers.
+    pub fn is_out_of_numbers(&self) -> bool
+        ensures yes { result ≡ true → IsOutOfNumbers self.now }
+        ensures no { result ≡ false → IsOutOfNumbers self.now → ⊥ }
+    {
+        let last = u32::MAX as usize;
+        let locals = self.local_count();
+        let memories = self.memory_count();
+        if locals > last {
+            return true;
+        }
+        if memories > last {
+            return true;
+        }
+        false
     }
 
     // Whether there is a memory of this number.
@@ -203,28 +182,26 @@ impl Parts {
         Ok(Some(number))
     }
 
-    // Whether the memory of this number is another with this word at an address.
-    fn has_memory(&self, number: u32, old: &Mem, a: Addr, v: u32) -> bool
-        ensures { result ≡ true
-            → slice_get self.now.memories.items number ≡ Some (slice_set old.now a.0 v) }
+    // Whether the memory of this number is that.
+    fn has_memory(&self, number: u32, memory: &SparseMemory) -> bool
+        ensures { result ≡ true → slice_get self.now.memories.items number ≡ Some memory.now }
     {
         match self.memories.get(number as usize) {
             None => false,
-            Some(part) => is_put(old, part, a, v),
+            Some(part) => part.is_same(memory),
         }
     }
 
-    // The number of a memory with this word at an address, where it is noted.
-    fn find_memory(&self, old: &Mem, a: Addr, v: u32, digest: u64) -> Option<u32>
-        ensures { IfSome result
-            (λ n. slice_get self.now.memories.items n ≡ Some (slice_set old.now a.0 v)) }
+    // The number of a memory, where it is noted.
+    fn find_memory(&self, memory: &SparseMemory, digest: u64) -> Option<u32>
+        ensures { IfSome result (λ n. slice_get self.now.memories.items n ≡ Some memory.now) }
     {
         let mut tried = 0;
         for _ in 0..TRIES {
             let Some(found) = self.memory_numbers.next(digest, tried) else {
                 return None;
             };
-            if self.has_memory(found.number, old, a, v) {
+            if self.has_memory(found.number, memory) {
                 return Some(found.number);
             }
             tried = found.tries.wrapping_add(1);
@@ -236,7 +213,7 @@ impl Parts {
     pub(crate) fn keep_memory(
         &mut self,
         alloc: Global,
-        memory: Mem,
+        memory: SparseMemory,
         digest: u64,
     ) -> Result<Option<u32>, AllocError>
         ensures grown { OnOk result (IsGrown self.old self.new) }
@@ -252,28 +229,38 @@ impl Parts {
         Ok(Some(number))
     }
 
-    // A copy of the memory of this number with this word at an address.
+    // The number of a memory of this digest, which is a part from now on; None where there are too many.
+    fn memory_number(
+        &mut self,
+        alloc: Global,
+        memory: SparseMemory,
+        digest: u64,
+    ) -> Result<Option<u32>, AllocError>
+        ensures grown { OnOk result (IsGrown self.old self.new) }
+        ensures there { IfOk result
+            (λ o. IfSome o (λ n. slice_get self.new.memories.items n ≡ Some memory)) }
+    {
+        if let Some(number) = self.find_memory(&memory, digest) {
+            return Ok(Some(number));
+        }
+        self.keep_memory(alloc, memory, digest)
+    }
+
+    // The memory of this number with this word at an address.
     fn with_word(
         &self,
         alloc: Global,
         number: u32,
         a: Addr,
         v: u32,
-    ) -> Result<Option<Mem>, AllocError>
+    ) -> Result<Option<SparseMemory>, AllocError>
         ensures { IfOk result
             (λ o. IfSome o (λ m. m ≡ slice_set (words_in self.now.memories.items number) a.0 v)) }
     {
-        let Some(old) = self.memories.get(number as usize) else {
-            return Ok(None);
-        };
-        let Some(mut new) = copied(alloc, old)? else {
-            return Ok(None);
-        };
-        if a.0 as usize >= new.len() {
-            return Ok(None);
+        match self.memory(number) {
+            None => Ok(None),
+            Some(old) => Ok(Some(old.with_word(alloc, a, v)?)),
         }
-        new.store(a, v);
-        Ok(Some(new))
     }
 
     // The digest of the memory of this number with this word at an address, where another is there now.
@@ -287,18 +274,8 @@ impl Parts {
             .wrapping_add(word_digest(a.0, v))
     }
 
-    // The number of the memory of this number with this word at an address, where it is noted.
-    fn find_with(&self, number: u32, a: Addr, v: u32, digest: u64) -> Option<u32>
-        ensures { IfSome result (λ n. slice_get self.now.memories.items n
-            ≡ Some (slice_set (words_in self.now.memories.items number) a.0 v)) }
-    {
-        match self.memory(number) {
-            None => None,
-            Some(old) => self.find_memory(old, a, v, digest),
-        }
-    }
-
-    // The same, which is a part from now on, where this word is there now.
+    // The number of the memory of this number with this word at an address, which is a part from now on, where this word is there
+    // now.
     fn stored_at(
         &mut self,
         alloc: Global,
@@ -368,12 +345,9 @@ impl Parts {
             ≡ Some (slice_set (words_in self.old.memories.items number) a.0 v))) }
     {
         let digest = self.digest_with(number, a, before, v);
-        if let Some(found) = self.find_with(number, a, v, digest) {
-            return Ok(Some(found));
-        }
         match self.with_word(alloc, number, a, v)? {
             None => Ok(None),
-            Some(memory) => self.keep_memory(alloc, memory, digest),
+            Some(memory) => self.memory_number(alloc, memory, digest),
         }
     }
 

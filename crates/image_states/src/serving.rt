@@ -15,11 +15,12 @@ use crate::parts::Parts;
 use crate::running::Scratch;
 use isa::Image;
 use locals::Request;
+use sparse_memory::SparseMemory;
 use std::alloc::{AllocError, Global};
-use words::{Addr, Mem};
+use words::Addr;
 
 // The word at an address, where the address lies in the memory.
-fn word_of(words: &Mem, a: Addr) -> Option<u32>
+fn word_of(words: &SparseMemory, a: Addr) -> Option<u32>
     ensures { MatchOption result (length words.now ≤ a.0) (λ w. slice_get words.now a.0 ≡ Some w) }
 {
     if a.0 as usize >= words.len() {

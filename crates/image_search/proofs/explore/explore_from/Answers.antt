@@ -4,19 +4,20 @@ use Rattle.image_states.specs.Nexts.{may_of}
 use Rattle.image_states.specs.Packed.{kept_of}
 use Rattle.image_search.specs.Ends.{AreAllBy, HasEnded, HasEndedBy, IsMet}
 use Rattle.image_search.specs.Kept.{IsMetBy, states_of}
-use Rattle.image_search.proofs.Searched.{ended_either, met_so}
+use Rattle.image_search.proofs.Searched.{ended_either, met_in, met_so}
 use Rattle.image_search.proofs.explore.explore_from.Goals as goal
 
 pub returns-in-Some-clause-searched : goal.returns-in-Some-clause-searched
 returns-in-Some-clause-searched g c =
     let p = c.args.image.now in
+    let may = may_of c.args.outside in
     let kept = c.keep_opening.new.kept in
     let met : IsMetBy kept c.in-Some.bound = rw c.in-Some.is at c.in_ok-bound.ensures.opens in
     record {
       kept = states_of p kept;
       count = length-map kept.states.items (kept_of p kept.parts) ∙ sym kept.states.ok.0 ∙ sym c.len.ensures;
-      ended = subst (λ n. IsMet p n (states_of p kept) c.in-Some.bound) c.in_ok-bound.ensures.most
-          (met_so p kept c.in-Some.bound met);
+      ended = subst (λ n. IsMet p may n (states_of p kept) c.in-Some.bound) c.in_ok-bound.ensures.most
+          (met_so p may kept c.in-Some.bound (met_in p may kept c.in-Some.bound met));
     }
 
 pub returns-clause-searched : goal.returns-clause-searched

@@ -1,12 +1,12 @@
 use Rattle.std.proofs.Common.{◌≡◌, Some, slice_get, subst}
 use Rattle.image_states.specs.Nexts.{AreNexts, may_of}
 use Rattle.image_states.specs.declared.packed.Packed.{Packed as PackedOf}
-use Rattle.image_search.proofs.Searched.{expanded_at, match_none}
+use Rattle.image_search.proofs.Searched.{expanded_at, match_both, met_in}
 use Rattle.image_search.proofs.search.expand.Goals as goal
 
 pub returns-clause-expanded : goal.returns-clause-expanded
 returns-clause-expanded c =
-    match_none _ _ _ c.in_ok-bound.bound (λ all.
+    match_both _ _ _ _ c.in_ok-bound.bound (λ all.
     let p = c.args.image.now in
     let may = may_of c.args.outside in
     let mid = c.nexts_at.new.parts in
@@ -16,4 +16,5 @@ returns-clause-expanded c =
     (c.in_ok-why.ensures.nexts c.in_default.is) in
     expanded_at p may c.args.kept.now c.keep_all.new.self c.args.place at.0 mid found c.requires.sound at.1
     c.in_ok-why.ensures.grown at.2 c.in_ok-bound.ensures.more.parts c.in_ok-bound.ensures.more.states all)
+    (met_in c.args.image.now (may_of c.args.outside) c.keep_all.new.self)
     c.in_ok-bound.ensures.kept

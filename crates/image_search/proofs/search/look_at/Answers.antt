@@ -1,8 +1,8 @@
 use Rattle.std.proofs.Common.{ℕ, Bool, List}
 use Rattle.proof_image_search.specs.Searching.{Kept}
 use Rattle.image_states.specs.Nexts.{may_of}
-use Rattle.image_search.specs.Ends.{HasEndedBy}
-use Rattle.image_search.specs.Kept.{IsExpandedAt, IsMetBy, states_of}
+use Rattle.image_search.specs.Ends.{HasEndedBy, IsMetIn}
+use Rattle.image_search.specs.Kept.{IsExpandedAt, states_of}
 use Rattle.image_search.proofs.Keeping.{more_itself}
 use Rattle.image_search.proofs.Searched.{looked_so, met_so}
 use Rattle.image_search.proofs.search.look_at.Goals as goal
@@ -28,5 +28,7 @@ returns-in-None-clause-looked c =
 
 pub returns-in-Some-2-clause-looked : goal.returns-in-Some-2-clause-looked
 returns-in-Some-2-clause-looked c =
-    let met : IsMetBy c.expand.new.kept c.in-Some-2.bound = rw c.in-Some-2.is at c.in_ok-expand.ensures.expanded in
-    met_so c.args.image.now c.expand.new.kept c.in-Some-2.bound met
+    let may = may_of c.args.outside in
+    let met : IsMetIn c.args.image.now may c.expand.new.kept c.in-Some-2.bound =
+    rw c.in-Some-2.is at c.in_ok-expand.ensures.expanded in
+    met_so c.args.image.now may c.expand.new.kept c.in-Some-2.bound met
