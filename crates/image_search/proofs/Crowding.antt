@@ -1,5 +1,5 @@
 -- How many threads sleep on an address.
-use Rattle.std.proofs.Common.{◌≡◌, ◌<◌, ◌≤◌, ◌+◌, ◌==◌, ℕ, suc, Bool, List, Option, None, Some, ap, arith, false, refl, slice_index}
+use Rattle.std.proofs.Common.{◌≡◌, ◌<◌, ◌≤◌, ◌+◌, ℕ, suc, Bool, List, Option, None, Some, ap, arith, false, refl, slice_index}
 use Rattle.std.proofs.Common.{subst, sym, true}
 use Rattle.std.specs.Prelude.{IfNone, IfSome, if◌then◌else◌}
 use Rattle.words.specs.declared.mem.Addr.{Addr}

@@ -8,7 +8,7 @@
 #![tactic(auto)]
 
 use image_search::{
-    Bound, Doubt, Ending, ImageExploration, Outside, Sleeping, Untold, explore_image,
+    Bound, Doubt, Ending, ImageExploration, NextsBound, Outside, Sleeping, Untold, explore_image,
 };
 use isa::decode;
 use std::alloc::{AllocError, Global};
@@ -74,6 +74,7 @@ fn digits_of(alloc: Global, words: SplitWhitespace) -> Result<String, AllocError
 fn bound_name(bound: Bound) -> &'static str {
     match bound {
         Bound::States => "States",
+        Bound::Nexts(NextsBound::Sleepers) => "Sleepers",
         Bound::Nexts(_) => "Nexts",
         Bound::Choice => "Choice",
     }
