@@ -38,15 +38,7 @@ fn explored(
     outside: Outside,
     asked: Asked,
 ) -> Result<Exploration, Failure> {
-    Ok(explore(
-        alloc,
-        checked,
-        most,
-        outside,
-        asked,
-        None,
-        &mut Untold,
-    )?)
+    Ok(explore(alloc, checked, most, outside, asked, None, &mut Untold)?)
 }
 
 // What comes from outside in the runs that are searched.
