@@ -160,7 +160,7 @@ ends (Exec image form exits options) bytes second a h = end_as a.status _ h.runs
 ends (Replay file exits by trace page hints) bytes second a h = end_as a.status _ h.tells.ended (verdict_end h.report.verdict)
 ends (Explain file exits by chart timeline page places hints) bytes second a h =
     end_as a.status _ h.tells.ended (verdict_end h.explained_run.report.verdict)
-ends (Emit file out hints) bytes second a h = end_as a.status Done h.tells.ended tt
+ends (Emit file out hints) bytes second a h = end_as a.status Done h.tells.tells.ended tt
 ends (Explore file exits states strays kills every chart timeline page schedule places hints) bytes second a h =
     let e = h.explored_text.exploration in
     end_as a.status _ h.tells.ended (found_end (is_some e.stuck) (is_failed e) e.complete)
