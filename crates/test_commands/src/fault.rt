@@ -14,6 +14,9 @@ pub enum RowFault {
     /// The line stands before the first row.
     #[error("no row")]
     Row,
+    /// The row before has no source text, or there is none in the file.
+    #[error("no text before")]
+    Before,
     /// There is no memory for it.
     #[error("memory")]
     Memory,

@@ -14,7 +14,7 @@ use mesamon::Exits;
 use std::io;
 
 /// Prints what comes of a row of one line, or why nothing does; false where this line is none.
-pub fn take_line(rt: &HostRuntime, line: &str) -> io::Result<bool> {
+pub fn take_line<R: AllocGlobal + Print>(rt: &R, line: &str) -> io::Result<bool> {
     let (key, row) = line.split_once(' ').unwrap_or((line, ""));
     let shown = match key {
         "actions" => show_actions(rt, row),
@@ -31,7 +31,7 @@ pub fn take_line(rt: &HostRuntime, line: &str) -> io::Result<bool> {
     Ok(true)
 }
 
-fn show_failure(rt: &HostRuntime, shown: Result<(), Failure>) -> io::Result<()> {
+fn show_failure<R: Print>(rt: &R, shown: Result<(), Failure>) -> io::Result<()> {
     match shown {
         Ok(()) => Ok(()),
         Err(failure) => println!(rt; "{failure}"),

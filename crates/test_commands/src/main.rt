@@ -1,12 +1,13 @@
-//! Runs commands of mesamon that stand as rows on standard input, prints what came out otherwise than its row says,
-//! and at last how many rows there were. A row is a block of lines, each a key and what it says:
+//! Runs commands of mesamon that are rows of files, prints what came out otherwise than its row says, and at last how
+//! many rows there were. Each line of standard input is the name of a file of rows. A file that can't be read ends the
+//! program with an error. A row is a block of lines, each a key and what it says:
 //!
 //! ```text
 //! row NAME            a row of this name begins
 //! text LINE           a line of the file program.mesa
 //! times COUNT TEXT    this text so many times, in program.mesa
 //! bytes DIGITS        these bytes, in hexadecimal digits, in program.mesa
-//! again               the program.mesa of the row before
+//! again               the program.mesa of the row before, in the same file
 //! schedule LINE       a line of the file program.schedule
 //! log LINE            a line of the file program.log
 //! words WORD ..       the words of the command line
@@ -20,6 +21,8 @@
 //! image DIGITS        the bytes that program.image has to have afterwards, in hexadecimal digits
 //! status NUMBER       the exit status that is wanted, where it isn't 0
 //! ```
+//!
+//! A row ends with its file. What is printed of a row begins with its file and the number of its first line.
 //!
 //! Empty lines and lines that begin with `#` say nothing. With no `text`, `times`, `bytes` and `again` there is no
 //! program.mesa, with no `schedule` no program.schedule, and with no `image` there may be no program.image afterwards.
@@ -76,24 +79,23 @@
 
 mod device;
 mod fault;
+mod files;
 mod lists;
 mod outcome;
 mod row;
 mod tally;
 mod worker_runs;
 
+use crate::files::take_file;
 use crate::tally::Tally;
 use std::io;
 use std::process::ExitCode;
 
 fn main(rt: HostRuntime) -> io::Result<ExitCode> {
     let mut tally = Tally::new();
-    for line in rt.lines(rt.alloc()) {
-        let line = line?;
-        let line = line.as_str();
-        if !worker_runs::take_line(&rt, line)? && !lists::take_line(&rt, line)? {
-            tally.take_line(&rt, line)?;
-        }
+    for name in rt.lines(rt.alloc()) {
+        let name = name?;
+        take_file(&rt, &mut tally, name.as_str())?;
     }
     tally.finish(&rt)
 }

@@ -1,11 +1,11 @@
 use crate::fault::RowFault;
 use crate::outcome::Outcome;
-use std::alloc::{AllocError, Global};
+use std::alloc::Global;
 
 /// A command, and what has to come of it.
 #[derive(Drop)]
 pub struct Row {
-    /// The row's name.
+    /// The row's file, the number of its first line, and its name.
     pub name: String,
     /// The source text, where there is one.
     pub source: Option<Vec<u8>>,
@@ -27,10 +27,10 @@ pub struct Row {
 }
 
 impl Row {
-    /// A row of this name, behind one with this source text, with nothing said yet.
-    pub fn new(alloc: Global, name: &str, before: Option<Vec<u8>>) -> Result<Row, AllocError> {
-        Ok(Row {
-            name: String::from_str(alloc, name)?,
+    /// A row of this name, after one with this source text, with nothing said yet.
+    pub fn new(alloc: Global, name: String, before: Option<Vec<u8>>) -> Row {
+        Row {
+            name,
             source: None,
             schedule: None,
             log: None,
@@ -40,7 +40,7 @@ impl Row {
             wanted: Outcome::new(alloc),
             alloc,
             before,
-        })
+        }
     }
 
     /// Takes a line of the row: its key, and what it says.
@@ -67,7 +67,8 @@ impl Row {
     }
 
     fn take_before(&mut self) -> Result<(), RowFault> {
-        self.source = self.before.take();
+        let source = self.before.take().ok_or(RowFault::Before)?;
+        self.source = Some(source);
         Ok(())
     }
 

@@ -25,10 +25,12 @@ impl Tally {
         }
     }
 
-    /// Takes a line of standard input. Where a row begins, the one before it is run.
+    /// Takes a line of a file, whose number in it is this. Where a row begins, the one before it is run.
     pub fn take_line<R: Files + AllocGlobal + Print + Threads + Wait + Sync>(
         &mut self,
         rt: &R,
+        file: &str,
+        number: u32,
         line: &str,
     ) -> io::Result<()> {
         if line.trim().is_empty() || line.starts_with('#') {
@@ -37,7 +39,8 @@ impl Tally {
         let (key, said) = line.split_once(' ').unwrap_or((line, ""));
         if key == "row" {
             let before = self.run_row(rt)?;
-            self.row = Some(Row::new(rt.alloc(), said, before)?);
+            let name = format!(in rt.alloc(); "{file}:{number}: {said}")?;
+            self.row = Some(Row::new(rt.alloc(), name, before));
             return Ok(());
         }
         let taken = match &mut self.row {
@@ -46,17 +49,22 @@ impl Tally {
         };
         if let Err(fault) = taken {
             self.failures = self.failures.saturating_add(1);
-            println!(rt; "{line}: {fault}")?;
+            println!(rt; "{file}:{number}: {line}: {fault}")?;
         }
         Ok(())
     }
 
-    /// Runs the last row, and tells how many there were.
-    pub fn finish<R: Files + AllocGlobal + Print + Threads + Wait + Sync>(
-        mut self,
+    /// Runs the last row of a file.
+    pub fn end_file<R: Files + AllocGlobal + Print + Threads + Wait + Sync>(
+        &mut self,
         rt: &R,
-    ) -> io::Result<ExitCode> {
+    ) -> io::Result<()> {
         let _source = self.run_row(rt)?;
+        Ok(())
+    }
+
+    /// Tells how many rows there were.
+    pub fn finish<R: Print>(self, rt: &R) -> io::Result<ExitCode> {
         let rows = self.rows;
         let failures = self.failures;
         println!(rt; "{rows} rows, {failures} failures")?;

@@ -40,8 +40,8 @@ pub enum Outside {
 
 /// Prints what comes of logs of the image, for this rule of exits, of the program whose text stands in the row, behind
 /// how many logs there are, and of how many entries each at most.
-pub fn show_logs(
-    rt: &HostRuntime,
+pub fn show_logs<R: AllocGlobal + Print>(
+    rt: &R,
     row: &str,
     outside: Outside,
     exits: Exits,
@@ -51,8 +51,8 @@ pub fn show_logs(
     show_of(rt, &checked, &lowered.image, row, outside)
 }
 
-fn show_of(
-    rt: &HostRuntime,
+fn show_of<R: AllocGlobal + Print>(
+    rt: &R,
     checked: &Checked,
     image: &Image,
     row: LogRow,
@@ -73,7 +73,7 @@ fn show_of(
     Ok(())
 }
 
-fn show_trial(rt: &HostRuntime, trial: &Trial) -> io::Result<()> {
+fn show_trial<R: Print>(rt: &R, trial: &Trial) -> io::Result<()> {
     let runs = trial.runs;
     let images = trial.other_images;
     print!(rt; "{runs} runs, refused {images} of another image, ")?;
@@ -84,7 +84,7 @@ fn show_trial(rt: &HostRuntime, trial: &Trial) -> io::Result<()> {
     println!(rt; "{events} events, {doubled} doubled, {firsts} without the first, {counts} counts")
 }
 
-fn show_stray_trial(rt: &HostRuntime, trial: &StrayTrial) -> io::Result<()> {
+fn show_stray_trial<R: Print>(rt: &R, trial: &StrayTrial) -> io::Result<()> {
     let runs = trial.runs;
     let logs = trial.logs;
     print!(rt; "{runs} runs, {logs} with wakes from outside, refused ")?;
@@ -94,7 +94,7 @@ fn show_stray_trial(rt: &HostRuntime, trial: &StrayTrial) -> io::Result<()> {
     println!(rt; "{counts} counts, {doubled} doubled, {woken} without the woken")
 }
 
-fn show_kill_trial(rt: &HostRuntime, trial: &KillTrial) -> io::Result<()> {
+fn show_kill_trial<R: Print>(rt: &R, trial: &KillTrial) -> io::Result<()> {
     let runs = trial.runs;
     let logs = trial.logs;
     let deaths = trial.deaths;

@@ -8,7 +8,7 @@ use std::io;
 use words::ImageVersion;
 
 /// Prints what comes of a list of actions of the program whose text stands behind it.
-pub fn show_actions(rt: &HostRuntime, row: &str) -> Result<(), Failure> {
+pub fn show_actions<R: AllocGlobal + Print>(rt: &R, row: &str) -> Result<(), Failure> {
     let (list, text) = row.split_once('|').ok_or(Failure::Row)?;
     let (checked, _) = compile_checked(rt.alloc(), text.as_bytes())?;
     let mut actions = Vec::new(rt.alloc());
@@ -17,7 +17,7 @@ pub fn show_actions(rt: &HostRuntime, row: &str) -> Result<(), Failure> {
 }
 
 /// Prints what comes of such a list where the program's image is of the first version.
-pub fn show_actions_as_one(rt: &HostRuntime, row: &str) -> Result<(), Failure> {
+pub fn show_actions_as_one<R: AllocGlobal + Print>(rt: &R, row: &str) -> Result<(), Failure> {
     let (list, text) = row.split_once('|').ok_or(Failure::Row)?;
     let (checked, _) = compile_checked(rt.alloc(), text.as_bytes())?;
     let mut actions = Vec::new(rt.alloc());
@@ -33,7 +33,11 @@ pub fn show_actions_as_one(rt: &HostRuntime, row: &str) -> Result<(), Failure> {
 }
 
 // Prints what comes of actions.
-fn show_run(rt: &HostRuntime, checked: &Checked, actions: &[Action]) -> Result<(), Failure> {
+fn show_run<R: AllocGlobal + Print>(
+    rt: &R,
+    checked: &Checked,
+    actions: &[Action],
+) -> Result<(), Failure> {
     match accepts(rt.alloc(), checked, actions)? {
         Some(state) => show_end(rt, checked, &state),
         None => show_length(rt, checked, actions),
@@ -41,21 +45,29 @@ fn show_run(rt: &HostRuntime, checked: &Checked, actions: &[Action]) -> Result<(
 }
 
 // Prints which action isn't possible, of a list that isn't a run.
-fn show_length(rt: &HostRuntime, checked: &Checked, actions: &[Action]) -> Result<(), Failure> {
+fn show_length<R: AllocGlobal + Print>(
+    rt: &R,
+    checked: &Checked,
+    actions: &[Action],
+) -> Result<(), Failure> {
     let number = run_length(rt.alloc(), checked, actions)?.saturating_add(1);
     println!(rt; "no run, action {number}")?;
     Ok(())
 }
 
 // Prints the processes that can move in a state, and the numbers printed.
-fn show_end(rt: &HostRuntime, checked: &Checked, state: &SourceState) -> Result<(), Failure> {
+fn show_end<R: AllocGlobal + Print>(
+    rt: &R,
+    checked: &Checked,
+    state: &SourceState,
+) -> Result<(), Failure> {
     let movers = movers(rt.alloc(), checked, state)?;
     show_both(rt, movers.as_slice(), state.printed())?;
     Ok(())
 }
 
 // Prints the line of a run.
-fn show_both(rt: &HostRuntime, movers: &[u64], printed: &[i64]) -> io::Result<()> {
+fn show_both<R: Print>(rt: &R, movers: &[u64], printed: &[i64]) -> io::Result<()> {
     print!(rt; "run, movers")?;
     show_movers(rt, movers)?;
     print!(rt; ", printed")?;
@@ -64,7 +76,7 @@ fn show_both(rt: &HostRuntime, movers: &[u64], printed: &[i64]) -> io::Result<()
 }
 
 // Prints the numbers of processes, each behind a blank.
-fn show_movers(rt: &HostRuntime, movers: &[u64]) -> io::Result<()> {
+fn show_movers<R: Print>(rt: &R, movers: &[u64]) -> io::Result<()> {
     for process in movers {
         print!(rt; " {process}")?;
     }
@@ -72,7 +84,7 @@ fn show_movers(rt: &HostRuntime, movers: &[u64]) -> io::Result<()> {
 }
 
 // Prints the numbers that a program printed, each behind a blank.
-fn show_printed(rt: &HostRuntime, printed: &[i64]) -> io::Result<()> {
+fn show_printed<R: Print>(rt: &R, printed: &[i64]) -> io::Result<()> {
     for number in printed {
         print!(rt; " {number}")?;
     }

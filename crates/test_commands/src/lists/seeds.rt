@@ -40,7 +40,7 @@ struct SeedTally {
 
 /// Prints what comes of the runs, in the orders of the seeds from 1 and by this rule of exits, of the program whose text
 /// stands in the row.
-pub fn show_seeds(rt: &HostRuntime, row: &str, exits: Exits) -> Result<(), Failure> {
+pub fn show_seeds<R: AllocGlobal + Print>(rt: &R, row: &str, exits: Exits) -> Result<(), Failure> {
     let row = row_of(row)?;
     let mut tally = SeedTally::default();
     for before in 0..row.count {
