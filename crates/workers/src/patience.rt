@@ -19,6 +19,11 @@ impl Patience {
         Patience { rests: 0, row: 0 }
     }
 
+    /// Whether it will sleep at once the next time, since it looked in vain: then other work seems to have the processors.
+    pub fn rests(&self) -> bool {
+        self.rests > 0
+    }
+
     /// Whether it looks this time.
     pub fn looks(&mut self) -> bool {
         let looks = self.rests == 0;

@@ -19,7 +19,7 @@ use crate::lookout::Lookout;
 use crate::moments::Moments;
 use crate::owed::Owed;
 use crate::parker::{Called, Parker};
-use crate::precedence::Precedence;
+use crate::precedence::{Grace, Precedence};
 use crate::put_off::{Calls, PutOff};
 use crate::shared_run::{SharedRun, WakeReason, Worker};
 use crate::turns::Turns;
@@ -294,7 +294,7 @@ impl<J: RunName> Pool<J> {
         let t = worker.thread();
         let count = turns.ahead.len();
         let keeps = turns.keep_precedence_ahead();
-        self.precedence.take(rt, &self.lookout, t);
+        self.precedence.take(rt, &self.lookout, t, Grace::Full);
         let mut shared_run = self.lock(rt);
         let came = matches!(
             shared_run.commit(worker, turns.ahead.speculation(), share),
@@ -330,7 +330,8 @@ impl<J: RunName> Pool<J> {
                 Err(ended) => return Some(ended),
             }
             self.parkers[t as usize].park(rt, put_off);
-            self.precedence.take(rt, &self.lookout, t);
+            let grace = Grace::by_patience(&turns.patience);
+            self.precedence.take(rt, &self.lookout, t, grace);
         }
         unreachable!()
     }
@@ -355,7 +356,8 @@ impl<J: RunName> Pool<J> {
     {
         let keeps = turns.keep_precedence(image_ref);
         let calls = turns.is_call_due(put_off, image_ref);
-        self.precedence.take(rt, &self.lookout, worker.thread());
+        self.precedence
+            .take(rt, &self.lookout, worker.thread(), Grace::Full);
         let mut shared_run = self.lock(rt);
         // As most turns are. It concerns nobody.
         if shared_run.hand_in_access(worker, turns, share) {
@@ -410,7 +412,7 @@ impl<J: RunName> Pool<J> {
         }
         self.discharge(turns, goes, put_off, owed);
         if after == After::Sleeps && parker.look(&self.lookout, &mut turns.patience, calls) {
-            self.precedence.take(rt, &self.lookout, t);
+            self.precedence.take(rt, &self.lookout, t, Grace::Full);
         }
         match ended {
             Some(ended) => Err(ended),
@@ -487,7 +489,7 @@ impl<J: RunName> Pool<J> {
         ensures in_time { AreKeptOrMade turns.now.wake_reason.woken put_off.old put_off.new }
         ensures only { goes ≡ false → put_off.new ≡ put_off.old }
     {
-        if self.calls == Calls::PutOff && goes && turns.may_put_off() {
+        if goes && turns.may_put_off() && self.calls.are_put_off(&turns.patience) {
             owed.put_off(&turns.wake_reason.woken, put_off);
             return;
         }

@@ -1,5 +1,6 @@
 use crate::lookout::Lookout;
 use crate::moments::Moments;
+use crate::patience::Patience;
 use crossbeam_utils::CachePadded;
 use std::sync::atomic::{AtomicU64, Ordering};
 use std::sync::{Mutex, Wait};
@@ -8,14 +9,39 @@ use std::thread::yield_now;
 // For how many moments a worker looks for precedence in one go: about a microsecond.
 const LOOKS: u32 = 100;
 
-// After so many goes in a row in which the one that has it made no entry, that one doesn't run: about as long as being woken takes.
-const MOST_STILL: u32 = 8;
-
 // How often it looks at most, as long as the one that has it makes entries: longer than that one keeps it.
 const MOST_GOES: u32 = 1000;
 
 // Behind so many entries the one that has it says that it runs.
 const SEVERAL: usize = 4;
+
+/// For how long the one that has precedence may make no entry before it counts as one that doesn't run.
+#[derive(Clone, Copy)]
+pub enum Grace {
+    /// Some nine microseconds: about as long as being woken takes.
+    Full,
+    /// Some three. Where other work has the processors, who was just called mostly waits for one that has none.
+    Short,
+}
+
+impl Grace {
+    /// What a worker that was called leaves to the one that has precedence: less where its own looks were in vain.
+    pub fn by_patience(patience: &Patience) -> Grace {
+        if patience.rests() {
+            Grace::Short
+        } else {
+            Grace::Full
+        }
+    }
+
+    // For how many goes in a row.
+    fn goes(self) -> u32 {
+        match self {
+            Grace::Full => 8,
+            Grace::Short => 2,
+        }
+    }
+}
 
 /// Which worker has precedence: the others leave the lock to it, as long as it makes entries. So it makes entry after entry, and what
 /// the lock keeps stays in its processor's memory. It is a courtesy: nothing rests on it but speed.
@@ -40,23 +66,23 @@ impl Precedence {
     }
 
     /// Takes it for the worker of thread `t`: at once where nobody else has it, else when that one gives it up, and anyhow
-    /// where that one makes no entry for a while. It isn't taken from one that makes entries: two that take it from one another
+    /// where that one makes no entry for that long. It isn't taken from one that makes entries: two that take it from one another
     /// at each entry would hand everything that the lock keeps to and fro. Where there is no place to look from, it is left where
     /// it is.
-    pub fn take<R: Wait>(&self, rt: &R, lookout: &Lookout, t: u32) {
+    pub fn take<R: Wait>(&self, rt: &R, lookout: &Lookout, t: u32, grace: Grace) {
         let me = u64::from(t);
         if !lookout.has_places() || self.holder.load(Ordering::SeqCst) == me || self.claim(me) {
             return;
         }
         let moments = self.room.lock(rt);
-        if !self.wait(me, &moments) {
+        if !self.wait(me, &moments, grace.goes()) {
             self.holder.store(me, Ordering::SeqCst);
         }
     }
 
     // Looks for it, again and again as long as the one that has it runs. Behind each entry of that one others may have the
     // processor. Says whether it came.
-    fn wait(&self, me: u64, moments: &Moments) -> bool {
+    fn wait(&self, me: u64, moments: &Moments, most_still: u32) -> bool {
         let mut progress = self.progress.load(Ordering::SeqCst);
         let mut still = 0;
         for _ in 0..MOST_GOES {
@@ -68,7 +94,7 @@ impl Precedence {
                 progress = now;
                 still = 0;
                 yield_now();
-            } else if still < MOST_STILL {
+            } else if still < most_still {
                 still += 1;
             } else {
                 return false;

@@ -4,6 +4,7 @@ ghost use Rattle.workers.specs.Calls.{AreCalled};
 ghost use Rattle.workers.specs.PutOffs.{AreNone, counted, for_entry};
 
 use crate::parker::Called;
+use crate::patience::Patience;
 use machine::ThreadSet;
 use std::thread;
 use std::thread::Threads;
@@ -20,15 +21,27 @@ pub enum Calls {
     /// one processor it takes fewer switches between threads. The gate must not hold a worker up until another one has made an
     /// entry: that one may not have been called.
     PutOff,
+    /// As soon as the entry is in the log while the worker's looks for a call succeed, and put off while they are in vain: then
+    /// other work has the processors. The gate must not hold a worker up, as where calls are put off.
+    ByLoad,
 }
 
 impl Calls {
     /// What takes less time: they are put off where the program may use one processor alone, on which who is called takes the
-    /// place of who calls, and made at once where there are several.
+    /// place of who calls. Where there are several, it is as other work allows.
     pub fn by_processors(rt: &impl Threads) -> Calls {
         match thread::available_parallelism(rt) {
-            Ok(processors) if processors.get() > 1 => Calls::AtOnce,
+            Ok(processors) if processors.get() > 1 => Calls::ByLoad,
             _ => Calls::PutOff,
+        }
+    }
+
+    /// Whether a worker with this patience puts its calls off.
+    pub fn are_put_off(self, patience: &Patience) -> bool {
+        match self {
+            Calls::AtOnce => false,
+            Calls::PutOff => true,
+            Calls::ByLoad => patience.rests(),
         }
     }
 }
