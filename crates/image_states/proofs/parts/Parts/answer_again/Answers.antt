@@ -10,9 +10,6 @@ use Rattle.image_states.proofs.Growing.{more_none, stands_still}
 use Rattle.image_states.proofs.Results.{if_both}
 use Rattle.image_states.proofs.parts.Parts.answer_again.Goals as goal
 
-pub returns-in-None-clause-more : goal.returns-in-None-clause-more
-returns-in-None-clause-more c = more_none c.args.self.now c.args.found.now.items
-
 pub push_answer-requires-clause-memory : goal.push_answer-requires-clause-memory
 push_answer-requires-clause-memory c = (c.requires.within).memory
 

@@ -5,9 +5,6 @@ use Rattle.image_states.specs.Packed.{words_in}
 use Rattle.image_states.proofs.Growing.{more_none}
 use Rattle.image_states.proofs.parts.Parts.requeue_again.Goals as goal
 
-pub returns-in-None-clause-more : goal.returns-in-None-clause-more
-returns-in-None-clause-more c = more_none c.args.self.now c.args.found.now.items
-
 pub returns-then-w-expected-clause-more : goal.returns-then-w-expected-clause-more
 returns-then-w-expected-clause-more c = more_none c.args.self.now c.args.found.now.items
 
