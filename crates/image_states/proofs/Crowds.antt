@@ -33,7 +33,7 @@ pub counted_other : (m place : ℕ) → 0 < place → m ≢ place → counted (p
 counted_other zero place some ne = refl
 counted_other (suc b) place some ne = by (b == (place - 1)) refl
   where
-    by : (t : Bool) → (b == (place - 1)) ≡ t → (if t then 1 else 0) ≡ 0
+    by : (t : Bool) → (b == (place - 1)) ≡ t → ◌≡◌ {A = ℕ} (if t then 1 else 0) 0
     by true e = absurd (let same : b ≡ place - 1 = eqb-true b (place - 1) e in ne (omega (arith, same, some)))
     by false e = refl
 

@@ -41,6 +41,11 @@ module _ (parts : PartsOf) (m : ℕ) (there : m < length parts.memories.items) w
   pub its_size : (words : List ℕ) → slice_get parts.memories.items m ≡ Some words → length words ≡ parts.size
   its_size words e = ap length (sym (ap some_words e)) ∙ size_is
 
+  pub not_missing : slice_get parts.memories.items m ≡ None → ⊥
+  not_missing none =
+      let differ : None ≡ Some (get_or parts.memories.items m []) =
+      sym none ∙ slice_get-get_or parts.memories.items m [] there in cc
+
   -- the words of a thread lie in it
   pub word_lies : (t k : ℕ) → t ≤ parts.most → k ≤ 5 → process_word t k < length (words_in parts.memories.items m)
   word_lies t k few within =

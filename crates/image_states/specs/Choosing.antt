@@ -23,7 +23,7 @@ pub record AreSleepers (places : List ℕ) (place : ℕ) (sleepers : List ℕ) :
   pub sleep : (t : ℕ) → IsTrue (names sleepers t) → asleep_at places t ≡ place_of place
   pub all : (t : ℕ) → asleep_at places t ≡ place_of place → IsTrue (names sleepers t)
   pub threads : AreThreads (length places) sleepers
-  pub count : (n : ℕ) × (length sleepers ≡ sleepers_on (asleep_at places) (place - 1) n)
+  pub count : length sleepers ≡ sleepers_on (asleep_at places) (place - 1) (length places)
 
 -- so many of those that sleep at a place, each once
 pub record AreChosen (places : List ℕ) (place many : ℕ) (chosen : List ℕ) : Type 0 where

@@ -52,7 +52,7 @@ impl Parts {
     /// isn't: where the thread has no pending entry and nobody sleeps on its id, it is taken to its end at once.
     pub fn new(alloc: Global, image: &Image, alone: bool) -> Parts
         ensures alone { result.alone ≡ alone }
-        ensures image { IsFor image.now result }
+        ensures fits { IsFor image.now result }
     {
         let most = image.version().most_processes();
         let size = memory_len(image);

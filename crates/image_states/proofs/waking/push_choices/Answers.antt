@@ -17,8 +17,8 @@ push_sets-requires c =
     subst (λ ls. All (AreThreads (length c.args.packed.now.places.items)) (lists_in ls)) (sym c.as_slice.ensures.value)
     ((rw c.in-Some.is at c.in_ok-lists.ensures.threads) (length c.args.packed.now.places.items) c.requires)
 
-pub returns-in_ok-push_sets-clause-each : goal.returns-in_ok-push_sets-clause-each
-returns-in_ok-push_sets-clause-each c =
+pub returns-clause-each : goal.returns-clause-each
+returns-clause-each c =
     let packed = c.args.packed.now in
     let sleepers = c.args.sleepers.now in
     let each : HasEachSet sleepers (lists_in c.as_slice.result.now) =

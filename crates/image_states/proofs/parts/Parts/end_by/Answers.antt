@@ -79,8 +79,8 @@ block-requires c =
     thread_few c.args.self.now c.args.packed.now c.requires.within c.args.k c.args.t c.requires.number c.requires.made in
     (omega (arith, c.requires.number), omega (arith, few))
 
-pub block-2-requires : goal.block-2-requires
-block-2-requires c =
+pub block-requires-2 : goal.block-requires-2
+block-requires-2 c =
     let few : c.args.t ≤ 1000 =
     thread_few c.args.self.now c.args.packed.now c.requires.within c.args.k c.args.t c.requires.number c.requires.made in
     (omega (arith, c.requires.number), omega (arith, few))
@@ -95,3 +95,13 @@ stored-requires c =
 
 pub returns-in-None-clause-why : goal.returns-in-None-clause-why
 returns-in-None-clause-why c = rw c.in-None.is at c.in_ok-stored.ensures.full
+
+pub unreachable-requires : goal.unreachable-requires
+unreachable-requires c =
+    let outside : length (words_in c.args.self.now.memories.items c.args.packed.now.memory) ≤ c.block.result.0 =
+    rw c.in_default.is at c.word.ensures in
+    let word : process_word c.args.t 0 < length (words_in c.args.self.now.memories.items c.args.packed.now.memory) =
+    word_lies c.args.self.now c.args.packed.now.memory (c.requires.within).memory c.args.t 0
+    (thread_within c.args.self.now c.args.packed.now c.requires.within c.args.k c.args.t c.requires.number c.requires.made)
+    (omega arith) in
+    omega (arith, outside, word, c.block.ensures)

@@ -1,7 +1,8 @@
-use Rattle.std.proofs.Common.{◌≡◌, ◌≢◌, ◌<◌, ◌≤◌, ◌∙◌, arith, inl, length, refl, rules, sym}
+use Rattle.machine.specs.RequestMeanings.{AsksFork}
+use Rattle.std.proofs.Common.{◌≡◌, ◌≢◌, ◌<◌, ◌≤◌, ◌∙◌, arith, inl, length, refl, rules, sym, subst}
 use Rattle.locals.specs.Looks.{look}
 use Rattle.machine.proofs.Steps.{can_answer_fork}
-use Rattle.image_states.proofs.Forked.{full_moves, no_fork_moves}
+use Rattle.image_states.proofs.Forked.{full_moves, no_fork_moves, child_there}
 use Rattle.image_states.proofs.Growing.{more_none}
 use Rattle.image_states.proofs.Results.{if_both}
 use Rattle.image_states.proofs.parts.Parts.fork.Goals as goal
@@ -34,3 +35,8 @@ make-requires-clause-few c =
     let other : length c.args.packed.now.parts.items ≢ c.args.self.now.most = search rules in
     let few : length c.args.packed.now.parts.items ≤ c.args.self.now.most = (c.requires.within).few in
     omega (arith, other, few)
+
+pub unreachable-requires : goal.unreachable-requires
+unreachable-requires c =
+    let l = look c.args.image.now c.args.t c.args.scratch.now.here in
+    child_there l (subst (AsksFork l) c.if-not-has_room.false c.requires.asks) (sym c.child.ensures ∙ c.in_default.is)

@@ -12,6 +12,6 @@ invariant_of-self-2 c = record {
       c.args.self.now.sized c.requires;
 }
 
-pub returns-then-count-MOST_NUMBERS-clause-full : goal.returns-then-count-MOST_NUMBERS-clause-full
-returns-then-count-MOST_NUMBERS-clause-full c =
-    inr (omega (arith, c.if-count-MOST_NUMBERS.true, c.memory_count-count.ensures))
+pub returns-then-count-gt-MOST_NUMBERS-clause-full : goal.returns-then-count-gt-MOST_NUMBERS-clause-full
+returns-then-count-gt-MOST_NUMBERS-clause-full c =
+    inr (omega (arith, c.if-count-gt-MOST_NUMBERS.true, c.memory_count-count.ensures))

@@ -9,14 +9,14 @@ use Rattle.image_states.proofs.Turned.{exit_moves}
 use Rattle.image_states.proofs.Within.{thread_within}
 use Rattle.image_states.proofs.parts.Parts.leave.Goals as goal
 
-pub plan-requires-clause-thread : goal.plan-requires-clause-thread
-plan-requires-clause-thread c = (
+pub plan-step-requires-clause-thread : goal.plan-step-requires-clause-thread
+plan-step-requires-clause-thread c = (
   omega (arith, c.requires.number),
   thread_within c.args.self.now c.args.packed.now c.requires.within c.args.k c.args.t c.requires.number c.requires.made,
 )
 
-pub plan-requires-clause-memory : goal.plan-requires-clause-memory
-plan-requires-clause-memory c = (c.requires.within).memory
+pub plan-step-requires-clause-memory : goal.plan-step-requires-clause-memory
+plan-step-requires-clause-memory c = (c.requires.within).memory
 
 pub leave_by-requires-clause-lies : goal.leave_by-requires-clause-lies
 leave_by-requires-clause-lies c = c.plan-step.ensures.lies

@@ -14,7 +14,7 @@ use Rattle.image_states.proofs.Growing.{stands_still}
 use Rattle.image_states.proofs.Crowds.{among_why, mid_why, no_more_sleepers}
 use Rattle.image_states.proofs.Requeued.{some_within}
 use Rattle.image_states.proofs.Results.{if_both}
-use Rattle.image_states.proofs.Within.{places_few}
+use Rattle.image_states.proofs.Within.{places_few, is_there}
 use Rattle.image_states.proofs.parts.Parts.requeue_to.Goals as goal
 
 pub go_on-requires : goal.go_on-requires
@@ -27,8 +27,8 @@ go_on-requires c =
     (ap (thread_at c.args.self.now.locals.items c.args.packed.now.parts.items) c.requires.number ∙ there) in
     can_answer (look c.args.image.now c.args.t c.look_at.new.self.here) c.number_of-answer.result c.args.request told
 
-pub returns-in-Some-thread-clause-done : goal.returns-in-Some-thread-clause-done
-returns-in-Some-thread-clause-done c =
+pub returns-clause-done : goal.returns-clause-done
+returns-clause-done c =
     let p = c.args.image.now in
     let mid = c.args.mid.now in
     let new = c.stand_waking.new.self in
@@ -57,8 +57,8 @@ returns-in-Some-thread-clause-done c =
     (with_place (asleep_at mid.places.items) moved q) c.go_on.new.self) place
     (r none (suc c.args.from.0) c.requires.sleepers moved chosen)))
 
-pub number_of-requires : goal.number_of-requires
-number_of-requires c =
+pub number_of-answer-requires : goal.number_of-answer-requires
+number_of-answer-requires c =
     let mid = c.args.mid.now in
     let within = some_within c.args.self.now c.args.packed.now mid c.requires.mid c.requires.within in
     let less : length c.args.sleepers.now ≤ length mid.places.items =
@@ -80,8 +80,13 @@ stand_waking-requires-clause-memory c =
 pub stand_waking-requires-clause-threads : goal.stand_waking-requires-clause-threads
 stand_waking-requires-clause-threads c = (c.requires.sleepers).threads
 
-pub returns-in-Some-clause-why : goal.returns-in-Some-clause-why
-returns-in-Some-clause-why c = IfOk-weaker c.stand_waking.result _ _ (λ o h. IfSome_then o h (λ why is.
+pub returns-clause-why : goal.returns-clause-why
+returns-clause-why c = IfOk-weaker c.stand_waking.result _ _ (λ o h. IfSome_then o h (λ why is.
     mid_why c.stand_waking.new.self c.args.packed.now c.args.mid.now c.requires.mid why
     (among_why c.stand_waking.new.self c.args.mid.now c.args.from.0 c.args.sleepers.now c.requires.sleepers why is)))
     c.stand_waking.ensures.why
+
+pub unreachable-requires : goal.unreachable-requires
+unreachable-requires c =
+    is_there c.args.self.now c.args.packed.now c.requires.within c.args.k c.requires.made
+    (rw c.in-None.is at c.thread.ensures.none)

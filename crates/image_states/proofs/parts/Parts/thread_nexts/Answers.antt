@@ -1,4 +1,5 @@
-use Rattle.std.proofs.Common.{subst}
+use Rattle.image_states.proofs.Within.{thread_few}
+use Rattle.std.proofs.Common.{subst, ◌≤◌, ◌+◌, arith, refl, suc}
 use Rattle.image_states.specs.Nexts.{may_of, IsDone, IsMore}
 use Rattle.image_states.proofs.Growing.{more_longer, more_twice, within_still, own_still, stray_still}
 use Rattle.image_states.proofs.Listing.{is_none}
@@ -43,3 +44,10 @@ returns-clause-done c =
     (λ is. stray_still p a b x ys zs c.in-Some.t m within
     (c.in_ok-stray_nexts.ensures.done is p))
     (λ less. r none less)))
+
+pub unreachable-requires : goal.unreachable-requires
+unreachable-requires c =
+    let many : 4294967296 ≤ c.args.k + 1 = rw c.in_default.is at c.thread_number.ensures.none in
+    let few : suc c.args.k ≤ 1000 =
+    thread_few c.args.self.now c.args.packed.now c.requires.within c.args.k (suc c.args.k) refl c.requires.made in
+    omega (arith, many, few)
