@@ -103,7 +103,7 @@ impl Parts {
                 if local.has_ended() {
                     return Ok(None);
                 }
-                scratch.look_at(local);
+                scratch.look_at_thread(image, t, local);
                 self.own_step(alloc, image, packed, k, t, scratch, found)
             }
         }
@@ -187,8 +187,7 @@ impl Parts {
         let Some(killed) = packed.killed.checked_add(1) else {
             return Ok(Some(Bound::Foreign));
         };
-        scratch.here.kill();
-        match self.stand(alloc, image, packed, k, t, packed.memory, scratch)? {
+        match self.stand_killed(alloc, image, packed, k, t, scratch)? {
             None => Ok(Some(Bound::Parts)),
             Some(state) => push_killed(alloc, &state, t, killed, found),
         }

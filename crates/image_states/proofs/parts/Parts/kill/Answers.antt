@@ -16,21 +16,21 @@ returns-in_default-clause-more c = more_none c.args.self.now c.args.found.now.it
 
 pub returns-in-None-clause-more : goal.returns-in-None-clause-more
 returns-in-None-clause-more c =
-    more_grown c.args.self.now c.stand.new.self c.args.found.now.items c.in_ok-stand.ensures.grown
+    more_grown c.args.self.now c.stand_killed.new.self c.args.found.now.items c.in_ok-stand_killed.ensures.grown
 
 pub returns-in-Some-2-clause-more : goal.returns-in-Some-2-clause-more
 returns-in-Some-2-clause-more c = on_ok c.push_killed.result _ _ c.push_killed.ensures.longer
-    (λ e. record { parts = c.in_ok-stand.ensures.grown; nexts = e })
+    (λ e. record { parts = c.in_ok-stand_killed.ensures.grown; nexts = e })
 
 pub returns-in-Some-2-clause-done : goal.returns-in-Some-2-clause-done
 returns-in-Some-2-clause-done c =
     let x = c.args.packed.now in
     let state = c.in-Some-2.state in
-    let base : IsBase c.args.image.now c.stand.new.self x c.args.k x.memory (Dies Killed') state =
-    rw c.kill.ensures at (rw c.in-Some-2.is at c.in_ok-stand.ensures.stands) in
+    let base : IsBase c.args.image.now c.stand_killed.new.self x c.args.k x.memory (Dies Killed') state =
+    rw c.in-Some-2.is at c.in_ok-stand_killed.ensures.stands in
     let one : c.in-Some.killed ≡ x.killed + 1 = search rules in
     IfOk-weaker c.push_killed.result _ _ (λ o h none.
-    kill_done c.args.image.now c.args.self.now c.stand.new.self x state c.args.k c.args.t c.push_killed.new.found.items
-    c.requires.number c.in_ok-stand.ensures.grown c.requires.within base
+    kill_done c.args.image.now c.args.self.now c.stand_killed.new.self x state c.args.k c.args.t c.push_killed.new.found.items
+    c.requires.number c.in_ok-stand_killed.ensures.grown c.requires.within base
     (subst (HasKilled state c.push_killed.new.found.items (with_place (asleep_at state.places.items) (c.args.t ∷ []) None))
     one (h none))) c.push_killed.ensures.killed
