@@ -11,6 +11,7 @@ pub mod Forked
 pub mod Begun
 pub mod Results
 pub mod Turned
+pub mod Phases
 pub mod Found
 pub mod Sparing
 pub mod Sleeping

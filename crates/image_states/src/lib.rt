@@ -11,6 +11,7 @@ mod ending;
 mod ends;
 mod exits;
 mod forking;
+mod killing;
 mod leaving;
 mod next;
 mod opening;

@@ -106,7 +106,7 @@ impl Parts {
                 if local.has_ended() {
                     return Ok(None);
                 }
-                scratch.look_at(local);
+                scratch.look_at_thread(image, t, local);
                 self.own_step(alloc, image, packed, k, t, scratch, found)
             }
         }
@@ -194,8 +194,7 @@ impl Parts {
             → KillDone image.now self.new packed.now found.new.items t) }
     {
         let killed = packed.killed + 1;
-        scratch.here.kill();
-        match self.stand(alloc, image, packed, k, t, packed.memory, scratch)? {
+        match self.stand_killed(alloc, image, packed, k, t, scratch)? {
             None => Ok(Some(Bound::Parts)),
             Some(state) => {
                 push_killed(alloc, &state, t, killed, found)?;
