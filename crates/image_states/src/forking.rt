@@ -29,12 +29,7 @@ fn add_thread(state: &mut Packed, part: u32) -> Result<(), AllocError>
 }
 
 // The state comes next with a thread more, which is awake and has this local state, by a step of this thread's own.
-fn push_more(
-    state: Packed,
-    part: u32,
-    thread: u32,
-    found: &mut Vec<Next>,
-) -> Result<(), AllocError>
+fn push_more(state: Packed, part: u32, thread: u32, found: &mut Vec<Next>) -> Result<(), AllocError>
     ensures longer { OnOk result (IsPrefix found.old.items found.new.items) }
     ensures added { OnOk result (HasMore state found.new.items part) }
 {

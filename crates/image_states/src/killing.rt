@@ -1,7 +1,7 @@
-ghost use Rattle.std.specs.Prelude.{IfOk, IfSome, OnOk};
+ghost use Rattle.std.specs.Prelude.{◌<◌, IfNone, IfOk, IfSome, OnOk, length};
 ghost use Rattle.words.specs.declared.outcome.Cause.TheVariants.{Killed};
 ghost use Rattle.locals.specs.Threads.{Dies};
-ghost use Rattle.image_states.specs.Packed.{IsGrown};
+ghost use Rattle.image_states.specs.Packed.{IsGrown, IsOutOfNumbers};
 ghost use Rattle.image_states.specs.Nexts.{IsBase};
 
 use crate::packed::Packed;
@@ -22,14 +22,16 @@ impl Parts {
         t: u32,
         scratch: &mut Scratch,
     ) -> Result<Option<Packed>, AllocError>
+        requires made { k < length packed.now.parts.items }
         ensures grown { OnOk result (IsGrown self.old self.new) }
+        ensures full { IfOk result (λ o. IfNone o (IsOutOfNumbers self.new)) }
         ensures stands { IfOk result (λ o. IfSome o
             (IsBase image.now self.new packed.now k packed.now.memory (Dies Killed))) }
     {
         scratch.killed.kill();
         match self.local_number(alloc, image, t, &scratch.killed)? {
             None => Ok(None),
-            Some(part) => packed.moved(alloc, k, packed.memory, part),
+            Some(part) => Ok(Some(packed.moved(alloc, k, packed.memory, part)?)),
         }
     }
 }

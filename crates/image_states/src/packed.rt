@@ -135,8 +135,7 @@ fn place_one(places: &mut [u32], t: u32, place: u32)
 // These threads are at this place from now on.
 fn place_all(places: &mut [u32], chosen: &[u32], place: u32)
     requires { AreThreads (length places.old) chosen.now }
-    ensures placed
-        { asleep_at places.new ≡ with_place (asleep_at places.old) chosen.now (place_of place) }
+    ensures placed { asleep_at places.new ≡ with_place (asleep_at places.old) chosen.now (place_of place) }
     ensures count { length places.new ≡ length places.old }
 {
     for t in chosen {

@@ -34,4 +34,3 @@ returns-then-is_dying-clause-done c =
 
 pub returns-else-is_dying-clause-done : goal.returns-else-is_dying-clause-done
 returns-else-is_dying-clause-done c = IfOk-weaker c.kill.result _ _ (λ o r none less. r none) c.kill.ensures.done
-

@@ -53,5 +53,3 @@ returns-clause-leaves c =
     (unmarked a b m.parts x.memory c.in-Some.memory c.args.plan.marks within.memory marked) is
     (λ woken after wakes. subst (λ z. ReachesAt c.args.image.now b x c.stand_by.new.found.items c.args.t
     (words_in b.memories.items c.in-Some.memory) after z) c.enter_phase.ensures (r none woken after wakes)))
-
-
