@@ -75,8 +75,8 @@ module _ (p : Program) (kept : KeptOf) (place : ℕ) (v : View) (well : IsWellFo
           by_place (Some a) e = absurd (let made : suc k ≤ length v.threads = (well.made (suc k) a e).1 in
               omega (arith, made, most))
 
-  most_same : most_of p.version ≡ (state_of (concrete v)).most
-  most_same = sym well.most
+  most_same : kept.parts.most ≡ (state_of (concrete v)).most
+  most_same = there.most ∙ sym well.most
 
   same : unpacked p kept.parts there.packed
       ≡ ahead (state_of (concrete v)) (thread_at kept.parts.locals.items there.packed.parts.items) []

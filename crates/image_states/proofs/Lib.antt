@@ -11,9 +11,12 @@ pub mod Forked
 pub mod Begun
 pub mod Results
 pub mod Turned
+pub mod Phases
 pub mod Found
 pub mod Sparing
 pub mod Sleeping
 pub mod Listing
 pub mod Marking
 pub mod Requeued
+pub mod Crowds
+pub mod Within

@@ -1,8 +1,9 @@
 ghost use Rattle.std.specs.Prelude.{◌≡◌, ℕ};
+ghost use Rattle.locals.specs.Threads.{Exits};
 ghost use Rattle.image_states.specs.Nexts.{RunsOn};
 
 use isa::Image;
-use locals::Local;
+use locals::{Local, NextStep};
 use robustexit::ExitPhase;
 use std::mem;
 
@@ -16,6 +17,10 @@ pub struct Scratch {
     pub(crate) here: Local,
     // The same further on.
     pub(crate) ahead: Local,
+    // One that doesn't run its code where the one that is looked at does, and does where that one doesn't.
+    other: Local,
+    // One that was killed.
+    pub(crate) killed: Local,
 }
 
 impl Scratch {
@@ -24,18 +29,45 @@ impl Scratch {
         Scratch {
             here: Local::exiting(ExitPhase::Ended),
             ahead: Local::exiting(ExitPhase::Ended),
+            other: Local::exiting(ExitPhase::Ended),
+            killed: Local::exiting(ExitPhase::Ended),
         }
     }
 
-    /// The local state that is looked at is this one. Where the one before doesn't run its code and the other does, the two
-    /// change places: a running one becomes a copy of another in less time.
+    /// The local state that is looked at is this one. Where one of the two runs its code and the one before doesn't, another
+    /// takes the place of that: to make a running one anew takes more time than any step.
     pub fn look_at(&mut self, local: &Local)
         ensures { self.new.here ≡ local.now }
     {
-        if self.here.is_dying() && !self.ahead.is_dying() {
-            mem::swap(&mut self.here, &mut self.ahead);
+        if self.here.is_dying() != local.is_dying() {
+            mem::swap(&mut self.here, &mut self.other);
         }
         self.here.copy_from(local);
+    }
+
+    // It is in this phase of its exit.
+    fn enter_phase(&mut self, phase: ExitPhase)
+        ensures { self.new.here ≡ Exits phase }
+    {
+        if !self.here.is_dying() {
+            mem::swap(&mut self.here, &mut self.other);
+        }
+        self.here.enter_phase(phase);
+    }
+
+    // It is this one, of thread `t`. One in its exit is made by its phase: a copy of one that doesn't run its code takes more
+    // time.
+    pub(crate) fn look_at_thread(&mut self, image: &Image, t: u32, local: &Local)
+        ensures { self.new.here ≡ local.now }
+    {
+        if !local.is_dying() {
+            self.look_at(local);
+            return;
+        }
+        match local.next_step(image, t) {
+            NextStep::Exit(phase) => self.enter_phase(phase),
+            _ => self.look_at(local),
+        }
     }
 
     /// The local state that is looked at.

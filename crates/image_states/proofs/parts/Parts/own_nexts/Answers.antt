@@ -1,3 +1,4 @@
+use Rattle.image_states.proofs.Within.{made_of}
 use Rattle.std.proofs.Common.{sym, ◌≡◌, ◌∙◌, Some, ap, suc}
 use Rattle.robustexit.specs.declared.phase.ExitPhase.TheVariants.{Ended}
 use Rattle.locals.specs.Threads.{Exits}
@@ -42,9 +43,9 @@ returns-else-has_ended-clause-done c =
     let there : thread_at c.args.self.now.locals.items c.args.packed.now.parts.items (suc c.args.k) ≡ Some c.in-Some.local.now =
     rw c.in-Some.is at c.thread.ensures.some in
     let moves : MovesTo c.args.image.now c.own_step.new.self c.args.packed.now c.own_step.new.found.items c.args.t
-    c.look_at.new.self.here → MovesTo c.args.image.now c.own_step.new.self c.args.packed.now c.own_step.new.found.items
+    c.look_at_thread.new.self.here → MovesTo c.args.image.now c.own_step.new.self c.args.packed.now c.own_step.new.found.items
     c.args.t c.in-Some.local.now =
-    λ m. rw c.look_at.ensures at m in
+    λ m. rw c.look_at_thread.ensures at m in
     if_both c.own_step.result _ _ _ c.own_step.ensures.more c.own_step.ensures.moves (λ m o r none.
     own_done c.args.image.now c.own_step.new.self c.args.packed.now c.own_step.new.found.items c.args.t c.in-Some.local.now
     (ap (thread_at c.own_step.new.self.locals.items c.args.packed.now.parts.items) c.requires.number
@@ -56,4 +57,9 @@ own_step-requires-clause-stands c =
     let there : thread_at c.args.self.now.locals.items c.args.packed.now.parts.items (suc c.args.k) ≡ Some c.in-Some.local.now =
     rw c.in-Some.is at c.thread.ensures.some in
     ap (thread_at c.args.self.now.locals.items c.args.packed.now.parts.items) c.requires.number ∙ there
-    ∙ ap (λ z. Some z) (sym c.look_at.ensures)
+    ∙ ap (λ z. Some z) (sym c.look_at_thread.ensures)
+
+pub own_step-requires-clause-made : goal.own_step-requires-clause-made
+own_step-requires-clause-made c =
+    made_of c.args.self.now.locals.items c.args.packed.now.parts.items c.args.k c.in-Some.local.now
+    (rw c.in-Some.is at c.thread.ensures.some)
