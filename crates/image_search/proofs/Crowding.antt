@@ -5,7 +5,7 @@ use Rattle.std.specs.Prelude.{IfNone, IfSome, if◌then◌else◌}
 use Rattle.words.specs.declared.mem.Addr.{Addr}
 use Rattle.machine.specs.Views.{address_of}
 use Rattle.image_states.specs.Packed.{asleep_at, place_of}
-use Rattle.image_search.specs.Crowds.{IsCrowded, counted, sleepers_on}
+use Rattle.image_states.specs.Crowds.{IsCrowded, counted, sleepers_on}
 
 -- one thread
 pub counted_by : (t : Bool) (n : ℕ) → (t ≡ true → n ≡ 1) → (t ≡ false → n ≡ 0) → n ≡ (if t then 1 else 0)

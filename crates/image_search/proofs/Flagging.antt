@@ -2,17 +2,18 @@
 use Rattle.std.proofs.Common.{◌≡◌, ◌∙◌, ◌<◌, ◌≤◌, ◌+◌, ℕ, zero, suc, All, Bool, Contains, List, [], ◌∷◌, Option, Some, None, ap, arith}
 use Rattle.std.proofs.Common.{◌==◌, false, not, inl, inr, length, map, refl, slice_get, subst, sym, take, true}
 use Rattle.std.proofs.lemmas.Bool.{cases_lt}
+use Rattle.machine.specs.Runs.{CanStep, NextIsBroken}
 use Rattle.std.proofs.lemmas.List.{get_or_past, length-map}
 use Rattle.std.proofs.lemmas.List.Elements.{All-contains, All-more}
 use Rattle.std.proofs.lemmas.Option.{get_or_from_slice_get, slice_get_within, same_Some}
-use Rattle.std.specs.Prelude.{slice_index_or, slice_set, ◌⊎◌, Vec}
+use Rattle.std.specs.Prelude.{slice_index_or, slice_set, ◌⊎◌, Vec, MatchBool}
 use Rattle.std.specs.Global.{Global}
 use Rattle.isa.specs.Programs.{Program}
 use Rattle.machine.specs.States.{State}
 use Rattle.proof_image_search.specs.Searching.{IsCovered, Kept}
 use Rattle.proof_image_liveness.specs.Sleeping.{AreLive, AreWakened, IsFew, IsWakened}
 use Rattle.image_states.specs.Nexts.{OwnDone, Reaches}
-use Rattle.image_states.specs.Packed.{asleep_at, kept_of, place_of, IsGrown}
+use Rattle.image_states.specs.Packed.{asleep_at, kept_of, place_of, IsGrown, IsWithin}
 use Rattle.image_states.specs.declared.next.Next.{Next as NextOf}
 use Rattle.image_states.specs.declared.packed.Packed.{Packed as PackedOf}
 use Rattle.image_states.specs.declared.parts.Parts.{Parts as PartsOf}
@@ -20,7 +21,7 @@ use Rattle.image_states.proofs.Growing.{grown_none, grown_twice, same_key}
 use Rattle.image_search.specs.declared.kept.KeptStates.{KeptStates as KeptOf}
 use Rattle.proof_pieces.specs.WholeCalls.{IsWholeStep}
 use Rattle.image_search.specs.Kept.{IsApartIn, IsSound, states_in, states_of}
-use Rattle.image_search.specs.Living.{AllWakened, AreFlagged, AreKnown, CanGo, HoldsAt, IsClosed, IsFlagged, IsMade, IsStill}
+use Rattle.image_search.specs.Living.{AllWakened, AreFlagged, AreKnown, CanGo, HoldsAt, IsClosed, IsFlagged, IsStill}
 use Rattle.image_search.specs.Living.{LeadsAt, LivesAt, OwnLeads}
 use Rattle.image_search.proofs.Keeping.{contains_at, sound_still, state_at, states_still}
 
@@ -48,6 +49,16 @@ one_at p kept place x here r at = same_Some _ _ (sym (state_at p kept place x he
 pub holds_at : (p : Program) (kept : KeptOf) (place : ℕ) (x : PackedOf) (Holds : Kept → Type 0)
     → slice_get kept.states.items place ≡ Some x → Holds (kept_of p kept.parts x) → HoldsAt p kept place Holds
 holds_at p kept place x Holds here is r at = subst Holds (one_at p kept place x here r at) is
+
+-- who can step, and stands before no step that may not be
+pub can_go_so : (p : Program) (kept : KeptOf) (place u : ℕ) (x : PackedOf) → slice_get kept.states.items place ≡ Some x
+    → CanStep (kept_of p kept.parts x).state u → (broken : Bool)
+    → MatchBool broken (NextIsBroken p (kept_of p kept.parts x).state u)
+    (NextIsBroken p (kept_of p kept.parts x).state u → ⊥)
+    → not broken ≡ true → HoldsAt p kept place (CanGo p u)
+can_go_so p kept place u x here can true is e = absurd (let differ : false ≡ true = e in cc)
+can_go_so p kept place u x here can false is e =
+    holds_at p kept place x (CanGo p u) here (record { can = can; whole = is })
 
 -- where whatever comes next is flagged, it leads to what the flagged states cover
 pub own_leads : (p : Program) (kept : KeptOf) (flags : List Bool) (place u : ℕ) (x : PackedOf) (found : List NextOf)
@@ -84,15 +95,16 @@ none_asleep places all (suc t) = by_test (cases_lt t (length places))
     by_test (inl less) = ap place_of (all t 0 less)
     by_test (inr most) = ap place_of (get_or_past places t 0 most)
 
-pub few_of : (p : Program) (kept : KeptOf) (x : PackedOf) → IsMade p x → IsFew (kept_of p kept.parts x).state
-few_of p kept x made = record {
+pub few_of : (p : Program) (kept : KeptOf) (x : PackedOf) → IsWithin kept.parts x
+    → IsFew (kept_of p kept.parts x).state
+few_of p kept x within = record {
   most = suc (length x.places.items);
   asleep = asleep_few x.places.items;
-  made = made;
+  made = within.few;
 }
 
 pub leads_at : (p : Program) (kept : KeptOf) (flags : List Bool) (place u : ℕ) (x : PackedOf)
-    → slice_get kept.states.items place ≡ Some x → IsMade p x → HoldsAt p kept place (OwnLeads p kept flags u)
+    → slice_get kept.states.items place ≡ Some x → IsWithin kept.parts x → HoldsAt p kept place (OwnLeads p kept flags u)
     → HoldsAt p kept place (CanGo p u) → HoldsAt p kept place (IsApartIn p kept.parts.alone)
     → HoldsAt p kept place (LeadsAt p kept flags)
 leads_at p kept flags place u x here made leads can apart r at lives are = record {
@@ -194,11 +206,11 @@ packed_in p parts r (x ∷ xs) (suc k) less e =
     (rest.0, contains_more x rest.0 xs rest.1, rest.2)
 
 -- each state is wakened for each of so many threads, and no others sleep
-pub are_wakened : (p : Program) (kept : KeptOf) (count : ℕ) → All (IsMade p) kept.states.items
+pub are_wakened : (p : Program) (kept : KeptOf) (count : ℕ) → IsSound kept
     → All (λ x. length x.places.items ≤ count) kept.states.items
     → ((k : ℕ) → k < count → AllWakened p (suc k) kept)
     → (r : Kept) → Contains (states_of p kept) r → AreWakened p kept.parts.alone r
-are_wakened p kept count made within all r is = by_packed (packed_in p kept.parts r kept.states.items is.0 is.1 is.2)
+are_wakened p kept count sound within all r is = by_packed (packed_in p kept.parts r kept.states.items is.0 is.1 is.2)
   where
     by_thread : (x : PackedOf) → length x.places.items ≤ count → kept_of p kept.parts x ≡ r → (t a : ℕ)
         → r.state.asleep t ≡ Some a → IsWakened p kept.parts.alone t r
@@ -213,7 +225,7 @@ are_wakened p kept count made within all r is = by_packed (packed_in p kept.part
     by_packed : (x : PackedOf) × Contains kept.states.items x × (kept_of p kept.parts x ≡ r) → AreWakened p kept.parts.alone r
     by_packed (x, there, same) = record {
       few = subst (λ (q : Kept). IsFew q.state) same
-          (few_of p kept x (All-contains (IsMade p) kept.states.items x made there));
+          (few_of p kept x (All-contains (IsWithin kept.parts) kept.states.items x sound there));
       wakened = by_thread x (All-contains (λ y. length y.places.items ≤ count) kept.states.items x within there) same;
     }
 
@@ -241,17 +253,13 @@ packed_at p parts [] i r h = absurd cc
 packed_at p parts (x ∷ xs) zero r h = (x, refl)
 packed_at p parts (x ∷ xs) (suc i) r h = packed_at p parts xs i r h
 
--- as many were made as before
-pub made_still : (p : Program) (a b : KeptOf) → IsStill a b → All (IsMade p) a.states.items → All (IsMade p) b.states.items
-made_still p a b still made = subst (λ (v : Vec PackedOf Global). All (IsMade p) v.items) (sym still.states) made
-
-pub leads_of : (p : Program) (a kept : KeptOf) (flags : List Bool) (place u : ℕ) → All (IsMade p) a.states.items
-    → IsStill a kept → HoldsAt p kept place (OwnLeads p kept flags u) → HoldsAt p kept place (CanGo p u)
+pub leads_of : (p : Program) (kept : KeptOf) (flags : List Bool) (place u : ℕ) → IsSound kept
+    → HoldsAt p kept place (OwnLeads p kept flags u) → HoldsAt p kept place (CanGo p u)
     → HoldsAt p kept place (IsApartIn p kept.parts.alone) → HoldsAt p kept place (LeadsAt p kept flags)
-leads_of p a kept flags place u made still leads can apart r at =
+leads_of p kept flags place u sound leads can apart r at =
     let x = packed_at p kept.parts kept.states.items place r at in
-    leads_at p kept flags place u x.0 x.1 (All-contains (IsMade p) kept.states.items x.0
-    (made_still p a kept still made) (contains_at kept.states.items place x.0 x.1)) leads can apart r at
+    leads_at p kept flags place u x.0 x.1 (All-contains (IsWithin kept.parts) kept.states.items x.0 sound
+    (contains_at kept.states.items place x.0 x.1)) leads can apart r at
 
 -- what holds of a state with fewer parts holds of it with more
 pub holds_still : (p : Program) (a b : KeptOf) (place : ℕ) (Holds : Kept → Type 0) → IsSound a → IsStill a b

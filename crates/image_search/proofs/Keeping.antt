@@ -70,24 +70,28 @@ more_grown kept kept' mid grows more = record {
 pub more_itself : (kept : KeptOf) → IsMore kept kept
 more_itself kept = record { parts = grown_none kept.parts; states = prefix_none kept.states.items; most = refl }
 
+-- a state that is kept, where it is of some parts
+abbrev pub IsKeptOf : PartsOf → KeptOf → NextOf → Type 0
+IsKeptOf parts kept y = IsWithin parts y.state → HasKey kept.states.items y.state
+
 -- of those that come next one is kept, and the others are left
-pub kept_next : (before behind : List NextOf) (next : NextOf) (kept kept' : KeptOf) → before ≡ behind ++ next ∷ []
-    → IsMoreOf kept kept' → HasKey kept'.states.items next.state → (y : NextOf)
-    → Contains before y ⊎ HasKey kept.states.items y.state → Contains behind y ⊎ HasKey kept'.states.items y.state
-kept_next before behind next kept kept' is more key y (inl left) =
+pub kept_next : (parts : PartsOf) (before behind : List NextOf) (next : NextOf) (kept kept' : KeptOf)
+    → before ≡ behind ++ next ∷ [] → IsMoreOf kept kept' → IsKeptOf parts kept' next → (y : NextOf)
+    → Contains before y ⊎ IsKeptOf parts kept y → Contains behind y ⊎ IsKeptOf parts kept' y
+kept_next parts before behind next kept kept' is more key y (inl left) =
     by_case (Contains-push_cases behind next y (subst (λ l. Contains l y) is left))
   where
-    by_case : Contains behind y ⊎ (next ≡ y) → Contains behind y ⊎ HasKey kept'.states.items y.state
+    by_case : Contains behind y ⊎ (next ≡ y) → Contains behind y ⊎ IsKeptOf parts kept' y
     by_case (inl there) = inl there
-    by_case (inr same) = inr (subst (λ (z : NextOf). HasKey kept'.states.items z.state) same key)
-kept_next before behind next kept kept' is more key y (inr has) =
-    inr (key_more kept.states.items kept'.states.items y.state more.states has)
+    by_case (inr same) = inr (subst (IsKeptOf parts kept') same key)
+kept_next parts before behind next kept kept' is more key y (inr has) =
+    inr (λ within. key_more kept.states.items kept'.states.items y.state more.states (has within))
 
 -- none is left
-pub kept_all : (left : List NextOf) (n : ℕ) (kept : KeptOf) → n ≡ length left → n ≡ 0 → (y : NextOf)
-    → Contains left y ⊎ HasKey kept.states.items y.state → HasKey kept.states.items y.state
-kept_all left n kept long none y (inl is) = absurd (let less = is.1 in omega (arith, less, long, none))
-kept_all left n kept long none y (inr has) = has
+pub kept_all : (parts : PartsOf) (left : List NextOf) (n : ℕ) (kept : KeptOf) → n ≡ length left → n ≡ 0 → (y : NextOf)
+    → Contains left y ⊎ IsKeptOf parts kept y → IsKeptOf parts kept y
+kept_all parts left n kept long none y (inl is) = absurd (let less = is.1 in omega (arith, less, long, none))
+kept_all parts left n kept long none y (inr has) = has
 
 pub contains_at : {X : Type 0} (xs : List X) (i : ℕ) (x : X) → slice_get xs i ≡ Some x → Contains xs x
 contains_at xs i x is =

@@ -5,7 +5,6 @@ use Rattle.std.proofs.lemmas.Bool.{cases_lt}
 use Rattle.std.proofs.lemmas.List.{get_or_past}
 use Rattle.std.specs.Prelude.{slice_index}
 use Rattle.std.proofs.lemmas.Option.{same_Some, slice_get_past}
-use Rattle.words.specs.Versions.{most_of}
 use Rattle.isa.specs.Programs.{Program}
 use Rattle.locals.specs.Steps.{local_after}
 use Rattle.locals.specs.Threads.{Thread, is_dying}
@@ -75,8 +74,8 @@ module _ (p : Program) (kept : KeptOf) (place : ℕ) (v : View) (well : IsWellFo
           by_place (Some a) e = absurd (let made : suc k ≤ length v.threads = (well.made (suc k) a e).1 in
               omega (arith, made, most))
 
-  most_same : most_of p.version ≡ (state_of (concrete v)).most
-  most_same = sym well.most
+  most_same : kept.parts.most ≡ (state_of (concrete v)).most
+  most_same = there.most ∙ sym well.most
 
   same : unpacked p kept.parts there.packed
       ≡ ahead (state_of (concrete v)) (thread_at kept.parts.locals.items there.packed.parts.items) []

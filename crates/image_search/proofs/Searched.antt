@@ -34,7 +34,7 @@ module _ (p : Program) (may : May) (kept kept' : KeptOf) (place : ℕ) (x : Pack
     (sound : IsSound kept) (here : slice_get kept.states.items place ≡ Some x) (grows : IsGrown kept.parts mid)
     (nexts : AreNexts p may mid x found) (same : kept'.parts ≡ mid)
     (more : IsPrefix kept.states.items kept'.states.items)
-    (all : (next : NextOf) → Contains found next → HasKey kept'.states.items next.state) where
+    (all : (next : NextOf) → Contains found next → IsWithin mid next.state → HasKey kept'.states.items next.state) where
   is_in : Contains kept.states.items x
   is_in = contains_at kept.states.items place x here
 
@@ -51,7 +51,7 @@ module _ (p : Program) (may : May) (kept kept' : KeptOf) (place : ℕ) (x : Pack
           → (m : ℕ) × IsCovered p mid.alone (states_of p kept') m s' (x.killed + kills_by step.doing)
       by_case (inl covers) = covers (states_of p kept')
           (reach x (key_in kept'.states.items x (prefix_contains kept.states.items kept'.states.items x more is_in)))
-      by_case (inr r) = r.covers (states_of p kept') (reach r.next.state (all r.next r.found))
+      by_case (inr r) = r.covers (states_of p kept') (reach r.next.state (all r.next r.found r.within))
 
   pub expanded : IsExpanded p kept.parts.alone may (states_of p kept') (kept_of p kept.parts x)
   expanded = subst (λ (alone : Bool). IsExpanded p alone may (states_of p kept') (kept_of p kept.parts x)) grows.alone
@@ -221,7 +221,6 @@ pub met_in : (p : Program) (may : May) (kept : KeptOf) (bound : Bound) → IsMet
 met_in p may kept States is = is
 met_in p may kept (Nexts reason.Parts) is = is
 met_in p may kept (Nexts reason.Sleepers) is = absurd is
-met_in p may kept (Nexts reason.Foreign) is = tt
 met_in p may kept Choice is = absurd is
 
 -- or where what may come next of one is looked for
@@ -230,7 +229,6 @@ pub met_so : (p : Program) (may : May) (kept : KeptOf) (bound : Bound) → IsMet
 met_so p may kept States is = omega (arith, is, length-map kept.states.items (kept_of p kept.parts))
 met_so p may kept (Nexts reason.Parts) is = (kept, refl, is)
 met_so p may kept (Nexts reason.Sleepers) is = is
-met_so p may kept (Nexts reason.Foreign) is = tt
 met_so p may kept Choice is = (
   kept_of p kept.parts is.0,
   contains_map (kept_of p kept.parts) kept.states.items is.0 is.1,

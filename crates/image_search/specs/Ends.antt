@@ -1,12 +1,12 @@
 -- How a search ends, and what it knows then.
-use Rattle.std.specs.Prelude.{ℕ, ◌≡◌, ◌<◌, ◌≤◌, ◌⊎◌, All, Bool, Contains, List, length, ⊤}
+use Rattle.std.specs.Prelude.{ℕ, ◌≡◌, ◌<◌, ◌≤◌, ◌⊎◌, All, Bool, Contains, List, length}
 use Rattle.isa.specs.Programs.{Program}
 use Rattle.proof_image_search.specs.Searching.{IsComplete, IsCompleteBy, Kept, May}
 use Rattle.image_states.specs.Packed.{IsOutOfNumbers, asleep_at}
 use Rattle.image_states.specs.declared.bound.Bound.TheVariants as reason
 use Rattle.image_states.specs.declared.packed.Packed.{Packed as PackedOf}
 use Rattle.runner.specs.declared.schedule.Turn.{Turn}
-use Rattle.image_search.specs.Crowds.{IsCrowded}
+use Rattle.image_states.specs.Crowds.{IsCrowded}
 use Rattle.image_search.specs.Found.{EndsCrowded, EndsFailed, EndsStuck, LeadsTo, LeadsToBroken}
 use Rattle.image_search.specs.Kept.{IsEnd, IsFull, IsPlain, states_of}
 use Rattle.image_search.specs.declared.kept.KeptStates.{KeptStates as KeptOf}
@@ -29,7 +29,6 @@ abbrev pub IsMetIn : Program → May → KeptOf → Bound → Type 0
 IsMetIn p may kept States = IsFull kept
 IsMetIn p may kept (Nexts reason.Parts) = IsOutOfNumbers kept.parts
 IsMetIn p may kept (Nexts reason.Sleepers) = LeadsToCrowd p may
-IsMetIn p may kept (Nexts reason.Foreign) = ⊤
 IsMetIn p may kept Choice = HasCrowd kept
 
 -- the states are of parts of which there are as many as numbers
@@ -41,7 +40,6 @@ abbrev pub IsMet : Program → May → ℕ → List Kept → Bound → Type 0
 IsMet p may most kept States = most ≤ length kept
 IsMet p may most kept (Nexts reason.Parts) = AreOutOfNumbers p kept
 IsMet p may most kept (Nexts reason.Sleepers) = LeadsToCrowd p may
-IsMet p may most kept (Nexts reason.Foreign) = ⊤
 IsMet p may most kept Choice = (r : Kept) × Contains kept r × (IsEnd p r ⊎ IsCrowded r.state.asleep)
 
 -- nothing is left to keep, and nothing that is kept is an end that is looked for

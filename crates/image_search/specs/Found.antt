@@ -8,7 +8,7 @@ use Rattle.locals.specs.declared.request.Request.TheVariants as told
 use Rattle.machine.specs.States.{state_of}
 use Rattle.machine.specs.Views.{concrete}
 use Rattle.proof_image_search.specs.Searching.{HasFailed, May}
-use Rattle.image_search.specs.Crowds.{IsCrowded}
+use Rattle.image_states.specs.Crowds.{IsCrowded}
 use Rattle.runner.specs.Schedules.{FailsAt, IsFollowed}
 use Rattle.runner.specs.declared.report.Report.{Report}
 use Rattle.runner.specs.declared.report.Verdict.TheVariants.{Stuck}

@@ -1,10 +1,12 @@
 -- The states that a search keeps.
-use Rattle.std.specs.Prelude.{ℕ, ◌≡◌, ◌<◌, ◌≤◌, ◌⊎◌, All, Bool, Contains, List, MatchBool, Some, length, map, ⊤, ◌^◌, ◌+◌, true, false}
+use Rattle.std.specs.Prelude.{ℕ, ◌≡◌, ◌<◌, ◌≤◌, ◌⊎◌, All, Bool, Contains, List, MatchBool, Some, length, map, ◌^◌, ◌+◌, true, false}
 use Rattle.std.specs.List.{slice_get}
 use Rattle.isa.specs.Programs.{Program}
 use Rattle.machine.specs.Runs.{NextIsBroken}
 use Rattle.proof_image_search.specs.Searching.{HasFailed, IsApart, IsExpanded, IsStuck, Kept, May}
 use Rattle.image_states.specs.Packed.{IsGrown, IsOutOfNumbers, IsPrefix, IsSameKey, IsWithin, kept_of}
+use Rattle.image_states.specs.Reasons.{IsWhy}
+use Rattle.image_states.specs.declared.bound.Bound.{Bound as WhyOf}
 use Rattle.image_states.specs.declared.bound.Bound.TheVariants as reason
 use Rattle.image_states.specs.declared.packed.Packed.{Packed as PackedOf}
 use Rattle.image_states.specs.declared.parts.Parts.{Parts as PartsOf}
@@ -54,7 +56,6 @@ abbrev pub IsMetBy : KeptOf → Bound → Type 0
 IsMetBy kept States = IsFull kept
 IsMetBy kept (Nexts reason.Parts) = IsOutOfNumbers kept.parts
 IsMetBy kept (Nexts reason.Sleepers) = ⊥
-IsMetBy kept (Nexts reason.Foreign) = ⊤
 IsMetBy kept Choice = ⊥
 
 -- no end that is looked for: some thread can move or all have ended, none is dying of a fault, and no thread's next step may
@@ -100,3 +101,7 @@ pub record AreEnds (p : Program) (r : Kept) (e : EndsOf) : Type 0 where
   pub failed : MatchBool e.failed (HasFailed r.state) (HasFailed r.state → ⊥)
   pub broken : e.broken ≡ true → ((t : ℕ) × NextIsBroken p r.state t) ⊎ (2 ^ 32 ≤ r.state.made + 1)
   pub whole : e.broken ≡ false → (t : ℕ) → NextIsBroken p r.state t → ⊥
+
+-- why not all that may come next of the state at a place was found
+abbrev pub IsWhyAt : PartsOf → List PackedOf → ℕ → WhyOf → Type 0
+IsWhyAt parts states place why = (x : PackedOf) × (slice_get states place ≡ Some x) × IsWhy parts x why

@@ -1,7 +1,6 @@
 pub mod Never
 pub mod Found
 pub mod Kept
-pub mod Crowds
 pub mod Ends
 pub mod Living
 pub mod Sleeping

@@ -70,10 +70,6 @@ abbrev pub AllWakened : Program → ℕ → KeptOf → Type 0
 AllWakened p t kept =
     (r : Kept) → Contains (states_of p kept) r → (a : ℕ) → r.state.asleep t ≡ Some a → IsWakened p kept.parts.alone t r
 
--- no more threads were made in a state than can be
-abbrev pub IsMade : Program → PackedOf → Type 0
-IsMade p x = length x.parts.items ≤ most_of p.version
-
 -- those of these that are flagged
 abbrev pub flagged : List Bool → List Kept → List Kept
 flagged [] rs = []
@@ -111,6 +107,7 @@ pub record StandsOn (p : Program) (parts : PartsOf) (v : View) (x : PackedOf) (t
 pub record IsThere (p : Program) (kept : KeptOf) (place : ℕ) (v : View) : Type 0 where
   pub packed : PackedOf
   pub here : slice_get kept.states.items place ≡ Some packed
+  pub most : kept.parts.most ≡ most_of p.version
   pub words : words_in kept.parts.memories.items packed.memory ≡ v.words
   pub made : length packed.parts.items ≡ length v.threads
   pub few : length packed.places.items ≤ length v.threads

@@ -3,11 +3,11 @@ ghost use Rattle.isa.specs.Programs.{Program};
 ghost use Rattle.proof_image_search.specs.Searching.{Kept as KeptOf};
 ghost use Rattle.proof_image_liveness.specs.Sleeping.{AreWakened};
 ghost use Rattle.image_search.specs.Kept.{IsSound, states_of};
-ghost use Rattle.image_search.specs.Living.{AllWakened, AreKnown, HoldsAt, IsMade, IsStill, LeadsAt, LivesAt};
+ghost use Rattle.image_search.specs.Living.{AllWakened, AreKnown, HoldsAt, IsStill, LeadsAt, LivesAt};
 
 use crate::flagged::is_flagged;
 use crate::kept::KeptStates;
-use crate::living::{are_all, are_made, are_within, can_go, leads_on, no_flags};
+use crate::living::{are_all, are_within, can_go, leads_on, no_flags};
 use crate::reaching::most_threads;
 use image_states::Scratch;
 use isa::Image;
@@ -51,7 +51,6 @@ fn thread_leads(
     scratch: &mut Scratch,
 ) -> Result<bool, AllocError>
     requires sound { IsSound kept.old }
-    requires made { All (IsMade image.now) kept.old.states.items }
     ensures sound { OnOk result (IsSound kept.new) }
     ensures still { OnOk result (IsStill kept.old kept.new) }
     ensures leads { IfOk result (λ on. on ≡ true
@@ -75,7 +74,6 @@ fn any_leads(
     scratch: &mut Scratch,
 ) -> Result<bool, AllocError>
     requires sound { IsSound kept.old }
-    requires made { All (IsMade image.now) kept.old.states.items }
     ensures sound { OnOk result (IsSound kept.new) }
     ensures still { OnOk result (IsStill kept.old kept.new) }
     ensures leads { IfOk result (λ on. on ≡ true
@@ -100,7 +98,6 @@ fn lives_for_all(
     scratch: &mut Scratch,
 ) -> Result<bool, AllocError>
     requires sound { IsSound kept.old }
-    requires made { All (IsMade image.now) kept.old.states.items }
     ensures sound { OnOk result (IsSound kept.new) }
     ensures still { OnOk result (IsStill kept.old kept.new) }
     ensures lives { IfOk result (λ is. is ≡ true → (t : ℕ)
@@ -124,7 +121,6 @@ fn mark_for_all(
     scratch: &mut Scratch,
 ) -> Result<bool, AllocError>
     requires sound { IsSound kept.old }
-    requires made { All (IsMade image.now) kept.old.states.items }
     requires known { (t : ℕ) → AreKnown image.now t kept.old flags.old.items }
     ensures sound { OnOk result (IsSound kept.new) }
     ensures still { OnOk result (IsStill kept.old kept.new) }
@@ -160,7 +156,6 @@ fn mark_back(
     scratch: &mut Scratch,
 ) -> Result<bool, AllocError>
     requires sound { IsSound kept.old }
-    requires made { All (IsMade image.now) kept.old.states.items }
     requires known { (t : ℕ) → AreKnown image.now t kept.old flags.old.items }
     ensures sound { OnOk result (IsSound kept.new) }
     ensures still { OnOk result (IsStill kept.old kept.new) }
@@ -187,7 +182,6 @@ fn mark_often(
     scratch: &mut Scratch,
 ) -> Result<(), AllocError>
     requires sound { IsSound kept.old }
-    requires made { All (IsMade image.now) kept.old.states.items }
     requires known { (t : ℕ) → AreKnown image.now t kept.old flags.old.items }
     ensures sound { OnOk result (IsSound kept.new) }
     ensures still { OnOk result (IsStill kept.old kept.new) }
@@ -210,7 +204,6 @@ fn all_live_at_once(
     scratch: &mut Scratch,
 ) -> Result<bool, AllocError>
     requires sound { IsSound kept.old }
-    requires made { All (IsMade image.now) kept.old.states.items }
     ensures sound { OnOk result (IsSound kept.new) }
     ensures still { OnOk result (IsStill kept.old kept.new) }
     ensures wakened { IfOk result (λ all. all ≡ true → (t : ℕ) → AllWakened image.now t kept.new) }
@@ -241,7 +234,7 @@ pub(crate) fn wakened_at_once(
         → AreWakened image.now kept.new.parts.alone r) }
 {
     let count = most_threads(kept);
-    if !are_made(image, kept.states.as_slice()) || !are_within(kept.states.as_slice(), count) {
+    if !are_within(kept.states.as_slice(), count) {
         return Ok(false);
     }
     let all = all_live_at_once(alloc, image, kept, count, scratch)?;

@@ -1,14 +1,13 @@
-ghost use Rattle.std.specs.Prelude.{◌≡◌, ◌<◌, ◌≤◌, IfNone, IfOk, IfSome, false, suc, true, ℕ};
+ghost use Rattle.std.specs.Prelude.{◌≡◌, ◌<◌, ◌≤◌, IfOk, false, true, ℕ};
 ghost use Rattle.machine.specs.States.{state_of};
 ghost use Rattle.machine.specs.Views.{address_of, concrete};
 ghost use Rattle.image_states.specs.Nexts.{may_of};
-ghost use Rattle.image_states.specs.Packed.{asleep_at};
-ghost use Rattle.image_search.specs.Crowds.{IsCrowded, counted, sleepers_on};
+ghost use Rattle.image_states.specs.Crowds.{IsCrowded, counted, sleepers_on};
 ghost use Rattle.image_search.specs.Found.{EndsCrowded, LeadsTo};
 
 use crate::shown::no_run;
 use crate::turns::are_from;
-use image_states::{Outside, Packed};
+use image_states::Outside;
 use isa::Image;
 use machine::Machine;
 use runner::{Report, Turn, follow};
@@ -101,50 +100,4 @@ pub(crate) fn is_crowded_run(
         Ok(report) => Ok(has_crowd(&report)),
         Err(fault) => no_run(fault),
     }
-}
-
-// Where a thread of a packed state sleeps.
-fn address_in(place: u32) -> Option<Addr>
-    ensures none { IfNone result (place ≡ 0) }
-    ensures some { IfSome result (λ a. place ≡ suc a.0) }
-{
-    if place == 0 {
-        return None;
-    }
-    Some(Addr(place - 1))
-}
-
-// How many threads of a packed state sleep on an address.
-fn packed_sleepers(packed: &Packed, a: Addr) -> usize
-    ensures { (n : ℕ) × (result ≡ sleepers_on (asleep_at packed.now.places.items) a.0 n) }
-{
-    let mut count: usize = 0;
-    for k in 0..packed.places.len() {
-        let one = counted(address_in(packed.place(k)), a);
-        count += one;
-    }
-    count
-}
-
-// Whether more than twelve sleep where a thread of a packed state does.
-fn is_packed_crowd(packed: &Packed, place: u32) -> bool
-    ensures { result ≡ true → IsCrowded (asleep_at packed.now.places.items) }
-{
-    let Some(a) = address_in(place) else {
-        return false;
-    };
-    let count = packed_sleepers(packed, a);
-    is_many(count)
-}
-
-/// Whether more than twelve threads of a packed state sleep on one address.
-pub(crate) fn is_crowded_in(packed: &Packed) -> bool
-    ensures { result ≡ true → IsCrowded (asleep_at packed.now.places.items) }
-{
-    for k in 0..packed.places.len() {
-        if is_packed_crowd(packed, packed.place(k)) {
-            return true;
-        }
-    }
-    false
 }

@@ -1,9 +1,8 @@
-ghost use Rattle.std.specs.Prelude.{◌≡◌, ℕ, IfOk, IfSome, MatchBool, MatchOption, OnOk};
-ghost use Rattle.isa.specs.Programs.{Program};
-ghost use Rattle.proof_image_search.specs.Searching.{May as MayOf};
+ghost use Rattle.std.specs.Prelude.{◌≡◌, ℕ, IfNone, IfOk, IfSome, MatchBool, MatchOption, OnOk, true};
 ghost use Rattle.machine.specs.States.{opening_state};
 ghost use Rattle.proof_image_search.specs.Searching.{IsCompleteBy, IsCovered};
 ghost use Rattle.image_states.specs.Nexts.{may_of};
+ghost use Rattle.image_states.specs.Packed.{IsFor};
 ghost use Rattle.image_search.specs.Ends.{HasSearched};
 ghost use Rattle.image_search.specs.Sleeping.{HasSlept};
 ghost use Rattle.image_search.specs.Kept.{IsMetBy, IsSound, states_of};
@@ -13,7 +12,6 @@ ghost use Rattle.image_search.specs.declared.ending.Ending.TheVariants.{Complete
 use crate::ending::{Bound, Ending, ImageExploration, Sleeping};
 use crate::kept::{KeptStates, Way};
 use crate::progress::Progress;
-use crate::reasons::numbers_bound;
 use crate::search::search;
 use crate::sleeping::sleeping_of;
 use image_states::{Doing, Outside, Scratch};
@@ -36,15 +34,17 @@ fn keep_opening(
     scratch: &mut Scratch,
 ) -> Result<Option<Bound>, AllocError>
     requires sound { IsSound kept.old }
+    requires fits { IsFor image.now kept.old.parts }
     ensures sound { OnOk result (IsSound kept.new) }
     ensures most { OnOk result (kept.new.most ≡ kept.old.most) }
+    ensures alone { OnOk result (kept.new.parts.alone ≡ kept.old.parts.alone) }
     ensures opens { IfOk result (λ o. MatchOption o
         ((m : ℕ) × IsCovered image.now kept.new.parts.alone (states_of image.now kept.new) m
         (opening_state image.now) 0)
         (IsMetBy kept.new)) }
 {
     let Some(packed) = kept.parts.opening(alloc, image, scratch)? else {
-        return Ok(Some(numbers_bound(kept)));
+        return Ok(Some(Bound::Nexts(image_states::Bound::Parts)));
     };
     let bound = kept.keep_state(alloc, packed, BEGIN)?;
     Ok(bound)
@@ -88,6 +88,8 @@ fn explore_from<P: Progress>(
     progress: &mut P,
 ) -> Result<Option<ImageExploration>, AllocError>
     requires sound { IsSound kept.old }
+    requires fits { IsFor image.now kept.old.parts }
+    ensures alone { IfOk result (λ o. IfNone o (kept.old.parts.alone ≡ true)) }
     ensures searched { IfOk result
         (λ o. IfSome o (HasSearched image.now (may_of outside) kept.old.most)) }
     ensures sleeping { IfOk result
@@ -121,12 +123,13 @@ fn explore_with<P: Progress>(
     outside: Outside,
     progress: &mut P,
 ) -> Result<Option<ImageExploration>, AllocError>
+    ensures alone { IfOk result (λ o. IfNone o (alone ≡ true)) }
     ensures searched { IfOk result
         (λ o. IfSome o (HasSearched image.now (may_of outside) most_states)) }
     ensures sleeping { IfOk result
         (λ o. IfSome o (λ e. HasSlept image.now (may_of outside) e.ending e.sleeping)) }
 {
-    let mut kept = KeptStates::new(alloc, most_states, alone);
+    let mut kept = KeptStates::new(alloc, image, most_states, alone);
     let mut scratch = Scratch::new();
     explore_from(alloc, image, &mut kept, outside, &mut scratch, progress)
 }
@@ -139,19 +142,6 @@ fn names_no_id(image: &Image) -> bool {
         }
     }
     true
-}
-
-// Nothing is kept.
-fn nothing() -> ImageExploration
-    ensures searched { (p : Program) (may : MayOf) (most : ℕ) → HasSearched p may most result }
-    ensures sleeping { (p : Program) (may : MayOf) → HasSlept p may result.ending result.sleeping }
-    ensures open { result.ending ≡ Complete → ⊥ }
-{
-    ImageExploration {
-        states: 0,
-        ending: Ending::Bounded(Bound::Nexts(image_states::Bound::Foreign)),
-        sleeping: Sleeping::Unsought,
-    }
 }
 
 // What is found; first where exits are followed alone, and where a step sees it, where they aren't.
@@ -170,7 +160,7 @@ fn explore_both<P: Progress>(
         return Ok(found);
     }
     match explore_with(alloc, image, most_states, false, outside, progress)? {
-        None => Ok(nothing()),
+        None => unreachable!(),
         Some(found) => Ok(found),
     }
 }

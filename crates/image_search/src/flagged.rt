@@ -64,6 +64,9 @@ pub(crate) fn own_flagged(
     let Some(t) = thread_number(k) else {
         return Ok(false);
     };
+    if place as usize >= kept.states.len() {
+        return Ok(false);
+    }
     let mut found = Vec::new(alloc);
     let why = own_nexts_at(
         alloc,

@@ -1,4 +1,4 @@
-ghost use Rattle.std.specs.Prelude.{OnOk};
+ghost use Rattle.std.specs.Prelude.{◌<◌, OnOk, length};
 ghost use Rattle.image_search.specs.Kept.{IsSound};
 ghost use Rattle.image_search.specs.Living.{IsStill};
 
@@ -70,6 +70,7 @@ impl Graph {
         scratch: &mut Scratch,
     ) -> Result<Option<image_states::Bound>, AllocError>
         requires sound { IsSound kept.old }
+        requires place { place < length kept.old.states.items }
         ensures sound { OnOk result (IsSound kept.new) }
         ensures still { OnOk result (IsStill kept.old kept.new) }
     {

@@ -1,12 +1,13 @@
 ghost use Rattle.std.specs.Prelude.{◌≡◌, Contains, IfOk, IfSome, MatchBool, MatchOption, None, OnOk, Some, true};
 ghost use Rattle.std.specs.List.{slice_get};
-ghost use Rattle.image_states.specs.Packed.{IsWithin};
+ghost use Rattle.image_states.specs.Packed.{IsFor, IsWithin};
 ghost use Rattle.image_states.specs.declared.next.Next.{Next as NextOf};
 ghost use Rattle.image_search.specs.Kept.{HasKey, HasKeyAt};
 
 use crate::ending::Bound;
 use digest_map::DigestMap;
 use image_states::{Doing, Next, Packed, Parts};
+use isa::Image;
 use std::alloc::{AllocError, Global};
 
 /// How a kept state was come to: from which, by a step of which thread, and what step it was.
@@ -72,14 +73,15 @@ impl KeptStates {
     ghost use Rattle.image_search.specs.Kept.{IsFull, IsMetBy, IsMoreOf, IsSound};
 
     /// No states yet, how many may be kept, and whether exits are followed alone.
-    pub fn new(alloc: Global, most: u32, alone: bool) -> KeptStates
+    pub fn new(alloc: Global, image: &Image, most: u32, alone: bool) -> KeptStates
         ensures sound { IsSound result }
         ensures most { result.most ≡ most }
         ensures alone { result.parts.alone ≡ alone }
+        ensures fits { IsFor image.now result.parts }
     {
         KeptStates {
             states: Vec::new(alloc),
-            parts: Parts::new(alloc, alone),
+            parts: Parts::new(alloc, image, alone),
             ways: Vec::new(alloc),
             places: DigestMap::new(alloc),
             most,
@@ -127,7 +129,8 @@ impl KeptStates {
         self.add(alloc, packed, digest, way)
     }
 
-    /// Keeps a state that was come to so, unless it is kept; else answers why it can't be.
+    /// Keeps a state that was come to so, unless it is kept; else answers why it can't be. One that isn't of the parts isn't
+    /// kept.
     pub fn keep_state(
         &mut self,
         alloc: Global,
@@ -138,10 +141,11 @@ impl KeptStates {
         ensures sound { OnOk result (IsSound self.new) }
         ensures more { OnOk result (IsMoreOf self.old self.new) }
         ensures kept { IfOk result
-            (λ o. MatchOption o (HasKey self.new.states.items packed) (IsMetBy self.new)) }
+            (λ o. MatchOption o (IsWithin self.old.parts packed → HasKey self.new.states.items packed)
+            (IsMetBy self.new)) }
     {
         if !self.parts.is_within(&packed) {
-            return Ok(Some(Bound::Nexts(image_states::Bound::Foreign)));
+            return Ok(None);
         }
         if self.keep(alloc, packed, way)? {
             return Ok(None);
@@ -149,7 +153,7 @@ impl KeptStates {
         Ok(Some(Bound::States))
     }
 
-    /// Keeps all of these states, which come next of that at a place; else answers why they can't be.
+    /// Keeps all of these states that are of the parts, which come next of that at a place; else answers why they can't be.
     pub fn keep_all(
         &mut self,
         alloc: Global,
@@ -161,7 +165,8 @@ impl KeptStates {
         ensures more { OnOk result (IsMoreOf self.old self.new) }
         ensures kept { IfOk result
             (λ o. MatchOption o ((next : NextOf) → Contains nexts.old.items next
-            → HasKey self.new.states.items next.state) (IsMetBy self.new)) }
+            → IsWithin self.old.parts next.state → HasKey self.new.states.items next.state)
+            (IsMetBy self.new)) }
     {
         while let Some(next) = nexts.pop() {
             let Next {

@@ -3,7 +3,7 @@ ghost use Rattle.isa.specs.Programs.{Program};
 ghost use Rattle.proof_image_search.specs.Searching.{Kept as KeptOf};
 ghost use Rattle.proof_image_liveness.specs.Sleeping.{AreWakened};
 ghost use Rattle.image_search.specs.Kept.{IsSound, states_of};
-ghost use Rattle.image_search.specs.Living.{AllWakened, AreKnown, CanGo, HoldsAt, IsMade, IsStill, LeadsAt, LivesAt};
+ghost use Rattle.image_search.specs.Living.{AllWakened, AreKnown, CanGo, HoldsAt, IsStill, LeadsAt, LivesAt};
 
 use crate::apart::is_apart_at;
 use crate::flagged::{is_flagged, own_flagged};
@@ -49,7 +49,6 @@ pub(crate) fn leads_on(
     scratch: &mut Scratch,
 ) -> Result<bool, AllocError>
     requires sound { IsSound kept.old }
-    requires made { All (IsMade image.now) kept.old.states.items }
     ensures sound { OnOk result (IsSound kept.new) }
     ensures still { OnOk result (IsStill kept.old kept.new) }
     ensures leads { IfOk result (λ on. on ≡ true
@@ -77,7 +76,6 @@ fn leads_by(
     scratch: &mut Scratch,
 ) -> Result<bool, AllocError>
     requires sound { IsSound kept.old }
-    requires made { All (IsMade image.now) kept.old.states.items }
     ensures sound { OnOk result (IsSound kept.new) }
     ensures still { OnOk result (IsStill kept.old kept.new) }
     ensures leads { IfOk result (λ on. on ≡ true
@@ -107,7 +105,6 @@ fn some_leads(
     scratch: &mut Scratch,
 ) -> Result<bool, AllocError>
     requires sound { IsSound kept.old }
-    requires made { All (IsMade image.now) kept.old.states.items }
     ensures sound { OnOk result (IsSound kept.new) }
     ensures still { OnOk result (IsStill kept.old kept.new) }
     ensures leads { IfOk result (λ on. on ≡ true
@@ -134,7 +131,6 @@ fn lives(
     scratch: &mut Scratch,
 ) -> Result<bool, AllocError>
     requires sound { IsSound kept.old }
-    requires made { All (IsMade image.now) kept.old.states.items }
     ensures sound { OnOk result (IsSound kept.new) }
     ensures still { OnOk result (IsStill kept.old kept.new) }
     ensures lives { IfOk result (λ is. is ≡ true
@@ -159,7 +155,6 @@ fn mark(
     scratch: &mut Scratch,
 ) -> Result<bool, AllocError>
     requires sound { IsSound kept.old }
-    requires made { All (IsMade image.now) kept.old.states.items }
     requires known { AreKnown image.now (suc k) kept.old flags.old.items }
     ensures sound { OnOk result (IsSound kept.new) }
     ensures still { OnOk result (IsStill kept.old kept.new) }
@@ -198,7 +193,6 @@ fn mark_all(
     scratch: &mut Scratch,
 ) -> Result<bool, AllocError>
     requires sound { IsSound kept.old }
-    requires made { All (IsMade image.now) kept.old.states.items }
     requires known { AreKnown image.now (suc k) kept.old flags.old.items }
     ensures sound { OnOk result (IsSound kept.new) }
     ensures still { OnOk result (IsStill kept.old kept.new) }
@@ -225,7 +219,6 @@ fn mark_on(
     scratch: &mut Scratch,
 ) -> Result<(), AllocError>
     requires sound { IsSound kept.old }
-    requires made { All (IsMade image.now) kept.old.states.items }
     requires known { AreKnown image.now (suc k) kept.old flags.old.items }
     ensures sound { OnOk result (IsSound kept.new) }
     ensures still { OnOk result (IsStill kept.old kept.new) }
@@ -272,7 +265,6 @@ fn all_live(
     scratch: &mut Scratch,
 ) -> Result<bool, AllocError>
     requires sound { IsSound kept.old }
-    requires made { All (IsMade image.now) kept.old.states.items }
     ensures sound { OnOk result (IsSound kept.new) }
     ensures still { OnOk result (IsStill kept.old kept.new) }
     ensures wakened { IfOk result (λ all. all ≡ true → AllWakened image.now (suc k) kept.new) }
@@ -294,19 +286,6 @@ fn all_live(
     }
     let all = are_all(flags.as_slice());
     Ok(all)
-}
-
-// Whether no more threads were made in each of these than can be.
-pub(crate) fn are_made(image: &Image, states: &[Packed]) -> bool
-    ensures { result ≡ true → All (IsMade image.now) states.now }
-{
-    let most = image.version().most_processes() as usize;
-    for packed in states {
-        if packed.parts.len() > most {
-            return false;
-        }
-    }
-    true
 }
 
 // Whether no more than so many threads have a place to sleep in each of these.
@@ -331,7 +310,6 @@ fn all_live_for(
     scratch: &mut Scratch,
 ) -> Result<bool, AllocError>
     requires sound { IsSound kept.old }
-    requires made { All (IsMade image.now) kept.old.states.items }
     ensures sound { OnOk result (IsSound kept.new) }
     ensures still { OnOk result (IsStill kept.old kept.new) }
     ensures wakened { IfOk result (λ all. all ≡ true → (k : ℕ) → k < count
@@ -361,7 +339,7 @@ pub(crate) fn all_wakened(
         → AreWakened image.now kept.new.parts.alone r) }
 {
     let count = most_threads(kept);
-    if !are_made(image, kept.states.as_slice()) || !are_within(kept.states.as_slice(), count) {
+    if !are_within(kept.states.as_slice(), count) {
         return Ok(false);
     }
     let all = all_live_for(alloc, image, kept, graph, count, scratch)?;

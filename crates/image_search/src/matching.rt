@@ -129,6 +129,9 @@ pub(crate) fn is_there(
     let Some(packed) = kept.state(place) else {
         return false;
     };
+    if kept.parts.most_threads() != image.version().most_processes() {
+        return false;
+    }
     has_memory(&kept.parts, machine, packed.memory)
         && threads_so(image, &kept.parts, machine, packed, scratch)
 }

@@ -1,7 +1,8 @@
-ghost use Rattle.std.specs.Prelude.{◌≡◌, All, IfOk, None, OnOk, Some, suc};
+ghost use Rattle.std.specs.Prelude.{◌≡◌, ◌<◌, All, IfOk, IfSome, None, OnOk, Some, length, suc};
 ghost use Rattle.std.specs.List.{slice_get};
 ghost use Rattle.image_states.specs.Nexts.{AreNexts, OwnDone, may_of};
 ghost use Rattle.image_states.specs.Packed.{IsGrown, IsWithin};
+ghost use Rattle.image_search.specs.Kept.{IsWhyAt};
 ghost use Rattle.image_states.specs.declared.packed.Packed.{Packed as PackedOf};
 
 use image_states::{Next, Outside, Packed, Parts, Scratch};
@@ -19,14 +20,16 @@ pub(crate) fn nexts_at(
     scratch: &mut Scratch,
     found: &mut Vec<Next>,
 ) -> Result<Option<image_states::Bound>, AllocError>
-    requires { All (IsWithin parts.old) states.now }
+    requires within { All (IsWithin parts.old) states.now }
+    requires place { place < length states.now }
     ensures grown { OnOk result (IsGrown parts.old parts.new) }
+    ensures why { IfOk result (λ o. IfSome o (IsWhyAt parts.new states.now place)) }
     ensures nexts { IfOk result (λ o. o ≡ None → (x : PackedOf)
         × (slice_get states.now place ≡ Some x)
         × AreNexts image.now (may_of outside) parts.new x found.new.items) }
 {
     let Some(packed) = states.get(place as usize) else {
-        return Ok(Some(image_states::Bound::Foreign));
+        unreachable!()
     };
     parts.nexts(alloc, image, packed, outside, scratch, found)
 }
@@ -44,6 +47,7 @@ pub(crate) fn own_nexts_at(
     found: &mut Vec<Next>,
 ) -> Result<Option<image_states::Bound>, AllocError>
     requires within { All (IsWithin parts.old) states.now }
+    requires place { place < length states.now }
     requires number { t ≡ suc k }
     ensures grown { OnOk result (IsGrown parts.old parts.new) }
     ensures done { IfOk result (λ o. o ≡ None → (x : PackedOf)
@@ -51,7 +55,7 @@ pub(crate) fn own_nexts_at(
         × OwnDone image.now parts.new x found.new.items t) }
 {
     let Some(packed) = states.get(place as usize) else {
-        return Ok(Some(image_states::Bound::Foreign));
+        unreachable!()
     };
     let why = parts.own_nexts(alloc, image, packed, k, t, scratch, found)?;
     Ok(why)

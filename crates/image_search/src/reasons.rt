@@ -1,11 +1,9 @@
-ghost use Rattle.std.specs.Prelude.{◌≡◌, IfOk, List, true, ℕ};
-ghost use Rattle.isa.specs.Programs.{Program};
-ghost use Rattle.proof_image_search.specs.Searching.{May as MayOf};
+ghost use Rattle.std.specs.Prelude.{◌≡◌, IfOk, true};
 ghost use Rattle.image_states.specs.Nexts.{may_of};
-ghost use Rattle.image_search.specs.Ends.{IsMetIn, LeadsToCrowd};
-ghost use Rattle.image_search.specs.Kept.{IsMetBy};
+ghost use Rattle.image_search.specs.Ends.{HasCrowd, IsMetIn, LeadsToCrowd};
+ghost use Rattle.image_search.specs.Kept.{IsWhyAt};
 
-use crate::crowds::{is_crowded_in, is_crowded_run};
+use crate::crowds::is_crowded_run;
 use crate::ending::Bound;
 use crate::kept::KeptStates;
 use crate::spelling::schedule_to;
@@ -35,19 +33,6 @@ fn is_crowd_shown(
     Ok(is)
 }
 
-// The bound where no schedule to the state at a place is followed to so many.
-fn unshown_crowd(kept: &KeptStates, place: u32) -> Bound
-    ensures { (p : Program) (may : MayOf) → IsMetIn p may kept.now result }
-{
-    let Some(packed) = kept.state(place) else {
-        return Bound::Nexts(image_states::Bound::Foreign);
-    };
-    if is_crowded_in(packed) {
-        return Bound::Choice;
-    }
-    Bound::Nexts(image_states::Bound::Foreign)
-}
-
 // The bound where more than twelve threads sleep on one address in the state at a place.
 fn crowd_bound(
     alloc: Global,
@@ -56,23 +41,13 @@ fn crowd_bound(
     place: u32,
     outside: Outside,
 ) -> Result<Bound, AllocError>
+    requires { HasCrowd kept.now }
     ensures { IfOk result (IsMetIn image.now (may_of outside) kept.now) }
 {
     if is_crowd_shown(alloc, image, kept, place, outside)? {
         return Ok(Bound::Nexts(image_states::Bound::Sleepers));
     }
-    Ok(unshown_crowd(kept, place))
-}
-
-/// The bound where a part has no number.
-pub(crate) fn numbers_bound(kept: &KeptStates) -> Bound
-    ensures by { IsMetBy kept.now result }
-    ensures within { (p : Program) (may : MayOf) → IsMetIn p may kept.now result }
-{
-    if kept.parts.is_out_of_numbers() {
-        return Bound::Nexts(image_states::Bound::Parts);
-    }
-    Bound::Nexts(image_states::Bound::Foreign)
+    Ok(Bound::Choice)
 }
 
 /// The bound where not all that may come next of the state at a place was found, for this reason.
@@ -84,11 +59,11 @@ pub(crate) fn bound_at(
     outside: Outside,
     why: image_states::Bound,
 ) -> Result<Bound, AllocError>
+    requires { IsWhyAt kept.now.parts kept.now.states.items place why }
     ensures { IfOk result (IsMetIn image.now (may_of outside) kept.now) }
 {
     match why {
         image_states::Bound::Sleepers => crowd_bound(alloc, image, kept, place, outside),
-        image_states::Bound::Parts => Ok(numbers_bound(kept)),
-        image_states::Bound::Foreign => Ok(Bound::Nexts(image_states::Bound::Foreign)),
+        image_states::Bound::Parts => Ok(Bound::Nexts(image_states::Bound::Parts)),
     }
 }

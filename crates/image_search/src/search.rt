@@ -1,4 +1,4 @@
-ghost use Rattle.std.specs.Prelude.{◌≡◌, ◌<◌, Bool, IfOk, IfSome, List, MatchOption, None, OnOk, ℕ};
+ghost use Rattle.std.specs.Prelude.{◌≡◌, ◌<◌, Bool, IfNone, IfOk, IfSome, List, MatchOption, None, OnOk, length, true, ℕ};
 ghost use Rattle.machine.specs.States.{opening_state};
 ghost use Rattle.proof_image_search.specs.Searching.{IsCovered, Kept as KeptOf};
 ghost use Rattle.image_states.specs.Nexts.{may_of};
@@ -36,6 +36,7 @@ fn look_at_ends(
     outside: Outside,
     passed: &mut u32,
 ) -> Result<Option<Ending>, AllocError>
+    requires { place < length kept.now.states.items }
     ensures ended { IfOk result (λ o. IfSome o
         (λ e. (alone : Bool) (most : ℕ) (states : List KeptOf)
         → HasEndedBy image.now alone (may_of outside) most states e)) }
@@ -43,7 +44,7 @@ fn look_at_ends(
         → IsToldAt image.now (states_of image.now kept.now) place passed.old passed.new) }
 {
     let Some(packed) = kept.state(place) else {
-        return Ok(Some(Ending::Bounded(Bound::Nexts(image_states::Bound::Foreign))));
+        unreachable!()
     };
     let ends = ends_of(image, &kept.parts, packed);
     if !ends.is_any() {
@@ -68,6 +69,7 @@ fn expand(
     scratch: &mut Scratch,
 ) -> Result<Option<Bound>, AllocError>
     requires sound { IsSound kept.old }
+    requires place { place < length kept.old.states.items }
     ensures sound { OnOk result (IsSound kept.new) }
     ensures more { OnOk result (IsMore kept.old kept.new) }
     ensures expanded { IfOk result (λ o. MatchOption o
@@ -105,6 +107,7 @@ fn look_at(
     passed: &mut u32,
 ) -> Result<Option<Ending>, AllocError>
     requires sound { IsSound kept.old }
+    requires place { place < length kept.old.states.items }
     ensures sound { OnOk result (IsSound kept.new) }
     ensures more { OnOk result (IsMore kept.old kept.new) }
     ensures looked { IfOk result (λ o. MatchOption o
@@ -148,6 +151,7 @@ pub(crate) fn search<P: Progress>(
         (states_of image.now kept.old) m (opening_state image.now) 0 }
     ensures sound { OnOk result (IsSound kept.new) }
     ensures most { OnOk result (kept.new.most ≡ kept.old.most) }
+    ensures alone { IfOk result (λ o. IfNone o (kept.old.parts.alone ≡ true)) }
     ensures ended { IfOk result (λ o. IfSome o
         (HasEndedBy image.now kept.new.parts.alone (may_of outside) kept.old.most
         (states_of image.now kept.new))) }

@@ -1,5 +1,5 @@
 -- The packed state in which an image begins.
-use Rattle.std.proofs.Common.{◌≡◌, ◌<◌, ◌∙◌, ℕ, zero, suc, List, [], ◌∷◌, Some, None}
+use Rattle.std.proofs.Common.{◌≡◌, ◌<◌, ◌≤◌, ◌∙◌, ℕ, zero, suc, List, [], ◌∷◌, Some, None}
 use Rattle.std.proofs.Common.{refl, sym, ap, subst, arith, length, All}
 use Rattle.std.specs.Prelude.{slice_index, slice_set, replicate}
 use Rattle.std.proofs.lemmas.List.{length-set, length-replicate}
@@ -7,7 +7,7 @@ use Rattle.std.proofs.lemmas.List.Elements.{All-push}
 use Rattle.std.proofs.lemmas.Option.{slice_get_within}
 use Rattle.words.specs.Updates.{put}
 use Rattle.words.proofs.Updates.{put_other}
-use Rattle.words.specs.Versions.{base_of}
+use Rattle.words.specs.Versions.{base_of, most_of}
 use Rattle.words.specs.declared.version.ImageVersion.{ImageVersion}
 use Rattle.words.specs.declared.version.ImageVersion.TheVariants.{One, Two, Linux}
 use Rattle.isa.specs.Programs.{Program, memory_size}
@@ -31,10 +31,15 @@ far One = omega arith
 far Two = omega arith
 far Linux = omega arith
 
+some_thread : (v : ImageVersion) → 0 < most_of v
+some_thread One = omega arith
+some_thread Two = omega arith
+some_thread Linux = omega arith
+
 three_within : (p : Program) → 3 < memory_size p
 three_within p = let l : 3 < base_of p.version = far p.version in omega (arith, l)
 
-module _ (p : Program) (parts : PartsOf) (x : PackedOf) (is : IsOpening p parts x) where
+module _ (p : Program) (parts : PartsOf) (x : PackedOf) (most_is : parts.most ≡ most_of p.version) (is : IsOpening p parts x) where
   abbrev pub nobody : State
   nobody = record (opening_state p) { thread = λ t. None }
 
@@ -71,6 +76,7 @@ module _ (p : Program) (parts : PartsOf) (x : PackedOf) (is : IsOpening p parts 
 
   is_unpacked : record (with_thread nobody 1 is.there) { output = [] } ≡ unpacked p parts x
   is_unpacked = λ i. record (unpacked p parts x) {
+    most = sym most_is i;
     word = λ k. word_is k i;
     size = size_is i;
     made = ap length (sym is.alone.parts) i;
@@ -90,4 +96,7 @@ module _ (p : Program) (parts : PartsOf) (x : PackedOf) (is : IsOpening p parts 
     locals = subst (All (λ n. n < length parts.locals.items)) (sym is.alone.parts)
         (All-push (λ n. n < length parts.locals.items) [] is.part (λ k d l. absurd (omega (arith, l)))
         (slice_get_within parts.locals.items is.part is.there is.is));
+    places = ap length is.alone.places ∙ ap length (sym is.alone.parts);
+    few = subst (λ ns. length ns ≤ parts.most) (sym is.alone.parts)
+        (let l : 0 < most_of p.version = some_thread p.version in omega (arith, l, most_is));
   }

@@ -1,5 +1,5 @@
 -- What a packed state covers in which a thread was taken on by local steps.
-use Rattle.std.proofs.Common.{◌≡◌, ◌≢◌, ◌<◌, ◌∙◌, ℕ, zero, suc, List, [], ◌∷◌, Option, Some, None, All, Contains, length, slice_get}
+use Rattle.std.proofs.Common.{◌≡◌, ◌≢◌, ◌<◌, ◌≤◌, ◌∙◌, ℕ, zero, suc, List, [], ◌∷◌, Option, Some, None, All, Contains, length, slice_get}
 use Rattle.std.proofs.Common.{inl, inr, refl, sym, ap, subst, arith, true, false, Bool, ◌==◌}
 use Rattle.std.proofs.lemmas.Bool.{eqb-true, eqb-false}
 use Rattle.std.specs.Prelude.{◌⊎◌, slice_index, slice_set, ℤ}
@@ -158,6 +158,8 @@ module _ (p : Program) (parts : PartsOf) (x b : PackedOf) (k memory : ℕ) (here
     locals = subst (All (λ n. n < length parts.locals.items)) parts_are
         (All-set (λ n. n < length parts.locals.items) x.parts.items k base.part
         (slice_get_within parts.locals.items base.part base.there base.is) is.locals);
+    places = placed.count ∙ ap length base.moved.places ∙ is.places ∙ made_is;
+    few = subst (λ n. n ≤ parts.most) made_is is.few;
   }
 
 -- one of the next states is such a one

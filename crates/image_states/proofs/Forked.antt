@@ -1,13 +1,12 @@
 -- A thread that makes another, and both are taken on by local steps.
-use Rattle.std.proofs.Common.{◌≡◌, ◌≢◌, ◌<◌, ◌+◌, ◌∙◌, ℕ, zero, suc, Bool, true, false, List, [], ◌∷◌, ◌++◌, Some}
+use Rattle.std.proofs.Common.{◌≡◌, ◌≢◌, ◌<◌, ◌≤◌, ◌+◌, ◌∙◌, ℕ, zero, suc, Bool, true, false, List, [], ◌∷◌, ◌++◌, None, Some}
 use Rattle.std.proofs.Common.{inl, inr, refl, sym, ap, subst, arith, length, All, slice_get}
-use Rattle.std.specs.Prelude.{◌⊎◌, slice_index, slice_set}
+use Rattle.std.specs.Prelude.{slice_index, slice_set}
 use Rattle.std.proofs.lemmas.List.{length-append, length-set}
 use Rattle.std.proofs.lemmas.List.Elements.{All-push, All-set}
 use Rattle.std.proofs.lemmas.Option.{slice_get_within, same_Some}
 use Rattle.words.specs.Process.{process_word}
 use Rattle.words.specs.Updates.{put}
-use Rattle.words.specs.Versions.{most_of}
 use Rattle.words.proofs.Updates.{at_put, at_put2, put_other, put_same}
 use Rattle.isa.specs.Programs.{Program}
 use Rattle.locals.specs.Threads.{Thread, opening_thread}
@@ -159,21 +158,24 @@ module _ (p : Program) (parts : PartsOf) (x state : PackedOf) (k memory : ℕ) (
       (run_covered p parts.alone kept y.killed after number count (opening_thread entry arguments) there runs.goes runs.lives
       (zero, leaf p parts kept y (with_thread after number there) is_unpacked has)))
 
-  pub fork_within : IsWithin parts x → memory < length parts.memories.items → IsWithin parts y
-  fork_within in_x l = record {
+  pub fork_within : IsWithin parts x → memory < length parts.memories.items → length x.parts.items < parts.most
+      → IsWithin parts y
+  fork_within in_x l few = record {
     memory = subst (λ m. m < length parts.memories.items) memory_is l;
     locals = subst (All (λ n. n < length parts.locals.items)) parts_are
         (All-push (λ n. n < length parts.locals.items) (slice_set x.parts.items k base.part) part
         (All-set (λ n. n < length parts.locals.items) x.parts.items k base.part
         (slice_get_within parts.locals.items base.part base.there base.is) in_x.locals)
         (slice_get_within parts.locals.items part there is));
+    places = more.count ∙ ap suc (ap length base.moved.places ∙ in_x.places) ∙ made_so;
+    few = subst (λ n. n ≤ parts.most) made_so (omega (arith, few));
   }
 
 -- the step of a fork that makes a thread
 pub fork_moves : (p : Program) (parts : PartsOf) (x state : PackedOf) (k t memory : ℕ) (here child : Thread)
     (nexts : List NextOf) → t ≡ suc k
     → AsksFork (look p t here) true → fork_child (look p t here) ≡ Some child
-    → length x.parts.items < most_of p.version
+    → length x.parts.items < parts.most
     → IsBase p parts x k memory (after_answer (look p t here) (suc (length x.parts.items)) here) state
     → HasChild p parts state nexts (suc (length x.parts.items)) child
     → words_in parts.memories.items memory
@@ -202,7 +204,7 @@ fork_moves p parts x state k t memory here child nexts number asks child_is few 
       found = has.has.found;
       within = fork_within p parts x state k memory (after_answer (look p t here) (suc (length x.parts.items)) here) base
           fork.entry fork.arguments has.has.next.state has.part has.count has.there has.has.more has.is runs words_are less
-          in_x l;
+          in_x l few;
       covers = subst (Covers p parts has.has.next.state
           (with_thread (with_child (unpacked p parts x) fork.entry fork.arguments) (suc k)
           (after_answer (look p t here) (suc (length x.parts.items)) here))) (has.has.more.killed ∙ base.moved.killed)
@@ -213,7 +215,7 @@ fork_moves p parts x state k t memory here child nexts number asks child_is few 
 
     each : AllServed p parts x nexts t here (AskFork fork.entry fork.arguments true)
     each woken answer mid (nobody, inl (full, zero_is, leads)) =
-        absurd (let e : length x.parts.items ≡ most_of p.version = full in omega (arith, e, few))
+        absurd (let e : length x.parts.items ≡ parts.most = full in omega (arith, e, few))
     each woken answer mid (nobody, inr (room, has_room, number_is, leads)) =
         answered_so p parts x nexts t here (suc (length x.parts.items)) answer
         (with_child (unpacked p parts x) fork.entry fork.arguments) mid (sym leads) number_is
@@ -223,7 +225,7 @@ fork_moves p parts x state k t memory here child nexts number asks child_is few 
 
 -- one that makes none: the table is full
 pub full_moves : (p : Program) (parts : PartsOf) (x : PackedOf) (t : ℕ) (here : Thread) (room : Bool)
-    (nexts : List NextOf) → AsksFork (look p t here) room → length x.parts.items ≡ most_of p.version
+    (nexts : List NextOf) → AsksFork (look p t here) room → length x.parts.items ≡ parts.most
     → ReachesAt p parts x nexts t (words_in parts.memories.items x.memory) (asleep_at x.places.items)
     (after_answer (look p t here) 0 here)
     → MovesTo p parts x nexts t here
@@ -237,14 +239,13 @@ full_moves p parts x t here room nexts asks full reaches =
     each woken answer mid (nobody, inl (is, zero_is, leads)) =
         answered_so p parts x nexts t here 0 answer (unpacked p parts x) mid (sym leads) zero_is (reaches [])
     each woken answer mid (nobody, inr (few, has_room, number_is, leads)) =
-        absurd (let l : length x.parts.items < most_of p.version = few in omega (arith, l, full))
+        absurd (let l : length x.parts.items < parts.most = few in omega (arith, l, full))
 
--- or there is no room, or more threads than there can be
+-- or there is no room
 pub no_fork_moves : (p : Program) (parts : PartsOf) (x : PackedOf) (t : ℕ) (here : Thread) (room : Bool)
-    (nexts : List NextOf) → AsksFork (look p t here) room → length x.parts.items ≢ most_of p.version
-    → (most_of p.version < length x.parts.items) ⊎ (room ≡ false)
+    (nexts : List NextOf) → AsksFork (look p t here) room → length x.parts.items ≢ parts.most → room ≡ false
     → MovesTo p parts x nexts t here
-no_fork_moves p parts x t here room nexts asks not why =
+no_fork_moves p parts x t here room nexts asks not none =
     moves_asked p parts x nexts t here (AskFork fork.entry fork.arguments room) fork.go fork.asks each
   where
     fork : IsFork (look p t here) room
@@ -252,8 +253,11 @@ no_fork_moves p parts x t here room nexts asks not why =
 
     each : AllServed p parts x nexts t here (AskFork fork.entry fork.arguments room)
     each woken answer mid (nobody, inl (is, zero_is, leads)) = absurd (not is)
-    each woken answer mid (nobody, inr (few, has_room, number_is, leads)) = absurd (by why)
-      where
-        by : (most_of p.version < length x.parts.items) ⊎ (room ≡ false) → ⊥
-        by (inl more) = let l : length x.parts.items < most_of p.version = few in omega (arith, l, more)
-        by (inr none) = let differ : true ≡ false = sym has_room ∙ none in cc
+    each woken answer mid (nobody, inr (few, has_room, number_is, leads)) =
+        absurd (let differ : true ≡ false = sym has_room ∙ none in cc)
+
+-- who asks for a fork with room says which thread it makes
+pub child_there : (l : Look) → AsksFork l true → fork_child l ≡ None → ⊥
+child_there l asks none =
+    let fork = is_fork l true asks in
+    let differ : None ≡ Some (opening_thread fork.entry fork.arguments) = sym none ∙ ap fork_child fork.asks in cc

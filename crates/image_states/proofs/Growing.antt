@@ -52,11 +52,12 @@ pub prefix_contains : {A : Type 0} (xs ys : List A) (x : A) → IsPrefix xs ys �
 prefix_contains xs ys x p c = subst (λ l. Contains l x) (sym p.1) (Contains-append_left xs p.0 x c)
 
 pub grown_none : (a : PartsOf) → IsGrown a a
-grown_none a = record { alone = refl; locals = prefix_none a.locals.items; memories = prefix_none a.memories.items }
+grown_none a = record { alone = refl; most = refl; locals = prefix_none a.locals.items; memories = prefix_none a.memories.items }
 
 pub grown_twice : (a b c : PartsOf) → IsGrown a b → IsGrown b c → IsGrown a c
 grown_twice a b c f g = record {
   alone = g.alone ∙ f.alone;
+  most = g.most ∙ f.most;
   locals = prefix_twice a.locals.items b.locals.items c.locals.items f.locals g.locals;
   memories = prefix_twice a.memories.items b.memories.items c.memories.items f.memories g.memories;
 }
@@ -80,6 +81,8 @@ module _ (a b : PartsOf) (g : IsGrown a b) where
     memory = prefix_within a.memories.items b.memories.items x.memory g.memories is.memory;
     locals = All-weaker (λ n. n < length a.locals.items) (λ n. n < length b.locals.items)
         (λ n. prefix_within a.locals.items b.locals.items n g.locals) x.parts.items is.locals;
+    places = is.places;
+    few = subst (λ n. length x.parts.items ≤ n) (sym g.most) is.few;
   }
 
   pub words_still : (m : ℕ) → m < length a.memories.items → words_in b.memories.items m ≡ words_in a.memories.items m
@@ -87,6 +90,7 @@ module _ (a b : PartsOf) (g : IsGrown a b) where
 
   pub unpacked_still : (p : Program) (x : PackedOf) → IsWithin a x → unpacked p b x ≡ unpacked p a x
   unpacked_still p x is = λ i. record (unpacked p a x) {
+    most = g.most i;
     word = λ k. slice_index (words_still x.memory is.memory i) k;
     size = length (words_still x.memory is.memory i);
     thread = λ q. threads_still a.locals.items b.locals.items g.locals x.parts.items is.locals q i;
@@ -118,6 +122,8 @@ pub within_same : (parts : PartsOf) (x y : PackedOf) → IsSameKey x y → IsWit
 within_same parts x y e is = record {
   memory = subst (λ m. m < length parts.memories.items) e.memory is.memory;
   locals = subst (All (λ n. n < length parts.locals.items)) e.parts is.locals;
+  places = ap length (sym e.places) ∙ is.places ∙ ap length e.parts;
+  few = subst (λ ns. length ns ≤ parts.most) e.parts is.few;
 }
 
 -- more parts, and more next states

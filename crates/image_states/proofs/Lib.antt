@@ -17,3 +17,5 @@ pub mod Sleeping
 pub mod Listing
 pub mod Marking
 pub mod Requeued
+pub mod Crowds
+pub mod Within

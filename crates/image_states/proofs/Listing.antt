@@ -1,14 +1,15 @@
 -- Lists of sleepers, as loops over them go on.
 use Rattle.std.proofs.Common.{◌≡◌, ◌<◌, ◌+◌, ◌++◌, ◌∙◌, ℕ, zero, suc, List, [], ◌∷◌, Option, Some, None, Bool, true, false, Contains}
 use Rattle.std.proofs.Common.{inl, inr, ap, arith, get_or, length, refl, subst, sym, take}
-use Rattle.std.specs.Prelude.{is_some, Vec}
+use Rattle.std.specs.Prelude.{All, is_some, Vec}
 use Rattle.std.specs.Global.{Global}
 use Rattle.std.proofs.lemmas.List.{map_more}
 use Rattle.std.proofs.lemmas.List.Elements.{Contains-append_cases}
 use Rattle.image_states.specs.declared.next.Next.{Next as NextOf}
 use Rattle.image_states.specs.declared.packed.Packed.{Packed as PackedOf}
-use Rattle.image_states.specs.Choosing.{lists_in, HasPlaced}
+use Rattle.image_states.specs.Choosing.{lists_in, AddsPlaced, HasPlaced, IsPlacedSome}
 use Rattle.image_states.specs.Packed.{IsPrefix}
+use Rattle.image_states.specs.Room.{AreThreads}
 use Rattle.image_states.proofs.Growing.{prefix_contains}
 
 pub is_none : {X : Type 0} (o : Option X) (b : Bool) → b ≡ is_some o → b ≡ false → o ≡ None
@@ -53,3 +54,31 @@ placed_still x xs ys asleep longer has = record {
   placed = has.placed;
   killed = has.killed;
 }
+
+-- each of these but for those that were there, where one more is so
+pub adds_one : (x : PackedOf) (place : ℕ) (xs ys : List NextOf) (one : NextOf) → ys ≡ xs ++ one ∷ []
+    → IsPlacedSome x place one.state → AddsPlaced x place xs ys
+adds_one x place xs ys one last is next has =
+    elim (Contains-append_cases xs (one ∷ []) next (subst (λ l. Contains l next) last has)) [
+      | inl was ↦ inl was
+      | inr new ↦ inr (subst (λ (n : NextOf). IsPlacedSome x place n.state) (only one next new) is)
+    ]
+
+pub adds_none : (x : PackedOf) (place : ℕ) (xs : List NextOf) → AddsPlaced x place xs xs
+adds_none x place xs next has = inl has
+
+pub adds_twice : (x : PackedOf) (place : ℕ) (xs ys zs : List NextOf) → AddsPlaced x place xs ys → AddsPlaced x place ys zs
+    → AddsPlaced x place xs zs
+adds_twice x place xs ys zs f g next has = elim (g next has) [
+  | inl was ↦ f next was
+  | inr is ↦ inr is
+]
+
+-- a list of threads, of those that are
+pub threads_at : (many : ℕ) (lists : List (Vec ℕ Global)) (i : ℕ) (list : Vec ℕ Global) → i < length lists
+    → list ≡ get_or lists i list → All (AreThreads many) (lists_in lists) → AreThreads many list.items
+threads_at many [] i list less is all = absurd (omega (arith, less))
+threads_at many (l ∷ ls) zero list less is all =
+    subst (λ (v : Vec ℕ Global). AreThreads many v.items) (sym is) (all 0 [] (omega arith))
+threads_at many (l ∷ ls) (suc i) list less is all =
+    threads_at many ls i list (omega (arith, less)) is (λ j d f. all (suc j) d (omega (arith, f)))

@@ -10,12 +10,11 @@ use Rattle.image_states.proofs.Growing.{prefix_within, words_still}
 use Rattle.image_states.specs.Marks.{marked}
 use Rattle.image_states.proofs.Served.{set_put}
 
-pub some_three : {X E : Type 0} (r : Result (Option X) E) (A : Type 0) (P Q R : X → Type 0) → OnOk r A
-    → IfOk r (λ o. IfSome o P) → IfOk r (λ o. IfSome o Q) → (A → (x : X) → P x → Q x → R x)
-    → IfOk r (λ o. IfSome o R)
-some_three (Ok None) A P Q R a p q f = tt
-some_three (Ok (Some x)) A P Q R a p q f = f a x p q
-some_three (Err e) A P Q R a p q f = tt
+pub some_two : {X E : Type 0} (r : Result (Option X) E) (A : Type 0) (P R : X → Type 0) → OnOk r A
+    → IfOk r (λ o. IfSome o P) → (A → (x : X) → P x → R x) → IfOk r (λ o. IfSome o R)
+some_two (Ok None) A P R a p f = tt
+some_two (Ok (Some x)) A P R a p f = f a x p
+some_two (Err e) A P R a p f = tt
 
 pub marked_so : (a b : PartsOf) (m n : ℕ) (ad : Addr) (v : ℕ) → IsGrown a b → m < length a.memories.items
     → slice_get b.memories.items n ≡ Some (slice_set (words_in a.memories.items m) ad.0 v)

@@ -1,5 +1,5 @@
 -- What the steps of an exit do, whoever sleeps.
-use Rattle.std.proofs.Common.{◌≡◌, ◌≢◌, ◌≤◌, ◌+◌, ◌∙◌, ℕ, Bool, true, false, List, [], ◌∷◌, Option, Some, None}
+use Rattle.std.proofs.Common.{◌≡◌, ◌≢◌, ◌<◌, ◌≤◌, ◌+◌, ◌∙◌, ℕ, Bool, true, false, List, [], ◌∷◌, Option, Some, None}
 use Rattle.std.proofs.Common.{inl, inr, refl, sym, ap, subst, arith, length}
 use Rattle.std.specs.Prelude.{◌⊎◌, if◌then◌else◌}
 use Rattle.words.specs.Updates.{put}
@@ -16,7 +16,7 @@ use Rattle.robustexit.specs.Phases.{next_entry}
 use Rattle.robustexit.specs.RobustExit.{Shared, Abandons, EntryStep, IsEntry, IsIdle, PendingStep}
 use Rattle.robustexit.specs.RobustExit as exit
 use Rattle.image_states.specs.declared.exits.ExitPlan.{ExitPlan}
-use Rattle.image_states.specs.Exits.{IsPlanned, IsPlanOf, WakesAt}
+use Rattle.image_states.specs.Exits.{IsAddressIn, IsPlanIn, IsPlanned, IsPlanOf, WakesAt}
 
 abbrev pub idle_plan : ExitPhase → ExitPlan
 idle_plan next = record { marks = None; wakes = None; next = next }
@@ -35,6 +35,23 @@ idles before after woken next reached idle is = record {
   words = ap (λ (s : Shared). s.word) idle.same;
   wakes = (idle.nobody, ap (λ (s : Shared). s.asleep) idle.same);
 }
+
+-- what lies in the memory of the words of a step that does nothing, and of one that abandons a lock
+pub idle_in : (size : ℕ) (plan : ExitPlan) (next : ExitPhase) → plan ≡ idle_plan next → IsPlanIn size plan
+idle_in size plan next e = subst (IsPlanIn size) (sym e) (record { marks = tt; wakes = tt })
+
+wakes_in : (b : Bool) (size : ℕ) (lock : Addr) → lock.0 < size → IsAddressIn size (if b then Some lock else None)
+wakes_in true size lock less = less
+wakes_in false size lock less = tt
+
+pub abandon_in : (size : ℕ) (plan : ExitPlan) (lock : Addr) (word : ℕ) (next : ExitPhase) → lock.0 < size
+    → plan ≡ abandon_plan lock word next → IsPlanIn size plan
+abandon_in size plan lock word next less e =
+    subst (IsPlanIn size) (sym e) (record { marks = less; wakes = wakes_in (waiters_of word) size lock less })
+
+-- an entry's lock lies in the memory
+pub lock_in : (size entry : ℕ) (lock : Addr) → lock.0 ≡ entry + 1 → IsEntry size entry → lock.0 < size
+lock_in size entry lock e is = let less : entry + 1 < size = is.1 in omega (arith, e, less)
 
 none_woken : (xs : List ℕ) → length xs ≤ 0 → xs ≡ []
 none_woken [] few = refl

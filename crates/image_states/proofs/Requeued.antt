@@ -1,9 +1,9 @@
 -- A requeue, by the sets of sleepers that it wakes and moves.
-use Rattle.std.proofs.Common.{◌≡◌, ◌≢◌, ◌<◌, ◌+◌, ◌∙◌, ℕ, suc, true, false, List, [], ◌∷◌, Option, Some, None}
+use Rattle.std.proofs.Common.{◌≡◌, ◌≢◌, ◌<◌, ◌≤◌, ◌+◌, ◌∙◌, ℕ, zero, suc, true, false, List, [], ◌∷◌, Option, Some, None}
 use Rattle.std.proofs.Common.{inl, inr, refl, sym, ap, subst, arith, length, Contains, take, get_or, ◌++◌}
 use Rattle.std.specs.Prelude.{◌⊎◌, slice_index}
 use Rattle.std.specs.List.{IsDistinct}
-use Rattle.std.proofs.lemmas.Bool.{cases_eq}
+use Rattle.std.proofs.lemmas.Bool.{cases_eq, cases_lt}
 use Rattle.std.proofs.lemmas.List.{take_more}
 use Rattle.image_states.proofs.Listing.{all_and_one, none_in}
 use Rattle.buckets.specs.Places.{with_place}
@@ -22,7 +22,7 @@ use Rattle.machine.specs.States.{with_sleepers, with_thread}
 use Rattle.image_states.specs.declared.next.Next.{Next as NextOf}
 use Rattle.image_states.specs.declared.packed.Packed.{Packed as PackedOf}
 use Rattle.image_states.specs.declared.parts.Parts.{Parts as PartsOf}
-use Rattle.image_states.specs.Choosing.{chosen_of, AreChosen, AreSleepers, HasPlaced}
+use Rattle.image_states.specs.Choosing.{chosen_of, AreChosen, AreSleepers, HasPlaced, IsPlacedSome}
 use Rattle.image_states.specs.Nexts.{shaped, IsMore, MovesTo, Reaches, ReachesAt}
 use Rattle.image_states.specs.Packed.{asleep_at, thread_at, unpacked, words_in, IsGrown, IsPlaced, IsWithin}
 use Rattle.image_states.specs.Requeues.{AsksThere, MidDone, RequeuesDone}
@@ -30,6 +30,7 @@ use Rattle.image_states.proofs.Choosing.{are_chosen}
 use Rattle.image_states.proofs.Growing.{reaches_still, stands_still, unpacked_still, words_still}
 use Rattle.image_states.proofs.Served.{moves_told, AllServed}
 use Rattle.image_states.proofs.Stepped.{answered_so}
+use Rattle.image_states.proofs.Turned.{placed_within}
 
 -- nobody is a choice of none
 pub none_chosen : (asleep : ℕ → Option ℕ) (a : ℕ) → IsChoice asleep a 0 []
@@ -171,3 +172,24 @@ pub one_more_of : (P : NextOf → Type 0) (mids : List NextOf) (i : ℕ) (one : 
     → (mid : NextOf) → Contains (take (i + 1) mids) mid → P mid
 one_more_of P mids i one less is = all_and_one P (take i mids) (take (i + 1) mids) one
     (take_more mids i one less ∙ ap (λ n. take i mids ++ n ∷ []) (sym is))
+
+-- of two addresses of which it isn't so that not both lie in a memory
+pub both_lie : (a b size : ℕ) → (((a < size) × (b < size) → ⊥) → ⊥) → (a < size) × (b < size)
+both_lie a b size not' = by (cases_lt a size) (cases_lt b size)
+  where
+    by : (a < size) ⊎ (size ≤ a) → (b < size) ⊎ (size ≤ b) → (a < size) × (b < size)
+    by (inl less) (inl less') = (less, less')
+    by (inr more) other = absurd (not' (λ (l, l'). omega (arith, more, l)))
+    by (inl less) (inr more) = absurd (not' (λ (l, l'). omega (arith, more, l')))
+
+-- a state in which some were woken is within the parts
+pub some_within : (parts : PartsOf) (x mid : PackedOf) → IsPlacedSome x 0 mid → IsWithin parts x → IsWithin parts mid
+some_within parts x mid placed = placed_within parts x mid _ placed.1
+
+pub item_of : (mids : List NextOf) (i : ℕ) (one : NextOf) → i < length mids → one ≡ get_or mids i one → Contains mids one
+item_of [] i one less is = absurd (omega (arith, less))
+item_of (m ∷ ms) zero one less is = (zero, omega arith, sym is)
+item_of (m ∷ ms) (suc i) one less is =
+    let rest : Contains ms one = item_of ms i one (omega (arith, less)) is in
+    let l : rest.0 < length ms = rest.1 in
+    (suc rest.0, omega (arith, l), rest.2)

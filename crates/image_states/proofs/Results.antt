@@ -1,6 +1,6 @@
 -- What a result says, from what another does.
-use Rattle.std.proofs.Common.{Result, Ok, Err}
-use Rattle.std.specs.Prelude.{IfOk, OnOk}
+use Rattle.std.proofs.Common.{Bool, true, false, Result, Ok, Err}
+use Rattle.std.specs.Prelude.{IfOk, MatchBool, OnOk}
 
 pub on_ok : {X E : Type 0} (r : Result X E) (A B : Type 0) → OnOk r A → (A → B) → OnOk r B
 on_ok (Ok x) A B a f = f a
@@ -23,3 +23,8 @@ if_both (Err e) A P Q a p f = tt
 pub on_both : {X E : Type 0} (r : Result X E) (A B C : Type 0) → OnOk r A → OnOk r B → (A → B → C) → OnOk r C
 on_both (Ok x) A B C a b f = f a b
 on_both (Err e) A B C a b f = tt
+
+-- what a test says, from what another does
+pub match_both : (b : Bool) (A B A' B' : Type 0) → MatchBool b A B → (A → A') → (B → B') → MatchBool b A' B'
+match_both true A B A' B' m f g = f m
+match_both false A B A' B' m f g = g m

@@ -1,19 +1,23 @@
 -- Who sleeps where, by numbers, as loops over them go on.
 use Rattle.std.proofs.Common.{◌≡◌, ◌≢◌, ◌<◌, ◌≤◌, ◌+◌, ◌-◌, ◌∙◌, ◌||◌, ℕ, zero, suc, Bool, true, false, List, [], ◌∷◌, ◌++◌, Option, None}
-use Rattle.std.proofs.Common.{inl, inr, refl, sym, ap, arith, length, take, get_or, eqb}
+use Rattle.std.proofs.Common.{inl, inr, refl, sym, ap, arith, length, subst, take, get_or, eqb}
 use Rattle.std.specs.Prelude.{◌⊎◌, nat_eq, slice_index, slice_set}
 use Rattle.std.specs.List.{IsDistinct}
 use Rattle.std.proofs.Math.Path.{fun_ext}
 use Rattle.std.proofs.lemmas.Bool.{cases_lt, eq-eqb, eqb-true, or_cases, or_left, or_right}
-use Rattle.std.proofs.lemmas.List.{get_or_past, get_or-set_other, get_or-set_same, take_more}
+use Rattle.std.proofs.lemmas.List.{get_or_past, get_or-set_other, get_or-set_same, length-append, take_more}
+use Rattle.std.proofs.lemmas.List.Elements.{All-push, All-weaker}
 use Rattle.std.proofs.lemmas.List.Folds.{list_any-append}
 use Rattle.std.proofs.lemmas.Map.Keys.{IsDistinct-push}
 use Rattle.words.proofs.Updates.{at_put}
 use Rattle.buckets.specs.Places.{names, with_place}
 use Rattle.buckets.proofs.Takes.{with_place-append}
 use Rattle.image_states.specs.Choosing.{AreSleepers}
+use Rattle.image_states.specs.Crowds.{counted, sleepers_on}
+use Rattle.image_states.specs.Room.{AreThreads}
 use Rattle.image_states.specs.Packed.{asleep_at, place_of}
 use Rattle.image_states.proofs.Choosing.{number_laws}
+use Rattle.image_states.proofs.Crowds.{counted_here, counted_other, sleepers_next}
 use Rattle.image_states.proofs.Turned.{alone_put}
 
 -- of the first k threads these sleep at a place
@@ -22,6 +26,8 @@ pub record SleepersTo (places : List ℕ) (place k : ℕ) (sleepers : List ℕ) 
   pub within : (t : ℕ) → names sleepers t ≡ true → t ≤ k
   pub sleep : (t : ℕ) → names sleepers t ≡ true → asleep_at places t ≡ place_of place
   pub all : (t : ℕ) → t ≤ k → asleep_at places t ≡ place_of place → names sleepers t ≡ true
+  pub threads : AreThreads k sleepers
+  pub count : length sleepers ≡ sleepers_on (asleep_at places) (place - 1) k
 
 nowhere : (place : ℕ) → 0 < place → None ≡ place_of place → ⊥
 nowhere zero less e = omega (arith, less)
@@ -39,6 +45,8 @@ sleepers_none places place some = record {
   within = λ t h. absurd (let no' : false ≡ true = h in cc);
   sleep = λ t h. absurd (let no' : false ≡ true = h in cc);
   all = λ t less e. first t less e;
+  threads = λ i d less. absurd (omega (arith, less));
+  count = refl;
 }
   where
     first : (t : ℕ) → t ≤ 0 → asleep_at places t ≡ place_of place → names [] t ≡ true
@@ -60,8 +68,9 @@ module _ (places : List ℕ) (place k : ℕ) (sleepers : List ℕ) (so_far : Sle
       by true e = absurd (let less : k + 1 ≤ k = so_far.within (k + 1) e in omega (arith, less))
       by false e = refl
 
-  pub sleepers_more : slice_index places k ≡ place → SleepersTo places place (k + 1) (sleepers ++ (k + 1) ∷ [])
-  sleepers_more at = record {
+  pub sleepers_more : 0 < place → slice_index places k ≡ place
+      → SleepersTo places place (k + 1) (sleepers ++ (k + 1) ∷ [])
+  sleepers_more some at = record {
     distinct = IsDistinct-push number_laws sleepers (k + 1) so_far.distinct fresh;
     within = λ t h. elim (or_cases (names sleepers t) (eqb t (k + 1)) (sym (named t) ∙ h)) [
       | inl q ↦ let less : t ≤ k = so_far.within t q in omega (arith, less)
@@ -72,6 +81,13 @@ module _ (places : List ℕ) (place k : ℕ) (sleepers : List ℕ) (so_far : Sle
       | inr q ↦ here t (eqb-true t (k + 1) q)
     ];
     all = λ t less e. named t ∙ last t less e (cases_lt k t);
+    threads = All-push (λ t. (0 < t) × (t ≤ k + 1)) sleepers (k + 1)
+        (All-weaker (λ t. (0 < t) × (t ≤ k)) (λ t. (0 < t) × (t ≤ k + 1)) (λ t l. (l.0, omega (arith, l.1))) sleepers
+        so_far.threads) (omega arith, omega arith);
+    count = length-append sleepers ((k + 1) ∷ []) ∙ ap (λ n. n + 1) so_far.count
+        ∙ ap (λ n. sleepers_on (asleep_at places) (place - 1) k + n)
+        (sym (counted_here (slice_index places k) place some at))
+        ∙ sym (sleepers_next (asleep_at places) (place - 1) k);
   }
     where
       next : k + 1 ≡ suc k
@@ -91,6 +107,16 @@ module _ (places : List ℕ) (place k : ℕ) (sleepers : List ℕ) (so_far : Sle
     within = λ t h. let less : t ≤ k = so_far.within t h in omega (arith, less);
     sleep = so_far.sleep;
     all = λ t less e. last t less e (cases_lt k t);
+    threads = All-weaker (λ t. (0 < t) × (t ≤ k)) (λ t. (0 < t) × (t ≤ k + 1)) (λ t l. (l.0, omega (arith, l.1))) sleepers
+        so_far.threads;
+    count =
+        let none : counted (asleep_at places (suc k)) (place - 1) ≡ 0 =
+        counted_other (slice_index places k) place some other in
+        let next : sleepers_on (asleep_at places) (place - 1) (k + 1)
+        ≡ sleepers_on (asleep_at places) (place - 1) k + counted (asleep_at places (suc k)) (place - 1) =
+        sleepers_next (asleep_at places) (place - 1) k in
+        let before : length sleepers ≡ sleepers_on (asleep_at places) (place - 1) k = so_far.count in
+        omega (arith, none, next, before);
   }
     where
       last : (t : ℕ) → t ≤ k + 1 → asleep_at places t ≡ place_of place → (k < t) ⊎ (t ≤ k) → names sleepers t ≡ true
@@ -99,13 +125,18 @@ module _ (places : List ℕ) (place k : ℕ) (sleepers : List ℕ) (so_far : Sle
           absurd (other (place_one (slice_index places k) place some (ap (asleep_at places) (sym same) ∙ e)))
       last t less e (inr few) = so_far.all t few e
 
-  pub sleepers_all : 0 < place → length places ≤ k → AreSleepers places place sleepers
-  sleepers_all some past = record {
+  pub sleepers_all : 0 < place → k ≡ length places → AreSleepers places place sleepers
+  sleepers_all some is = record {
     distinct = so_far.distinct;
     sleep = so_far.sleep;
     all = λ t e. every t e (cases_lt k t);
+    threads = subst (λ n. AreThreads n sleepers) is so_far.threads;
+    count = so_far.count ∙ ap (sleepers_on (asleep_at places) (place - 1)) is;
   }
     where
+      past : length places ≤ k
+      past = omega (arith, is)
+
       every : (t : ℕ) → asleep_at places t ≡ place_of place → (k < t) ⊎ (t ≤ k) → names sleepers t ≡ true
       every t e (inr few) = so_far.all t few e
       every zero e (inl more) = absurd (omega (arith, more))
@@ -158,3 +189,6 @@ asleep_more xs = fun_ext at
     at : (u : ℕ) → asleep_at (xs ++ 0 ∷ []) u ≡ asleep_at xs u
     at zero = refl
     at (suc j) = ap place_of (zero_more xs j)
+
+pub length_more : (xs : List ℕ) (x : ℕ) → length (xs ++ x ∷ []) ≡ suc (length xs)
+length_more xs x = let e : length (xs ++ x ∷ []) ≡ length xs + 1 = length-append xs (x ∷ []) in omega (arith, e)

@@ -57,7 +57,7 @@ base_pushed p a parts x state k t memory here ys number grown is less base found
     base_placed p a parts x state k t memory here ys (asleep_at x.places.items) number grown is less base (record {
       next = record { state = state; thread = t; doing = doing.Own };
       found = found;
-      placed = record { memory = refl; parts = refl; places = ap asleep_at base.moved.places };
+      placed = record { memory = refl; parts = refl; places = ap asleep_at base.moved.places; count = refl };
       killed = refl;
     })
 

@@ -73,7 +73,7 @@ stored_there memories n a v m is =
     is.1 (words_in memories n) (e ∙ ap (λ w. Some w) (sym (ap some_words e)))
 
 -- a memory that has words is there
-has_number : (memories : List (List ℕ)) (n a : ℕ) → a < length (words_in memories n) → n < length memories
+pub has_number : (memories : List (List ℕ)) (n a : ℕ) → a < length (words_in memories n) → n < length memories
 has_number memories n a less = by_test (cases_lt n (length memories))
   where
     by_test : (n < length memories) ⊎ (length memories ≤ n) → n < length memories

@@ -1,11 +1,14 @@
 -- A list for each set of numbers.
-use Rattle.std.proofs.Common.{◌≡◌, ◌+◌, ◌<◌, ◌==◌, ℕ, zero, suc, Bool, true, false, cond, List, [], ◌∷◌, ◌++◌, length}
+use Rattle.std.proofs.Common.{◌≡◌, ◌+◌, ◌<◌, ◌≤◌, ◌==◌, ℕ, zero, suc, Bool, true, false, cond, List, [], ◌∷◌, ◌++◌, length}
 use Rattle.std.proofs.Common.{get_or, map, take, filter, Contains, refl, sym, ap, ◌∙◌, subst, arith}
 use Rattle.std.proofs.lemmas.Bool.Decides.{nat_tests}
 use Rattle.std.proofs.lemmas.List.{append-nil}
 use Rattle.std.proofs.lemmas.List.Elements.{All-contains, Contains-append_left, Contains-append_right, filter_more}
 use Rattle.std.proofs.lemmas.List.Elements.{filter_passes}
+use Rattle.std.specs.Prelude.{All}
+use Rattle.std.proofs.lemmas.List.Elements.{All-append, All-push}
 use Rattle.image_states.specs.Choosing.{HasEachSet}
+use Rattle.image_states.specs.Room.{AreThreads}
 
 -- what a function makes of an element is among what it makes of all
 pub contains_map : {X Y : Type 0} (f : X → Y) (xs : List X) (x : X) → Contains xs x → Contains (map f xs) (f x)
@@ -32,6 +35,30 @@ one_more numbers i n lists more less is e each is_in =
         (contains_map (λ list. list ++ n ∷ []) lists (filter is_in (take i numbers)) (each is_in)))
     by_test false = Contains-append_left lists more (filter is_in (take i numbers) ++ [])
         (subst (Contains lists) (sym (append-nil (filter is_in (take i numbers)))) (each is_in))
+
+-- the one set of no numbers
+pub first_set : (numbers : List ℕ) → HasEachSet (take 0 numbers) ([] ∷ [])
+first_set [] is_in = (0, omega arith, refl)
+first_set (n ∷ ns) is_in = (0, omega arith, refl)
+
+-- each list is of threads
+pub threads_first : (many : ℕ) → All (AreThreads many) ([] ∷ [])
+threads_first many = All-push (AreThreads many) [] [] (λ i d less. absurd (omega (arith, less)))
+    (λ i d less. absurd (omega (arith, less)))
+
+threads_longer : (many n : ℕ) (lists : List (List ℕ)) → (0 < n) × (n ≤ many) → All (AreThreads many) lists
+    → All (AreThreads many) (map (λ list. list ++ n ∷ []) lists)
+threads_longer many n [] is all i d less = absurd (omega (arith, less))
+threads_longer many n (list ∷ lists) is all zero d less =
+    All-push (λ t. (0 < t) × (t ≤ many)) list n (all 0 d (omega arith)) is
+threads_longer many n (list ∷ lists) is all (suc i) d less =
+    threads_longer many n lists is (λ j e l. all (suc j) e (omega (arith, l))) i d (omega (arith, less))
+
+pub threads_more : (many : ℕ) (lists more : List (List ℕ)) (n : ℕ) → more ≡ map (λ list. list ++ n ∷ []) lists
+    → All (AreThreads many) lists → (0 < n) × (n ≤ many) → All (AreThreads many) (lists ++ more)
+threads_more many lists more n e all is =
+    All-append (AreThreads many) lists more all
+    (subst (All (AreThreads many)) (sym e) (threads_longer many n lists is all))
 
 -- whether a number is one of these
 abbrev pub is_one_of : List ℕ → ℕ → Bool

@@ -174,6 +174,8 @@ pub placed_within : (parts : PartsOf) (x y : PackedOf) (asleep : ℕ → Option 
 placed_within parts x y asleep placed is = record {
   memory = subst (λ m. m < length parts.memories.items) (sym placed.memory) is.memory;
   locals = subst (All (λ n. n < length parts.locals.items)) (sym placed.parts) is.locals;
+  places = placed.count ∙ is.places ∙ ap length (sym placed.parts);
+  few = subst (λ ns. length ns ≤ parts.most) (sym placed.parts) is.few;
 }
 
 -- a wake that nobody called for

@@ -1,11 +1,13 @@
 -- Sets of sleepers, as lists.
-use Rattle.std.specs.Prelude.{ℕ, ◌≡◌, List, Bool, Contains, Vec, filter, map, length, nat_eq, nat_le, IsTrue, Option, if◌then◌else◌}
+use Rattle.std.specs.Prelude.{ℕ, ◌≡◌, ◌⊎◌, ◌-◌, List, Bool, Contains, Vec, filter, map, length, nat_eq, nat_le, IsTrue, Option, if◌then◌else◌}
 use Rattle.std.specs.List.{IsDistinct}
 use Rattle.std.specs.Global.{Global}
-use Rattle.buckets.specs.Places.{names}
+use Rattle.buckets.specs.Places.{names, with_place}
 use Rattle.image_states.specs.declared.next.Next.{Next as NextOf}
 use Rattle.image_states.specs.declared.packed.Packed.{Packed as PackedOf}
+use Rattle.image_states.specs.Crowds.{sleepers_on}
 use Rattle.image_states.specs.Packed.{asleep_at, place_of, IsPlaced}
+use Rattle.image_states.specs.Room.{AreThreads}
 
 -- for each set, the numbers in it are one of the lists
 abbrev pub HasEachSet : List ℕ → List (List ℕ) → Type 0
@@ -20,6 +22,8 @@ pub record AreSleepers (places : List ℕ) (place : ℕ) (sleepers : List ℕ) :
   pub distinct : IsDistinct nat_eq sleepers
   pub sleep : (t : ℕ) → IsTrue (names sleepers t) → asleep_at places t ≡ place_of place
   pub all : (t : ℕ) → asleep_at places t ≡ place_of place → IsTrue (names sleepers t)
+  pub threads : AreThreads (length places) sleepers
+  pub count : length sleepers ≡ sleepers_on (asleep_at places) (place - 1) (length places)
 
 -- so many of those that sleep at a place, each once
 pub record AreChosen (places : List ℕ) (place many : ℕ) (chosen : List ℕ) : Type 0 where
@@ -44,3 +48,12 @@ pub record HasKilled (x : PackedOf) (nexts : List NextOf) (asleep : ℕ → Opti
   pub found : Contains nexts next
   pub placed : IsPlaced x next.state asleep
   pub killed : next.state.killed ≡ kills
+
+-- a packed state is another one but for some threads, which are at a place
+abbrev pub IsPlacedSome : PackedOf → ℕ → PackedOf → Type 0
+IsPlacedSome x place y = (chosen : List ℕ) × IsPlaced x y (with_place (asleep_at x.places.items) chosen (place_of place))
+
+-- each of the next states is so, but for those that were there
+abbrev pub AddsPlaced : PackedOf → ℕ → List NextOf → List NextOf → Type 0
+AddsPlaced x place before after =
+    (next : NextOf) → Contains after next → Contains before next ⊎ IsPlacedSome x place next.state

@@ -1,5 +1,5 @@
 -- What a step of an exit does, whoever sleeps.
-use Rattle.std.specs.Prelude.{ℕ, ◌≡◌, Option, Some, None, List, [], slice_index, true}
+use Rattle.std.specs.Prelude.{ℕ, ◌≡◌, ◌<◌, ⊤, Option, Some, None, List, [], slice_index, true}
 use Rattle.words.specs.declared.mem.Addr.{Addr}
 use Rattle.words.specs.Process.{process_word}
 use Rattle.locals.specs.Threads.{Thread, Exits}
@@ -39,3 +39,18 @@ abbrev pub IsPlanOf : ExitRule → (size t : ℕ) → ExitPhase → (ℕ → ℕ
 IsPlanOf rule size t phase word plan = (asleep : ℕ → Option ℕ) (woken : List ℕ) (after : Shared) (next : ExitPhase)
     → ExitStep rule size t phase (record { word = word; asleep = asleep }) woken after next
     → IsPlanned plan (record { word = word; asleep = asleep }) woken after next
+
+-- an address, should it be one, lies in a memory of so many words
+abbrev pub IsAddressIn : ℕ → Option Addr → Type 0
+IsAddressIn size None = ⊤
+IsAddressIn size (Some a) = a.0 < size
+
+-- so does that of a word that is changed
+abbrev pub IsMarkIn : ℕ → Option (Addr × ℕ) → Type 0
+IsMarkIn size None = ⊤
+IsMarkIn size (Some (a, v)) = a.0 < size
+
+-- and so do both of a step
+pub record IsPlanIn (size : ℕ) (plan : ExitPlan) : Type 0 where
+  pub marks : IsMarkIn size plan.marks
+  pub wakes : IsAddressIn size plan.wakes

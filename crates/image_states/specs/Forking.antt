@@ -1,5 +1,5 @@
 -- A state with a thread more.
-use Rattle.std.specs.Prelude.{ℕ, ◌≡◌, ◌++◌, ◌∷◌, [], List, Some, Contains, slice_get}
+use Rattle.std.specs.Prelude.{ℕ, suc, length, ◌≡◌, ◌++◌, ◌∷◌, [], List, Some, Contains, slice_get}
 use Rattle.isa.specs.Programs.{Program}
 use Rattle.locals.specs.Threads.{Thread}
 use Rattle.image_states.specs.declared.next.Next.{Next as NextOf}
@@ -14,6 +14,7 @@ pub record IsThreadMore (x y : PackedOf) (n : ℕ) : Type 0 where
   pub killed : y.killed ≡ x.killed
   pub parts : y.parts.items ≡ x.parts.items ++ n ∷ []
   pub places : asleep_at y.places.items ≡ asleep_at x.places.items
+  pub count : length y.places.items ≡ suc (length x.places.items)
 
 -- one of the next states is so
 pub record HasMore (x : PackedOf) (nexts : List NextOf) (part : ℕ) : Type 0 where

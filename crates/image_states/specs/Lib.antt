@@ -9,3 +9,6 @@ pub mod Forking
 pub mod Opening
 pub mod Requeues
 pub mod Stores
+pub mod Room
+pub mod Crowds
+pub mod Reasons

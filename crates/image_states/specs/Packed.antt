@@ -1,10 +1,10 @@
 -- The states that a search over an image keeps, packed as numbers: which state of the definitions each stands for.
 use Rattle.std.specs.Prelude.{ℕ, zero, suc, ◌≡◌, ◌<◌, ◌≤◌, ◌++◌, ◌^◌, ◌⊎◌, List, [], All, Option, Some, None, length, slice_index, slice_set}
 use Rattle.std.specs.List.{slice_get}
-use Rattle.words.specs.Versions.{most_of}
 use Rattle.words.specs.declared.mem.Addr.{Addr}
 use Rattle.image_states.specs.Marks.{marked}
-use Rattle.isa.specs.Programs.{Program}
+use Rattle.isa.specs.Programs.{Program, memory_size}
+use Rattle.words.specs.Versions.{most_of}
 use Rattle.locals.specs.Threads.{Thread}
 use Rattle.machine.specs.States.{State}
 use Rattle.proof_image_search.specs.Searching.{Kept}
@@ -42,7 +42,7 @@ words_in memories n = some_words (slice_get memories n)
 -- a state, with nothing printed
 abbrev pub unpacked : Program → PartsOf → PackedOf → State
 unpacked p parts x = record {
-  most = most_of p.version;
+  most = parts.most;
   word = λ a. slice_index (words_in parts.memories.items x.memory) a;
   size = length (words_in parts.memories.items x.memory);
   made = length x.parts.items;
@@ -55,18 +55,27 @@ unpacked p parts x = record {
 abbrev pub kept_of : Program → PartsOf → PackedOf → Kept
 kept_of p parts x = record { state = unpacked p parts x; killed = x.killed }
 
--- its parts are there
+-- parts of the states of this image: how many threads they may have, and how many words their memories
+pub record IsFor (p : Program) (parts : PartsOf) : Type 0 where
+  pub most : parts.most ≡ most_of p.version
+  pub size : parts.size ≡ memory_size p
+
+-- its parts are there, each thread sleeps at a place or is awake, and there are no more threads than there may be
 pub record IsWithin (parts : PartsOf) (x : PackedOf) : Type 0 where
   pub memory : x.memory < length parts.memories.items
   pub locals : All (λ n. n < length parts.locals.items) x.parts.items
+  pub places : length x.places.items ≡ length x.parts.items
+  pub few : length x.parts.items ≤ parts.most
 
 -- more stands behind what stood there
 abbrev pub IsPrefix : {A : Type 0} → List A → List A → Type 0
 IsPrefix {A} xs ys = (more : List A) × (ys ≡ xs ++ more)
 
--- there are more parts, and each has its number still; and exits are followed alone, or not, as before
+-- there are more parts, and each has its number still; exits are followed alone, or not, as before, and as many threads may
+-- be
 pub record IsGrown (parts parts' : PartsOf) : Type 0 where
   pub alone : parts'.alone ≡ parts.alone
+  pub most : parts'.most ≡ parts.most
   pub locals : IsPrefix parts.locals.items parts'.locals.items
   pub memories : IsPrefix parts.memories.items parts'.memories.items
 
@@ -86,6 +95,7 @@ pub record IsPlaced (x y : PackedOf) (asleep : ℕ → Option ℕ) : Type 0 wher
   pub memory : y.memory ≡ x.memory
   pub parts : y.parts.items ≡ x.parts.items
   pub places : asleep_at y.places.items ≡ asleep
+  pub count : length y.places.items ≡ length x.places.items
 
 -- one but for the thread behind so many others, whose local state has this number now, and the memory
 pub record IsMoved (x y : PackedOf) (k m n : ℕ) : Type 0 where

@@ -5,6 +5,4 @@ pub enum Bound {
     Parts,
     /// More than twelve threads sleep on an address, of which some are woken or moved: there are too many sets of them.
     Sleepers,
-    /// The state isn't one that a machine of this image comes to: a part is missing, or its memory is too small.
-    Foreign,
 }

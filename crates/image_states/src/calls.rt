@@ -1,4 +1,4 @@
-ghost use Rattle.std.specs.Prelude.{◌≡◌, ◌<◌, ◌∷◌, [], ℕ, List, suc, None, Some, IfOk, OnOk, length};
+ghost use Rattle.std.specs.Prelude.{◌≡◌, ◌<◌, ◌∷◌, [], ℕ, List, suc, None, Some, IfOk, IfSome, OnOk, length};
 ghost use Rattle.locals.specs.Looks.{look};
 ghost use Rattle.locals.specs.Requests.{after_answer, next_step_of, CanBeAnswered};
 ghost use Rattle.locals.specs.declared.request.NextStep.TheVariants as step;
@@ -7,6 +7,8 @@ ghost use Rattle.image_states.specs.Nexts.{IsMore, MovesTo, ReachesAt};
 ghost use Rattle.buckets.specs.Places.{with_place};
 ghost use Rattle.image_states.specs.Packed.{place_of};
 ghost use Rattle.image_states.specs.Choosing.{AreChosen, AreSleepers};
+ghost use Rattle.image_states.specs.Reasons.{IsWhy, IsWhyAmong};
+ghost use Rattle.image_states.specs.Room.{AreThreads};
 
 use crate::bound::Bound;
 use crate::next::{Doing, Next};
@@ -34,10 +36,12 @@ impl Parts {
         found: &mut Vec<Next>,
     ) -> Result<Option<Bound>, AllocError>
         requires number { t ≡ suc k }
+        requires made { k < length packed.now.parts.items }
         requires within { IsWithin self.old packed.now }
         requires asks { next_step_of (look image.now t scratch.old.here)
             ≡ step.Shared (Request.Wait address expected) }
         ensures more { OnOk result (IsMore self.old found.old.items self.new found.new.items) }
+        ensures why { IfOk result (λ o. IfSome o (IsWhy self.new packed.now)) }
         ensures moves { IfOk result (λ o. o ≡ None
             → MovesTo image.now self.new packed.now found.new.items t scratch.old.here) }
     {
@@ -66,22 +70,26 @@ impl Parts {
         found: &mut Vec<Next>,
     ) -> Result<Option<Bound>, AllocError>
         requires number { t ≡ suc k }
+        requires made { k < length packed.now.parts.items }
         requires within { IsWithin self.old packed.now }
         requires answers { CanBeAnswered (look image.now t scratch.old.here) 0 }
+        requires lies { address.0 < 4294967295 }
         ensures more { OnOk result (IsMore self.old found.old.items self.new found.new.items) }
+        ensures why { IfOk result (λ o. IfSome o (IsWhy self.new packed.now)) }
         ensures reaches { IfOk result (λ o. o ≡ None
             → ReachesAt image.now self.new packed.now found.new.items t
             (words_in self.new.memories.items packed.now.memory)
             (with_place (asleep_at packed.now.places.items) (t ∷ []) (Some address.0))
             (after_answer (look image.now t scratch.old.here) 0 scratch.old.here)) }
     {
-        let Some(place) = address.0.checked_add(1) else {
-            return Ok(Some(Bound::Foreign));
-        };
+        let place = address.0 + 1;
         scratch.here.go_on(image, t, 0);
         match self.stand(alloc, image, packed, k, t, packed.memory, scratch)? {
             None => Ok(Some(Bound::Parts)),
-            Some(state) => push_placed(alloc, &state, &[t], place, t, Doing::Own, found),
+            Some(state) => {
+                push_placed(alloc, &state, &[t], place, t, Doing::Own, found)?;
+                Ok(None)
+            }
         }
     }
 
@@ -102,9 +110,12 @@ impl Parts {
         found: &mut Vec<Next>,
     ) -> Result<Option<Bound>, AllocError>
         requires number { t ≡ suc k }
+        requires made { k < length packed.now.parts.items }
         requires within { IsWithin self.old packed.now }
         requires memory { memory < length self.old.memories.items }
+        requires threads { AreThreads (length packed.now.places.items) sleepers.now }
         ensures more { OnOk result (IsMore self.old found.old.items self.new found.new.items) }
+        ensures why { IfOk result (λ o. IfSome o (IsWhyAmong self.new sleepers.now)) }
         ensures reaches { IfOk result (λ o. o ≡ None → (place : ℕ)
             → AreSleepers packed.now.places.items place sleepers.now
             → (woken : List ℕ) → AreChosen packed.now.places.items place size woken
@@ -132,10 +143,12 @@ impl Parts {
         found: &mut Vec<Next>,
     ) -> Result<Option<Bound>, AllocError>
         requires number { t ≡ suc k }
+        requires made { k < length packed.now.parts.items }
         requires within { IsWithin self.old packed.now }
         requires asks { next_step_of (look image.now t scratch.old.here)
             ≡ step.Shared (Request.Wake address count) }
         ensures more { OnOk result (IsMore self.old found.old.items self.new found.new.items) }
+        ensures why { IfOk result (λ o. IfSome o (IsWhy self.new packed.now)) }
         ensures moves { IfOk result (λ o. o ≡ None
             → MovesTo image.now self.new packed.now found.new.items t scratch.old.here) }
     {
@@ -159,28 +172,29 @@ impl Parts {
         found: &mut Vec<Next>,
     ) -> Result<Option<Bound>, AllocError>
         requires number { t ≡ suc k }
+        requires made { k < length packed.now.parts.items }
         requires within { IsWithin self.old packed.now }
+        requires lies { address.0 < 4294967295 }
         requires asks { next_step_of (look image.now t scratch.old.here)
             ≡ step.Shared (Request.Wake address count) }
         ensures more { OnOk result (IsMore self.old found.old.items self.new found.new.items) }
+        ensures why { IfOk result (λ o. IfSome o (IsWhy self.new packed.now)) }
         ensures moves { IfOk result (λ o. o ≡ None
             → MovesTo image.now self.new packed.now found.new.items t scratch.old.here) }
     {
-        match packed.sleepers_on(alloc, address)? {
-            None => Ok(Some(Bound::Foreign)),
-            Some(sleepers) => self.wake_of(
-                alloc,
-                image,
-                packed,
-                k,
-                t,
-                address,
-                count,
-                sleepers.as_slice(),
-                scratch,
-                found,
-            ),
-        }
+        let sleepers = packed.sleepers_on(alloc, address)?;
+        self.wake_of(
+            alloc,
+            image,
+            packed,
+            k,
+            t,
+            address,
+            count,
+            sleepers.as_slice(),
+            scratch,
+            found,
+        )
     }
 
     // The same where these sleep there.
@@ -198,19 +212,18 @@ impl Parts {
         found: &mut Vec<Next>,
     ) -> Result<Option<Bound>, AllocError>
         requires number { t ≡ suc k }
+        requires made { k < length packed.now.parts.items }
         requires within { IsWithin self.old packed.now }
         requires sleepers { AreSleepers packed.now.places.items (suc address.0) sleepers.now }
         requires asks { next_step_of (look image.now t scratch.old.here)
             ≡ step.Shared (Request.Wake address count) }
         ensures more { OnOk result (IsMore self.old found.old.items self.new found.new.items) }
+        ensures why { IfOk result (λ o. IfSome o (IsWhy self.new packed.now)) }
         ensures moves { IfOk result (λ o. o ≡ None
             → MovesTo image.now self.new packed.now found.new.items t scratch.old.here) }
     {
         let size = chosen_of(count, sleepers.len());
-        let Ok(answer) = u32::try_from(size) else {
-            return Ok(Some(Bound::Foreign));
-        };
-        scratch.here.go_on(image, t, answer);
+        scratch.here.go_on(image, t, size as u32);
         self.stand_waking(
             alloc,
             image,

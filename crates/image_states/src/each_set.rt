@@ -1,5 +1,6 @@
-ghost use Rattle.std.specs.Prelude.{◌≡◌, ◌++◌, ◌∷◌, [], IfOk, IfSome, map};
+ghost use Rattle.std.specs.Prelude.{◌≡◌, ◌<◌, ◌++◌, ◌∷◌, [], ℕ, All, IfNone, IfOk, IfSome, length, map};
 ghost use Rattle.image_states.specs.Choosing.{HasEachSet, lists_in};
+ghost use Rattle.image_states.specs.Room.{AreThreads};
 
 use std::alloc::{AllocError, Global};
 
@@ -29,7 +30,10 @@ fn longer(alloc: Global, lists: &[Vec<u32>], number: u32) -> Result<Vec<Vec<u32>
 
 /// A list for each set of these numbers; None where there are too many.
 pub(crate) fn sets(alloc: Global, numbers: &[u32]) -> Result<Option<Vec<Vec<u32>>>, AllocError>
-    ensures { IfOk result (λ o. IfSome o (λ v. HasEachSet numbers.now (lists_in v.items))) }
+    ensures each { IfOk result (λ o. IfSome o (λ v. HasEachSet numbers.now (lists_in v.items))) }
+    ensures threads { IfOk result (λ o. IfSome o (λ v. (many : ℕ) → AreThreads many numbers.now
+        → All (AreThreads many) (lists_in v.items))) }
+    ensures many { IfOk result (λ o. IfNone o (12 < length numbers.now)) }
 {
     if numbers.len() > MOST {
         return Ok(None);

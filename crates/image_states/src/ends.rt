@@ -175,7 +175,7 @@ impl Parts {
                 entry: _,
                 count: _,
                 has_room,
-            } => packed.parts.len() < image.version().most_processes() as usize && !has_room,
+            } => packed.parts.len() < self.most_threads() as usize && !has_room,
             NextStep::Exit(_) => false,
             NextStep::Broken => true,
             NextStep::Ended => false,

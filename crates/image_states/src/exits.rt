@@ -4,7 +4,7 @@ ghost use Rattle.words.specs.Process.{process_word};
 ghost use Rattle.futexcalls.specs.Answers.{word_of};
 ghost use Rattle.robustexit.specs.RobustExit.{IsEntry};
 ghost use Rattle.robustexit.specs.declared.rule.ExitRule.{ExitRule as ExitRuleOf};
-ghost use Rattle.image_states.specs.Exits.{IsPlanOf};
+ghost use Rattle.image_states.specs.Exits.{IsPlanIn, IsPlanOf};
 
 use robustexit::{ExitPhase, ExitRule, phase_at};
 use sparse_memory::SparseMemory;
@@ -79,8 +79,9 @@ fn abandon(lock: Addr, word: u32, next: ExitPhase) -> ExitPlan
 fn entry_plan(mem: &SparseMemory, t: u32, entry: Addr, seen: u32) -> ExitPlan
     requires thread { (0 < t) × (t ≤ MOST_BLOCKS) }
     requires block { process_word t 5 < length mem.now }
-    ensures { (rule : ExitRuleOf)
+    ensures plan { (rule : ExitRuleOf)
         → IsPlanOf rule (length mem.now) t (ExitPhase.Entry entry seen) (word_of mem.now) result }
+    ensures lies { IsPlanIn (length mem.now) result }
 {
     let Some(lock) = lock_of(mem, entry.0) else {
         return idle(ExitPhase::Pending);
@@ -97,7 +98,8 @@ fn entry_plan(mem: &SparseMemory, t: u32, entry: Addr, seen: u32) -> ExitPlan
 fn pending_plan(rule: ExitRule, mem: &SparseMemory, t: u32) -> ExitPlan
     requires thread { (0 < t) × (t ≤ MOST_BLOCKS) }
     requires block { process_word t 5 < length mem.now }
-    ensures { IsPlanOf rule (length mem.now) t ExitPhase.Pending (word_of mem.now) result }
+    ensures plan { IsPlanOf rule (length mem.now) t ExitPhase.Pending (word_of mem.now) result }
+    ensures lies { IsPlanIn (length mem.now) result }
 {
     let Some(lock) = lock_of(mem, mem.load(block(t, ProcessWord::Pending))) else {
         return idle(ExitPhase::ClearId);
@@ -120,7 +122,8 @@ fn pending_plan(rule: ExitRule, mem: &SparseMemory, t: u32) -> ExitPlan
 pub(crate) fn exit_plan(rule: ExitRule, mem: &SparseMemory, t: u32, phase: ExitPhase) -> ExitPlan
     requires thread { (0 < t) × (t ≤ MOST_BLOCKS) }
     requires block { process_word t 5 < length mem.now }
-    ensures { IsPlanOf rule (length mem.now) t phase (word_of mem.now) result }
+    ensures plan { IsPlanOf rule (length mem.now) t phase (word_of mem.now) result }
+    ensures lies { IsPlanIn (length mem.now) result }
 {
     match phase {
         ExitPhase::Entry { entry, seen } => entry_plan(mem, t, entry, seen),

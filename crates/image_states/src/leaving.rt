@@ -1,4 +1,4 @@
-ghost use Rattle.std.specs.Prelude.{◌≡◌, ◌≤◌, ◌<◌, suc, None, Some, IfOk, OnOk, length, true, ℕ};
+ghost use Rattle.std.specs.Prelude.{◌≡◌, ◌≤◌, ◌<◌, suc, None, Some, IfOk, IfSome, OnOk, length, true, ℕ};
 ghost use Rattle.locals.specs.Looks.{look};
 ghost use Rattle.locals.specs.Requests.{after_answer, CanBeAnswered};
 ghost use Rattle.robustexit.specs.declared.phase.ExitPhase.TheVariants.{Pending};
@@ -6,6 +6,7 @@ ghost use Rattle.locals.specs.Threads.{Exits};
 ghost use Rattle.image_states.specs.Exits.{CanLeave};
 ghost use Rattle.image_states.specs.Packed.{asleep_at, words_in, IsWithin};
 ghost use Rattle.image_states.specs.Nexts.{IsMore, ReachesAt};
+ghost use Rattle.image_states.specs.Reasons.{IsWhy};
 
 use crate::bound::Bound;
 use crate::next::Next;
@@ -16,7 +17,7 @@ use isa::Image;
 use locals::Local;
 use robustexit::ExitPhase;
 use std::alloc::{AllocError, Global};
-use words::{Addr, MOST_BLOCKS, ProcessWord, block};
+use words::{Addr, ProcessWord, block};
 
 // Whether a thread is past its robust list in its exit. A caller in which it stood would have room for a local state made at
 // each call.
@@ -31,13 +32,13 @@ fn is_pending(local: &Local) -> bool
 impl Packed {
     // Whether nobody sleeps on an address.
     fn has_nobody_on(&self, alloc: Global, a: Addr) -> Result<bool, AllocError>
+        requires few { length self.now.places.items ≤ 1000 }
+        requires address { a.0 < 4294967295 }
         ensures { IfOk result (λ none. none ≡ true
             → (u : ℕ) → asleep_at self.now.places.items u ≡ Some a.0 → ⊥) }
     {
-        match self.sleepers_on(alloc, a)? {
-            None => Ok(false),
-            Some(sleepers) => Ok(sleepers.len() == 0),
-        }
+        let sleepers = self.sleepers_on(alloc, a)?;
+        Ok(sleepers.len() == 0)
     }
 }
 
@@ -54,7 +55,8 @@ impl Parts {
         local: &Local,
     ) -> Result<bool, AllocError>
         requires number { t ≡ suc k }
-        requires few { t ≤ MOST_BLOCKS }
+        requires few { t ≤ 1000 }
+        requires places { length packed.now.places.items ≤ 1000 }
         ensures { IfOk result
             (λ can. can ≡ true → CanLeave self.now packed.now t memory local.now) }
     {
@@ -83,11 +85,12 @@ impl Parts {
         found: &mut Vec<Next>,
     ) -> Result<Option<Bound>, AllocError>
         requires number { t ≡ suc k }
-        requires few { t ≤ MOST_BLOCKS }
+        requires made { k < length packed.now.parts.items }
         requires within { IsWithin self.old packed.now }
         requires memory { memory < length self.old.memories.items }
         requires can { CanLeave self.old packed.now t memory scratch.old.here }
         ensures more { OnOk result (IsMore self.old found.old.items self.new found.new.items) }
+        ensures why { IfOk result (λ o. IfSome o (IsWhy self.new packed.now)) }
         ensures reaches { IfOk result (λ o. o ≡ None
             → ReachesAt image.now self.new packed.now found.new.items t
             (words_in self.new.memories.items memory)
@@ -116,17 +119,16 @@ impl Parts {
         found: &mut Vec<Next>,
     ) -> Result<Option<Bound>, AllocError>
         requires number { t ≡ suc k }
+        requires made { k < length packed.now.parts.items }
         requires within { IsWithin self.old packed.now }
         requires memory { memory < length self.old.memories.items }
         ensures more { OnOk result (IsMore self.old found.old.items self.new found.new.items) }
+        ensures why { IfOk result (λ o. IfSome o (IsWhy self.new packed.now)) }
         ensures reaches { IfOk result (λ o. o ≡ None
             → ReachesAt image.now self.new packed.now found.new.items t
             (words_in self.new.memories.items memory)
             (asleep_at packed.now.places.items) scratch.old.here) }
     {
-        if t > MOST_BLOCKS {
-            return Ok(Some(Bound::Foreign));
-        }
         if self.can_leave(alloc, packed, k, t, memory, &scratch.here)? {
             return self.push_ended(alloc, image, packed, k, t, memory, scratch, found);
         }
@@ -147,10 +149,12 @@ impl Parts {
         found: &mut Vec<Next>,
     ) -> Result<Option<Bound>, AllocError>
         requires number { t ≡ suc k }
+        requires made { k < length packed.now.parts.items }
         requires within { IsWithin self.old packed.now }
         requires memory { memory < length self.old.memories.items }
         requires answers { CanBeAnswered (look image.now t scratch.old.here) head }
         ensures more { OnOk result (IsMore self.old found.old.items self.new found.new.items) }
+        ensures why { IfOk result (λ o. IfSome o (IsWhy self.new packed.now)) }
         ensures reaches { IfOk result (λ o. o ≡ None
             → ReachesAt image.now self.new packed.now found.new.items t
             (words_in self.new.memories.items memory) (asleep_at packed.now.places.items)

@@ -18,6 +18,7 @@ mod outside;
 mod packed;
 mod parts;
 mod requeuing;
+mod room;
 mod running;
 mod serving;
 mod stored;

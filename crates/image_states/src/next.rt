@@ -1,4 +1,4 @@
-ghost use Rattle.std.specs.Prelude.{Contains, OnOk};
+ghost use Rattle.std.specs.Prelude.{◌≡◌, ◌++◌, ◌∷◌, [], Contains, OnOk};
 ghost use Rattle.image_states.specs.Packed.{IsPrefix};
 
 use crate::packed::Packed;
@@ -35,6 +35,8 @@ pub(crate) fn push_next(
     doing: Doing,
 ) -> Result<(), AllocError>
     ensures longer { OnOk result (IsPrefix found.old.items found.new.items) }
+    ensures last { OnOk result (found.new.items
+        ≡ found.old.items ++ (record { state = state; thread = thread; doing = doing }) ∷ []) }
     ensures there { OnOk result (Contains found.new.items
         (record { state = state; thread = thread; doing = doing })) }
 {

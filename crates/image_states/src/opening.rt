@@ -1,34 +1,20 @@
-ghost use Rattle.std.specs.Prelude.{◌≡◌, ◌<◌, ◌^◌, [], Some, None, IfOk, IfSome, OnOk, replicate, slice_set, sum};
+ghost use Rattle.std.specs.Prelude.{◌≡◌, ◌<◌, [], Some, None, IfNone, IfOk, IfSome, OnOk, replicate, slice_set};
 ghost use Rattle.std.specs.List.{slice_get};
 ghost use Rattle.isa.specs.Programs.{memory_size};
 ghost use Rattle.machine.specs.States.{opening_state};
-ghost use Rattle.image_states.specs.Packed.{IsGrown, IsWithin};
+ghost use Rattle.image_states.specs.Packed.{IsFor, IsGrown, IsOutOfNumbers, IsWithin};
 ghost use Rattle.image_states.specs.Nexts.{Covers};
 ghost use Rattle.image_states.specs.Opening.{IsAlone, IsOpening};
 
 use crate::packed::Packed;
 use crate::parts::Parts;
+use crate::room::memory_len;
 use crate::running::Scratch;
 use isa::Image;
 use locals::opening_local;
 use sparse_memory::SparseMemory;
 use std::alloc::{AllocError, Global};
 use words::{ProcessWord, block};
-
-fn total(numbers: &[u32]) -> u32
-    requires { sum numbers.now < 2 ^ 32 }
-    ensures { result ≡ sum numbers.now }
-{
-    numbers.iter().sum()
-}
-
-// How many words the memory of an image has.
-fn memory_len(image: &Image) -> usize
-    ensures { result ≡ memory_size image.now }
-{
-    let base = image.version().monitors_base() as usize;
-    base + 2 * image.monitors().len() + total(image.monitors()) as usize
-}
 
 // The words at the start of an image.
 fn opening_words(alloc: Global, image: &Image) -> Result<SparseMemory, AllocError>
@@ -63,7 +49,9 @@ impl Parts {
         image: &Image,
         scratch: &mut Scratch,
     ) -> Result<Option<Packed>, AllocError>
+        requires { IsFor image.now self.old }
         ensures grown { OnOk result (IsGrown self.old self.new) }
+        ensures full { IfOk result (λ o. IfNone o (IsOutOfNumbers self.new)) }
         ensures within { IfOk result (λ o. IfSome o (IsWithin self.new)) }
         ensures covers { IfOk result (λ o. IfSome o
             (λ x. Covers image.now self.new x (opening_state image.now) 0)) }
@@ -86,6 +74,7 @@ impl Parts {
         requires { slice_get self.old.memories.items memory
             ≡ Some (slice_set (replicate (memory_size image.now) 0) 3 1) }
         ensures grown { OnOk result (IsGrown self.old self.new) }
+        ensures full { IfOk result (λ o. IfNone o (IsOutOfNumbers self.new)) }
         ensures opens { IfOk result (λ o. IfSome o (IsOpening image.now self.new)) }
     {
         scratch.look_at(&opening_local(image.start(), &[]));

@@ -1,6 +1,7 @@
-ghost use Rattle.std.specs.Prelude.{◌≡◌, ◌<◌, IfOk, IfSome, slice_index, suc, true};
+ghost use Rattle.std.specs.Prelude.{◌≡◌, ◌<◌, ◌≤◌, ◌-◌, IfOk, length, slice_index, slice_set, suc, true};
 ghost use Rattle.buckets.specs.Places.{with_place};
 ghost use Rattle.image_states.specs.Packed.{IsSameKey, IsPlaced, asleep_at, place_of};
+ghost use Rattle.image_states.specs.Room.{AreThreads};
 
 use crate::digest::{fed, mixed};
 use std::alloc::{AllocError, Global};
@@ -75,100 +76,92 @@ impl Packed {
     ghost use Rattle.image_states.specs.Packed.{IsMoved};
     ghost use Rattle.image_states.specs.Choosing.{AreSleepers};
 
-    // The same with another memory, and with another local state for the thread behind so many others; None where there is
-    // none.
+    // The same with another memory, and with another local state for the thread behind so many others.
     pub(crate) fn moved(
         &self,
         alloc: Global,
         k: usize,
         memory: u32,
         part: u32,
-    ) -> Result<Option<Packed>, AllocError>
-        ensures { IfOk result (λ o. IfSome o (λ y. IsMoved self.now y k memory part)) }
+    ) -> Result<Packed, AllocError>
+        requires { k < length self.now.parts.items }
+        ensures { IfOk result (λ y. IsMoved self.now y k memory part) }
     {
-        if k >= self.parts.len() {
-            return Ok(None);
-        }
         let places = Vec::from_slice(alloc, self.places.as_slice())?;
         let mut parts = Vec::from_slice(alloc, self.parts.as_slice())?;
         parts[k] = part;
-        Ok(Some(Packed {
+        Ok(Packed {
             memory,
             killed: self.killed,
             parts,
             places,
-        }))
+        })
     }
 
-    // The threads that sleep on an address; None where there are too many threads, or where the
-    // address is the last of all.
-    pub(crate) fn sleepers_on(&self, alloc: Global, a: Addr) -> Result<Option<Vec<u32>>, AllocError>
-        ensures { IfOk result
-            (λ o. IfSome o (λ v. AreSleepers self.now.places.items (suc a.0) v.items)) }
+    // The threads that sleep on an address.
+    pub(crate) fn sleepers_on(&self, alloc: Global, a: Addr) -> Result<Vec<u32>, AllocError>
+        requires few { length self.now.places.items ≤ 1000 }
+        requires address { a.0 < 4294967295 }
+        ensures { IfOk result (λ v. AreSleepers self.now.places.items (suc a.0) v.items) }
     {
-        match a.0.checked_add(1) {
-            None => Ok(None),
-            Some(place) => self.sleepers(alloc, place),
-        }
+        self.sleepers(alloc, a.0 + 1)
     }
 
-    // The threads that sleep at a place; None where there are too many threads.
-    fn sleepers(&self, alloc: Global, place: u32) -> Result<Option<Vec<u32>>, AllocError>
-        requires { 0 < place }
-        ensures { IfOk result
-            (λ o. IfSome o (λ v. AreSleepers self.now.places.items place v.items)) }
+    // The threads that sleep at a place.
+    fn sleepers(&self, alloc: Global, place: u32) -> Result<Vec<u32>, AllocError>
+        requires few { length self.now.places.items ≤ 1000 }
+        requires place { 0 < place }
+        ensures { IfOk result (λ v. AreSleepers self.now.places.items place v.items) }
     {
-        let Ok(count) = u32::try_from(self.places.len()) else {
-            return Ok(None);
-        };
-        if count == u32::MAX {
-            return Ok(None);
-        }
+        let count = self.places.len() as u32;
         let mut sleepers = Vec::new(alloc);
         for k in 0..count {
             if self.place(k as usize) == place {
                 sleepers.push(k + 1)?;
             }
         }
-        Ok(Some(sleepers))
+        Ok(sleepers)
     }
 }
 
-// These threads are at this place from now on; false where one wasn't made.
-fn place_all(places: &mut [u32], chosen: &[u32], place: u32) -> bool
-    ensures { result ≡ true
-        → asleep_at places.new ≡ with_place (asleep_at places.old) chosen.now (place_of place) }
+// A thread is at this place from now on.
+fn place_one(places: &mut [u32], t: u32, place: u32)
+    requires { (0 < t) × (t ≤ length places.old) }
+    ensures { places.new ≡ slice_set places.old (t - 1) place }
+{
+    places[t as usize - 1] = place;
+}
+
+// These threads are at this place from now on.
+fn place_all(places: &mut [u32], chosen: &[u32], place: u32)
+    requires { AreThreads (length places.old) chosen.now }
+    ensures placed { asleep_at places.new ≡ with_place (asleep_at places.old) chosen.now (place_of place) }
+    ensures count { length places.new ≡ length places.old }
 {
     for t in chosen {
-        let t = *t as usize;
-        if t == 0 || t > places.len() {
-            return false;
-        }
-        places[t - 1] = place;
+        place_one(places, *t, place);
     }
-    true
 }
 
-// The same but for these threads, which are at this place; None where one wasn't made.
+// The same but for these threads, which are at this place.
 pub(crate) fn placed(
     alloc: Global,
     packed: &Packed,
     chosen: &[u32],
     place: u32,
-) -> Result<Option<Packed>, AllocError>
-    ensures placed { IfOk result (λ o. IfSome o (λ y. IsPlaced packed.now y
-        (with_place (asleep_at packed.now.places.items) chosen.now (place_of place)))) }
-    ensures killed { IfOk result (λ o. IfSome o (λ y. y.killed ≡ packed.now.killed)) }
+) -> Result<Packed, AllocError>
+    requires { AreThreads (length packed.now.places.items) chosen.now }
+    ensures placed { IfOk result (λ y. IsPlaced packed.now y
+        (with_place (asleep_at packed.now.places.items) chosen.now (place_of place))) }
+    ensures killed { IfOk result (λ y. y.killed ≡ packed.now.killed) }
 {
     let parts = Vec::from_slice(alloc, packed.parts.as_slice())?;
     let mut places = Vec::from_slice(alloc, packed.places.as_slice())?;
-    if !place_all(places.as_mut_slice(), chosen, place) {
-        return Ok(None);
-    }
-    Ok(Some(Packed {
+    place_all(places.as_mut_slice(), chosen, place);
+    Ok(Packed {
         memory: packed.memory,
         killed: packed.killed,
         parts,
         places,
-    }))
+    })
 }

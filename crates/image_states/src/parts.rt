@@ -1,8 +1,10 @@
-ghost use Rattle.std.specs.Prelude.{◌≡◌, ◌<◌, MatchOption, None, Some, false, true, IfOk, IfSome, OnOk, length, slice_index, slice_set};
+ghost use Rattle.std.specs.Prelude.{◌≡◌, ◌<◌, MatchBool, MatchOption, None, Some, true, IfNone, IfOk, IfSome, OnOk, length, slice_index, slice_set};
 ghost use Rattle.std.specs.List.{slice_get};
+ghost use Rattle.image_states.specs.Room.{AreSized, IsRoom};
 ghost use Rattle.image_states.specs.Stores.{AreStored, IsStored};
 
 use crate::digest::{local_digest, word_digest};
+use crate::room::memory_len;
 use crate::stored::{Stored, find_stored, make_room, note_stored};
 use digest_map::DigestMap;
 use isa::Image;
@@ -14,11 +16,18 @@ use words::Addr;
 // How many numbers of one digest are looked at.
 const TRIES: u64 = 1 << 20;
 
+// The last number.
+const MOST_NUMBERS: usize = u32::MAX as usize;
+
 /// The local states and the memories of states that are kept, each once, by their numbers. None is ever given up.
 #[derive(Drop)]
 pub struct Parts {
     // Whether a thread's exit is followed alone.
     alone: bool,
+    // How many threads a state may have.
+    most: u32,
+    // How many words each memory has.
+    size: usize,
     // The local states of threads.
     locals: Vec<Local>,
     // The memories, of each of which the words that aren't 0 are listed.
@@ -32,18 +41,25 @@ pub struct Parts {
     // Which memory another one is with a word stored, of the stores that were looked for last.
     stores: Vec<Stored>,
     ghost stored: { AreStored memories.items stores.items },
+    ghost room: { IsRoom most size },
+    ghost sized: { AreSized size memories.items },
 }
 
 impl Parts {
-    ghost use Rattle.image_states.specs.Packed.{IsGrown, IsOutOfNumbers, words_in};
+    ghost use Rattle.image_states.specs.Packed.{IsFor, IsGrown, IsOutOfNumbers, words_in};
 
-    /// No parts yet, of states in which the rest of a thread's exit is followed alone, behind its robust list, or isn't:
-    /// where the thread has no pending entry and nobody sleeps on its id, it is taken to its end at once.
-    pub fn new(alloc: Global, alone: bool) -> Parts
-        ensures { result.alone ≡ alone }
+    /// No parts yet, of states of an image in which the rest of a thread's exit is followed alone, behind its robust list, or
+    /// isn't: where the thread has no pending entry and nobody sleeps on its id, it is taken to its end at once.
+    pub fn new(alloc: Global, image: &Image, alone: bool) -> Parts
+        ensures alone { result.alone ≡ alone }
+        ensures fits { IsFor image.now result }
     {
+        let most = image.version().most_processes();
+        let size = memory_len(image);
         Parts {
             alone,
+            most,
+            size,
             locals: Vec::new(alloc),
             memories: Vec::new(alloc),
             digests: Vec::new(alloc),
@@ -58,6 +74,13 @@ impl Parts {
         ensures { result ≡ self.now.alone }
     {
         self.alone
+    }
+
+    /// How many threads a state may have.
+    pub fn most_threads(&self) -> u32
+        ensures { result ≡ self.now.most }
+    {
+        self.most
     }
 
     // The local state of this number.
@@ -90,26 +113,10 @@ impl Parts {
         self.memories.len()
     }
 
-    /// Whether there are as many local states, or as many memories, as have numbers.
-    pub fn is_out_of_numbers(&self) -> bool
-        ensures yes { result ≡ true → IsOutOfNumbers self.now }
-        ensures no { result ≡ false → IsOutOfNumbers self.now → ⊥ }
-    {
-        let last = u32::MAX as usize;
-        let locals = self.local_count();
-        let memories = self.memory_count();
-        if locals > last {
-            return true;
-        }
-        if memories > last {
-            return true;
-        }
-        false
-    }
-
     // Whether there is a memory of this number.
     pub(crate) fn has_memory_number(&self, number: u32) -> bool
-        ensures { result ≡ true → number < length self.now.memories.items }
+        ensures { MatchBool result (number < length self.now.memories.items)
+            (number < length self.now.memories.items → ⊥) }
     {
         (number as usize) < self.memories.len()
     }
@@ -152,6 +159,7 @@ impl Parts {
         ensures grown { OnOk result (IsGrown self.old self.new) }
         ensures there { IfOk result
             (λ o. IfSome o (λ n. slice_get self.new.locals.items n ≡ Some local.now)) }
+        ensures full { IfOk result (λ o. IfNone o (IsOutOfNumbers self.new)) }
     {
         let digest = local_digest(local.place(), local.next_step(image, t));
         if let Some(number) = self.find_local(local, digest) {
@@ -173,10 +181,13 @@ impl Parts {
         ensures grown { OnOk result (IsGrown self.old self.new) }
         ensures there { IfOk result
             (λ o. IfSome o (λ n. slice_get self.new.locals.items n ≡ Some local.now)) }
+        ensures full { IfOk result (λ o. IfNone o (IsOutOfNumbers self.new)) }
     {
-        let Ok(number) = u32::try_from(self.locals.len()) else {
+        let count = self.local_count();
+        if count > MOST_NUMBERS {
             return Ok(None);
-        };
+        }
+        let number = count as u32;
         self.local_numbers.note(alloc, digest, number)?;
         self.locals.push(local.copy())?;
         Ok(Some(number))
@@ -216,13 +227,17 @@ impl Parts {
         memory: SparseMemory,
         digest: u64,
     ) -> Result<Option<u32>, AllocError>
+        requires { length memory ≡ self.old.size }
         ensures grown { OnOk result (IsGrown self.old self.new) }
         ensures there { IfOk result
             (λ o. IfSome o (λ n. slice_get self.new.memories.items n ≡ Some memory)) }
+        ensures full { IfOk result (λ o. IfNone o (IsOutOfNumbers self.new)) }
     {
-        let Ok(number) = u32::try_from(self.memories.len()) else {
+        let count = self.memory_count();
+        if count > MOST_NUMBERS {
             return Ok(None);
-        };
+        }
+        let number = count as u32;
         self.memory_numbers.note(alloc, digest, number)?;
         self.digests.push(digest)?;
         self.memories.push(memory)?;
@@ -236,9 +251,11 @@ impl Parts {
         memory: SparseMemory,
         digest: u64,
     ) -> Result<Option<u32>, AllocError>
+        requires { length memory ≡ self.old.size }
         ensures grown { OnOk result (IsGrown self.old self.new) }
         ensures there { IfOk result
             (λ o. IfSome o (λ n. slice_get self.new.memories.items n ≡ Some memory)) }
+        ensures full { IfOk result (λ o. IfNone o (IsOutOfNumbers self.new)) }
     {
         if let Some(number) = self.find_memory(&memory, digest) {
             return Ok(Some(number));
@@ -253,13 +270,15 @@ impl Parts {
         number: u32,
         a: Addr,
         v: u32,
-    ) -> Result<Option<SparseMemory>, AllocError>
-        ensures { IfOk result
-            (λ o. IfSome o (λ m. m ≡ slice_set (words_in self.now.memories.items number) a.0 v)) }
+    ) -> Result<SparseMemory, AllocError>
+        requires { number < length self.now.memories.items }
+        ensures is { IfOk result
+            (λ m. m ≡ slice_set (words_in self.now.memories.items number) a.0 v) }
+        ensures size { IfOk result (λ m. length m ≡ self.now.size) }
     {
         match self.memory(number) {
-            None => Ok(None),
-            Some(old) => Ok(Some(old.with_word(alloc, a, v)?)),
+            None => unreachable!(),
+            Some(old) => old.with_word(alloc, a, v),
         }
     }
 
@@ -289,6 +308,7 @@ impl Parts {
         ensures grown { OnOk result (IsGrown self.old self.new) }
         ensures there { IfOk result (λ o. IfSome o (λ n. slice_get self.new.memories.items n
             ≡ Some (slice_set (words_in self.old.memories.items number) a.0 v))) }
+        ensures full { IfOk result (λ o. IfNone o (IsOutOfNumbers self.new)) }
     {
         if before == v {
             return Ok(Some(number));
@@ -340,19 +360,19 @@ impl Parts {
         before: u32,
         v: u32,
     ) -> Result<Option<u32>, AllocError>
+        requires { number < length self.old.memories.items }
         ensures grown { OnOk result (IsGrown self.old self.new) }
         ensures there { IfOk result (λ o. IfSome o (λ n. slice_get self.new.memories.items n
             ≡ Some (slice_set (words_in self.old.memories.items number) a.0 v))) }
+        ensures full { IfOk result (λ o. IfNone o (IsOutOfNumbers self.new)) }
     {
         let digest = self.digest_with(number, a, before, v);
-        match self.with_word(alloc, number, a, v)? {
-            None => Ok(None),
-            Some(memory) => self.memory_number(alloc, memory, digest),
-        }
+        let memory = self.with_word(alloc, number, a, v)?;
+        self.memory_number(alloc, memory, digest)
     }
 
     // The number of the memory of this number with this word at an address, which is a part from now on; None where
-    // there are too many, or there is no such word.
+    // there are too many.
     pub(crate) fn stored(
         &mut self,
         alloc: Global,
@@ -360,14 +380,14 @@ impl Parts {
         a: Addr,
         v: u32,
     ) -> Result<Option<u32>, AllocError>
+        requires { a.0 < length (words_in self.old.memories.items number) }
         ensures grown { OnOk result (IsGrown self.old self.new) }
         ensures there { IfOk result (λ o. IfSome o (λ n. slice_get self.new.memories.items n
             ≡ Some (slice_set (words_in self.old.memories.items number) a.0 v))) }
-        ensures lies { IfOk result
-            (λ o. IfSome o (λ n. a.0 < length (words_in self.old.memories.items number))) }
+        ensures full { IfOk result (λ o. IfNone o (IsOutOfNumbers self.new)) }
     {
         match self.word(number, a) {
-            None => Ok(None),
+            None => unreachable!(),
             Some(before) => self.stored_at(alloc, number, a, before, v),
         }
     }

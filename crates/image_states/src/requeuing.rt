@@ -1,11 +1,12 @@
-ghost use Rattle.std.specs.Prelude.{◌≡◌, ◌<◌, ◌+◌, suc, None, Some, IfOk, IfSome, OnOk, Contains};
+ghost use Rattle.std.specs.Prelude.{◌≡◌, ◌<◌, ◌≤◌, ◌+◌, length, suc, None, Some, IfOk, IfSome, OnOk, Contains};
 ghost use Rattle.locals.specs.Looks.{look};
 ghost use Rattle.locals.specs.Requests.{after_answer, next_step_of};
 ghost use Rattle.locals.specs.Threads.{Thread};
 ghost use Rattle.locals.specs.declared.request.NextStep.TheVariants as step;
 ghost use Rattle.image_states.specs.Packed.{asleep_at, thread_at, words_in, IsWithin};
 ghost use Rattle.image_states.specs.Nexts.{IsMore, MovesTo, ReachesAt};
-ghost use Rattle.image_states.specs.Choosing.{chosen_of, AreSleepers};
+ghost use Rattle.image_states.specs.Choosing.{chosen_of, AreSleepers, IsPlacedSome};
+ghost use Rattle.image_states.specs.Reasons.{IsWhy};
 ghost use Rattle.image_states.specs.declared.next.Next.{Next as NextOf};
 ghost use Rattle.std.specs.Prelude.{◌≢◌, slice_index};
 ghost use Rattle.image_states.specs.Requeues.{AsksThere, MidDone, RequeuesDone};
@@ -30,14 +31,11 @@ fn most_moved(from: Addr, to: Addr, moves: u32) -> u32
 }
 
 // How many were woken and moved, as an answer.
-fn number_of(woken: usize, moved: usize) -> Option<u32>
-    ensures { IfSome result (λ n. n ≡ woken + moved) }
+fn number_of(woken: usize, moved: usize) -> u32
+    requires { (woken ≤ 1000) × (moved ≤ 1000) }
+    ensures { result ≡ woken + moved }
 {
-    let sum = woken.checked_add(moved)?;
-    match u32::try_from(sum) {
-        Ok(number) => Some(number),
-        Err(_) => None,
-    }
+    (woken + moved) as u32
 }
 
 impl Parts {
@@ -58,12 +56,14 @@ impl Parts {
         found: &mut Vec<Next>,
     ) -> Result<Option<Bound>, AllocError>
         requires number { t ≡ suc k }
+        requires made { k < length packed.now.parts.items }
         requires within { IsWithin self.old packed.now }
         requires stands { thread_at self.old.locals.items packed.now.parts.items t
             ≡ Some scratch.old.here }
         requires asks { next_step_of (look image.now t scratch.old.here)
             ≡ step.Shared (Request.Requeue from to wake moves expected) }
         ensures more { OnOk result (IsMore self.old found.old.items self.new found.new.items) }
+        ensures why { IfOk result (λ o. IfSome o (IsWhy self.new packed.now)) }
         ensures moves { IfOk result (λ o. o ≡ None
             → MovesTo image.now self.new packed.now found.new.items t scratch.old.here) }
     {
@@ -104,9 +104,12 @@ impl Parts {
         found: &mut Vec<Next>,
     ) -> Result<Option<Bound>, AllocError>
         requires number { t ≡ suc k }
+        requires made { k < length packed.now.parts.items }
         requires within { IsWithin self.old packed.now }
         requires asks { AsksThere image.now self.old packed.now t request }
+        requires lies { from.0 < length (words_in self.old.memories.items packed.now.memory) }
         ensures more { OnOk result (IsMore self.old found.old.items self.new found.new.items) }
+        ensures why { IfOk result (λ o. IfSome o (IsWhy self.new packed.now)) }
         ensures reaches { IfOk result (λ o. o ≡ None → (here : Thread)
             → thread_at self.new.locals.items packed.now.parts.items t ≡ Some here
             → slice_index (words_in self.new.memories.items packed.now.memory) from.0 ≢ expected
@@ -115,7 +118,7 @@ impl Parts {
             (after_answer (look image.now t here) 4294967295 here)) }
     {
         match self.word(packed.memory, from) {
-            None => Ok(Some(Bound::Foreign)),
+            None => unreachable!(),
             Some(w) => {
                 if w == expected {
                     Ok(None)
@@ -139,9 +142,11 @@ impl Parts {
         found: &mut Vec<Next>,
     ) -> Result<Option<Bound>, AllocError>
         requires number { t ≡ suc k }
+        requires made { k < length packed.now.parts.items }
         requires within { IsWithin self.old packed.now }
         requires asks { AsksThere image.now self.old packed.now t request }
         ensures more { OnOk result (IsMore self.old found.old.items self.new found.new.items) }
+        ensures why { IfOk result (λ o. IfSome o (IsWhy self.new packed.now)) }
         ensures reaches { IfOk result (λ o. o ≡ None → (here : Thread)
             → thread_at self.new.locals.items packed.now.parts.items t ≡ Some here
             → ReachesAt image.now self.new packed.now found.new.items t
@@ -149,7 +154,7 @@ impl Parts {
             (after_answer (look image.now t here) 4294967295 here)) }
     {
         match self.thread(packed, k) {
-            None => Ok(Some(Bound::Foreign)),
+            None => unreachable!(),
             Some(local) => {
                 scratch.look_at(local);
                 self.push_answer(
@@ -184,32 +189,32 @@ impl Parts {
         found: &mut Vec<Next>,
     ) -> Result<Option<Bound>, AllocError>
         requires number { t ≡ suc k }
+        requires made { k < length packed.now.parts.items }
         requires within { IsWithin self.old packed.now }
         requires asks { AsksThere image.now self.old packed.now t request }
+        requires from { from.0 < 4294967295 }
+        requires to { to.0 < 4294967295 }
         ensures more { OnOk result (IsMore self.old found.old.items self.new found.new.items) }
+        ensures why { IfOk result (λ o. IfSome o (IsWhy self.new packed.now)) }
         ensures done { IfOk result (λ o. o ≡ None
             → RequeuesDone image.now self.new packed.now found.new.items t from.0 to.0 wake most) }
     {
-        match packed.sleepers_on(alloc, from)? {
-            None => Ok(Some(Bound::Foreign)),
-            Some(sleepers) => {
-                self.requeue_of(
-                    alloc,
-                    image,
-                    packed,
-                    k,
-                    t,
-                    request,
-                    from,
-                    to,
-                    wake,
-                    most,
-                    sleepers.as_slice(),
-                    scratch,
-                    found,
-                )
-            }
-        }
+        let sleepers = packed.sleepers_on(alloc, from)?;
+        self.requeue_of(
+            alloc,
+            image,
+            packed,
+            k,
+            t,
+            request,
+            from,
+            to,
+            wake,
+            most,
+            sleepers.as_slice(),
+            scratch,
+            found,
+        )
     }
 
     // The same where these sleep there.
@@ -230,10 +235,14 @@ impl Parts {
         found: &mut Vec<Next>,
     ) -> Result<Option<Bound>, AllocError>
         requires number { t ≡ suc k }
+        requires made { k < length packed.now.parts.items }
         requires within { IsWithin self.old packed.now }
         requires asks { AsksThere image.now self.old packed.now t request }
         requires sleepers { AreSleepers packed.now.places.items (suc from.0) sleepers.now }
+        requires from { from.0 < 4294967295 }
+        requires to { to.0 < 4294967295 }
         ensures more { OnOk result (IsMore self.old found.old.items self.new found.new.items) }
+        ensures why { IfOk result (λ o. IfSome o (IsWhy self.new packed.now)) }
         ensures done { IfOk result (λ o. o ≡ None
             → RequeuesDone image.now self.new packed.now found.new.items t from.0 to.0 wake most) }
     {
@@ -278,9 +287,16 @@ impl Parts {
         found: &mut Vec<Next>,
     ) -> Result<Option<Bound>, AllocError>
         requires number { t ≡ suc k }
+        requires made { k < length packed.now.parts.items }
         requires within { IsWithin self.old packed.now }
         requires asks { AsksThere image.now self.old packed.now t request }
+        requires from { from.0 < 4294967295 }
+        requires to { to.0 < 4294967295 }
+        requires size { size ≤ 1000 }
+        requires mids { (mid : NextOf) → Contains mids.now mid
+            → IsPlacedSome packed.now 0 mid.state }
         ensures more { OnOk result (IsMore self.old found.old.items self.new found.new.items) }
+        ensures why { IfOk result (λ o. IfSome o (IsWhy self.new packed.now)) }
         ensures done { IfOk result (λ o. o ≡ None → (mid : NextOf) → Contains mids.now mid
             → MidDone image.now self.new packed.now mid.state found.new.items t
             from.0 to.0 most size) }
@@ -315,38 +331,36 @@ impl Parts {
         found: &mut Vec<Next>,
     ) -> Result<Option<Bound>, AllocError>
         requires number { t ≡ suc k }
+        requires made { k < length packed.now.parts.items }
         requires within { IsWithin self.old packed.now }
         requires asks { AsksThere image.now self.old packed.now t request }
+        requires from { from.0 < 4294967295 }
+        requires to { to.0 < 4294967295 }
+        requires size { size ≤ 1000 }
+        requires mid { IsPlacedSome packed.now 0 mid.now }
         ensures more { OnOk result (IsMore self.old found.old.items self.new found.new.items) }
-        ensures within { IfOk result (λ o. o ≡ None → IsWithin self.old mid.now) }
+        ensures why { IfOk result (λ o. IfSome o (IsWhy self.new packed.now)) }
         ensures done { IfOk result (λ o. o ≡ None
             → MidDone image.now self.new packed.now mid.now found.new.items t
             from.0 to.0 most size) }
     {
-        if !self.is_within(mid) {
-            return Ok(Some(Bound::Foreign));
-        }
-        match mid.sleepers_on(alloc, from)? {
-            None => Ok(Some(Bound::Foreign)),
-            Some(sleepers) => {
-                self.requeue_to(
-                    alloc,
-                    image,
-                    packed,
-                    k,
-                    t,
-                    request,
-                    from,
-                    to,
-                    most,
-                    size,
-                    mid,
-                    sleepers.as_slice(),
-                    scratch,
-                    found,
-                )
-            }
-        }
+        let sleepers = mid.sleepers_on(alloc, from)?;
+        self.requeue_to(
+            alloc,
+            image,
+            packed,
+            k,
+            t,
+            request,
+            from,
+            to,
+            most,
+            size,
+            mid,
+            sleepers.as_slice(),
+            scratch,
+            found,
+        )
     }
 
     // The same where these sleep there.
@@ -368,24 +382,24 @@ impl Parts {
         found: &mut Vec<Next>,
     ) -> Result<Option<Bound>, AllocError>
         requires number { t ≡ suc k }
+        requires made { k < length packed.now.parts.items }
         requires within { IsWithin self.old packed.now }
         requires asks { AsksThere image.now self.old packed.now t request }
-        requires mid { IsWithin self.old mid.now }
+        requires mid { IsPlacedSome packed.now 0 mid.now }
         requires sleepers { AreSleepers mid.now.places.items (suc from.0) sleepers.now }
+        requires to { to.0 < 4294967295 }
+        requires size { size ≤ 1000 }
         ensures more { OnOk result (IsMore self.old found.old.items self.new found.new.items) }
+        ensures why { IfOk result (λ o. IfSome o (IsWhy self.new packed.now)) }
         ensures done { IfOk result (λ o. o ≡ None
             → MidDone image.now self.new packed.now mid.now found.new.items t
             from.0 to.0 most size) }
     {
         let moved = chosen_of(most, sleepers.len());
-        let Some(answer) = number_of(size, moved) else {
-            return Ok(Some(Bound::Foreign));
-        };
-        let Some(place) = to.0.checked_add(1) else {
-            return Ok(Some(Bound::Foreign));
-        };
+        let answer = number_of(size, moved);
+        let place = to.0 + 1;
         match self.thread(packed, k) {
-            None => Ok(Some(Bound::Foreign)),
+            None => unreachable!(),
             Some(local) => {
                 scratch.look_at(local);
                 scratch.here.go_on(image, t, answer);

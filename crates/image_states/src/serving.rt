@@ -1,12 +1,13 @@
-ghost use Rattle.std.specs.Prelude.{◌≡◌, ◌≤◌, ◌<◌, suc, None, Some, IfOk, IfSome, OnOk, MatchOption, length, slice_index, slice_set, Ok};
+ghost use Rattle.std.specs.Prelude.{◌≡◌, ◌≤◌, ◌<◌, suc, None, Some, IfNone, IfOk, IfSome, OnOk, MatchOption, length, slice_index, slice_set, Ok};
 ghost use Rattle.std.specs.List.{slice_get};
 ghost use Rattle.locals.specs.Looks.{look};
 ghost use Rattle.locals.specs.Requests.{after_answer, next_step_of, CanBeAnswered};
 ghost use Rattle.locals.specs.declared.request.NextStep.TheVariants as step;
-ghost use Rattle.image_states.specs.Packed.{asleep_at, thread_at, words_in, IsGrown, IsWithin};
+ghost use Rattle.image_states.specs.Packed.{asleep_at, thread_at, words_in, IsGrown, IsOutOfNumbers, IsWithin};
 ghost use Rattle.std.specs.Prelude.{option_map};
 ghost use Rattle.image_states.specs.Accesses.{access_of, access_answer, word_after};
 ghost use Rattle.image_states.specs.Nexts.{IsBase, IsMore, MovesTo, ReachesAt};
+ghost use Rattle.image_states.specs.Reasons.{IsWhy};
 
 use crate::bound::Bound;
 use crate::next::{Doing, Next, push_next};
@@ -54,15 +55,17 @@ impl Parts {
         memory: u32,
         scratch: &mut Scratch,
     ) -> Result<Option<Packed>, AllocError>
-        requires { t ≡ suc k }
+        requires number { t ≡ suc k }
+        requires made { k < length packed.now.parts.items }
         ensures grown { OnOk result (IsGrown self.old self.new) }
+        ensures full { IfOk result (λ o. IfNone o (IsOutOfNumbers self.new)) }
         ensures stands { IfOk result (λ o. IfSome o
             (IsBase image.now self.new packed.now k memory scratch.old.here)) }
     {
         scratch.run_on(image, t);
         match self.local_number(alloc, image, t, &scratch.here)? {
             None => Ok(None),
-            Some(part) => packed.moved(alloc, k, memory, part),
+            Some(part) => Ok(Some(packed.moved(alloc, k, memory, part)?)),
         }
     }
 
@@ -79,9 +82,11 @@ impl Parts {
         found: &mut Vec<Next>,
     ) -> Result<Option<Bound>, AllocError>
         requires number { t ≡ suc k }
+        requires made { k < length packed.now.parts.items }
         requires within { IsWithin self.old packed.now }
         requires memory { memory < length self.old.memories.items }
         ensures more { OnOk result (IsMore self.old found.old.items self.new found.new.items) }
+        ensures why { IfOk result (λ o. IfSome o (IsWhy self.new packed.now)) }
         ensures reaches { IfOk result (λ o. o ≡ None
             → ReachesAt image.now self.new packed.now found.new.items t
             (words_in self.new.memories.items memory)
@@ -110,10 +115,12 @@ impl Parts {
         found: &mut Vec<Next>,
     ) -> Result<Option<Bound>, AllocError>
         requires number { t ≡ suc k }
+        requires made { k < length packed.now.parts.items }
         requires within { IsWithin self.old packed.now }
         requires memory { memory < length self.old.memories.items }
         requires answers { CanBeAnswered (look image.now t scratch.old.here) answer }
         ensures more { OnOk result (IsMore self.old found.old.items self.new found.new.items) }
+        ensures why { IfOk result (λ o. IfSome o (IsWhy self.new packed.now)) }
         ensures reaches { IfOk result (λ o. o ≡ None
             → ReachesAt image.now self.new packed.now found.new.items t
             (words_in self.new.memories.items memory) (asleep_at packed.now.places.items)
@@ -138,9 +145,12 @@ impl Parts {
         found: &mut Vec<Next>,
     ) -> Result<Option<Bound>, AllocError>
         requires number { t ≡ suc k }
+        requires made { k < length packed.now.parts.items }
         requires within { IsWithin self.old packed.now }
         requires answers { CanBeAnswered (look image.now t scratch.old.here) answer }
+        requires lies { a.0 < length (words_in self.old.memories.items packed.now.memory) }
         ensures more { OnOk result (IsMore self.old found.old.items self.new found.new.items) }
+        ensures why { IfOk result (λ o. IfSome o (IsWhy self.new packed.now)) }
         ensures reaches { IfOk result (λ o. o ≡ None
             → ReachesAt image.now self.new packed.now found.new.items t
             (slice_set (words_in self.new.memories.items packed.now.memory) a.0 v)
@@ -215,10 +225,12 @@ impl Parts {
         found: &mut Vec<Next>,
     ) -> Result<Option<Bound>, AllocError>
         requires number { t ≡ suc k }
+        requires made { k < length packed.now.parts.items }
         requires within { IsWithin self.old packed.now }
         requires asks { next_step_of (look image.now t scratch.old.here) ≡ step.Shared request }
         requires access { access_of request ≡ Some a.0 }
         ensures more { OnOk result (IsMore self.old found.old.items self.new found.new.items) }
+        ensures why { IfOk result (λ o. IfSome o (IsWhy self.new packed.now)) }
         ensures moves { IfOk result (λ o. o ≡ None
             → MovesTo image.now self.new packed.now found.new.items t scratch.old.here) }
     {
@@ -245,10 +257,12 @@ impl Parts {
         found: &mut Vec<Next>,
     ) -> Result<Option<Bound>, AllocError>
         requires number { t ≡ suc k }
+        requires made { k < length packed.now.parts.items }
         requires within { IsWithin self.old packed.now }
         requires asks { next_step_of (look image.now t scratch.old.here)
             ≡ step.Shared (Request.Print number) }
         ensures more { OnOk result (IsMore self.old found.old.items self.new found.new.items) }
+        ensures why { IfOk result (λ o. IfSome o (IsWhy self.new packed.now)) }
         ensures moves { IfOk result (λ o. o ≡ None
             → MovesTo image.now self.new packed.now found.new.items t scratch.old.here) }
     {
@@ -268,11 +282,13 @@ impl Parts {
         found: &mut Vec<Next>,
     ) -> Result<Option<Bound>, AllocError>
         requires number { t ≡ suc k }
+        requires made { k < length packed.now.parts.items }
         requires within { IsWithin self.old packed.now }
         requires stands { thread_at self.old.locals.items packed.now.parts.items t
             ≡ Some scratch.old.here }
         requires asks { next_step_of (look image.now t scratch.old.here) ≡ step.Shared request }
         ensures more { OnOk result (IsMore self.old found.old.items self.new found.new.items) }
+        ensures why { IfOk result (λ o. IfSome o (IsWhy self.new packed.now)) }
         ensures moves { IfOk result (λ o. o ≡ None
             → MovesTo image.now self.new packed.now found.new.items t scratch.old.here) }
     {
@@ -303,7 +319,7 @@ impl Parts {
             Request::Return => self.end(alloc, image, packed, k, t, scratch, found),
             Request::ReturnValue(v) => self.end_with(alloc, image, packed, k, t, v, scratch, found),
             Request::Fault(cause) => self.die(alloc, image, packed, k, t, cause, scratch, found),
-            _ => Ok(Some(Bound::Foreign)),
+            _ => unreachable!(),
         }
     }
 }

@@ -1,8 +1,10 @@
-ghost use Rattle.std.specs.Prelude.{◌≡◌, ◌≤◌, ◌<◌, ◌+◌, suc, None, Some, IfOk, IfSome, OnOk, length, IfNone, ◌^◌, All, true, ◌∷◌, []};
+ghost use Rattle.std.specs.Prelude.{◌≡◌, ◌≤◌, ◌<◌, ◌+◌, suc, None, Some, IfOk, IfSome, MatchBool, OnOk, length, IfNone, ◌^◌, All, true, ◌∷◌, []};
 ghost use Rattle.image_states.specs.Packed.{asleep_at, thread_at, IsGrown, IsPrefix, IsWithin};
 ghost use Rattle.buckets.specs.Places.{with_place};
 ghost use Rattle.isa.specs.Programs.{Program};
 ghost use Rattle.image_states.specs.Choosing.{HasKilled};
+ghost use Rattle.image_states.specs.Reasons.{IsWhy};
+ghost use Rattle.image_states.specs.Room.{AreThreads};
 ghost use Rattle.image_states.specs.Nexts.{may_of, AreNexts, IsDone, IsMore, KillDone, MovesTo, OwnDone, StrayDone};
 
 use crate::bound::Bound;
@@ -23,18 +25,16 @@ fn push_killed(
     t: u32,
     killed: u32,
     found: &mut Vec<Next>,
-) -> Result<Option<Bound>, AllocError>
+) -> Result<(), AllocError>
+    requires { AreThreads (length packed.now.places.items) (t ∷ []) }
     ensures longer { OnOk result (IsPrefix found.old.items found.new.items) }
-    ensures killed { IfOk result (λ o. o ≡ None → HasKilled packed.now found.new.items
+    ensures killed { OnOk result (HasKilled packed.now found.new.items
         (with_place (asleep_at packed.now.places.items) (t ∷ []) None) killed) }
 {
-    let Some(placed) = placed(alloc, packed, &[t], 0)? else {
-        return Ok(Some(Bound::Foreign));
-    };
-    let mut state = placed;
+    let mut state = placed(alloc, packed, &[t], 0)?;
     state.killed = killed;
     push_next(found, state, t, Doing::Kill)?;
-    Ok(None)
+    Ok(())
 }
 
 impl Parts {
@@ -50,10 +50,12 @@ impl Parts {
         found: &mut Vec<Next>,
     ) -> Result<Option<Bound>, AllocError>
         requires number { t ≡ suc k }
+        requires made { k < length packed.now.parts.items }
         requires within { IsWithin self.old packed.now }
         requires stands { thread_at self.old.locals.items packed.now.parts.items t
             ≡ Some scratch.old.here }
         ensures more { OnOk result (IsMore self.old found.old.items self.new found.new.items) }
+        ensures why { IfOk result (λ o. IfSome o (IsWhy self.new packed.now)) }
         ensures moves { IfOk result (λ o. o ≡ None
             → MovesTo image.now self.new packed.now found.new.items t scratch.old.here) }
     {
@@ -91,6 +93,7 @@ impl Parts {
         requires number { t ≡ suc k }
         requires within { IsWithin self.old packed.now }
         ensures more { OnOk result (IsMore self.old found.old.items self.new found.new.items) }
+        ensures why { IfOk result (λ o. IfSome o (IsWhy self.new packed.now)) }
         ensures done { IfOk result (λ o. o ≡ None
             → OwnDone image.now self.new packed.now found.new.items t) }
     {
@@ -118,18 +121,19 @@ impl Parts {
         t: u32,
         strays: bool,
         found: &mut Vec<Next>,
-    ) -> Result<Option<Bound>, AllocError>
+    ) -> Result<(), AllocError>
         requires number { t ≡ suc k }
+        requires made { k < length packed.now.parts.items }
         requires within { IsWithin self.now packed.now }
         ensures longer { OnOk result (IsPrefix found.old.items found.new.items) }
-        ensures done { IfOk result (λ o. o ≡ None → strays ≡ true → (p : Program)
+        ensures done { OnOk result (strays ≡ true → (p : Program)
             → StrayDone p self.now packed.now found.new.items t) }
     {
         if !strays {
-            return Ok(None);
+            return Ok(());
         }
         if packed.place(k) == 0 {
-            return Ok(None);
+            return Ok(());
         }
         push_placed(alloc, packed, &[t], 0, t, Doing::Stray, found)
     }
@@ -147,8 +151,10 @@ impl Parts {
         found: &mut Vec<Next>,
     ) -> Result<Option<Bound>, AllocError>
         requires number { t ≡ suc k }
+        requires made { k < length packed.now.parts.items }
         requires within { IsWithin self.old packed.now }
         ensures more { OnOk result (IsMore self.old found.old.items self.new found.new.items) }
+        ensures why { IfOk result (λ o. IfSome o (IsWhy self.new packed.now)) }
         ensures done { IfOk result (λ o. o ≡ None → packed.now.killed < kills
             → KillDone image.now self.new packed.now found.new.items t) }
     {
@@ -179,18 +185,22 @@ impl Parts {
         found: &mut Vec<Next>,
     ) -> Result<Option<Bound>, AllocError>
         requires number { t ≡ suc k }
+        requires made { k < length packed.now.parts.items }
         requires within { IsWithin self.old packed.now }
+        requires room { packed.now.killed < 4294967295 }
         ensures more { OnOk result (IsMore self.old found.old.items self.new found.new.items) }
+        ensures why { IfOk result (λ o. IfSome o (IsWhy self.new packed.now)) }
         ensures done { IfOk result (λ o. o ≡ None
             → KillDone image.now self.new packed.now found.new.items t) }
     {
-        let Some(killed) = packed.killed.checked_add(1) else {
-            return Ok(Some(Bound::Foreign));
-        };
+        let killed = packed.killed + 1;
         scratch.here.kill();
         match self.stand(alloc, image, packed, k, t, packed.memory, scratch)? {
             None => Ok(Some(Bound::Parts)),
-            Some(state) => push_killed(alloc, &state, t, killed, found),
+            Some(state) => {
+                push_killed(alloc, &state, t, killed, found)?;
+                Ok(None)
+            }
         }
     }
 
@@ -205,22 +215,21 @@ impl Parts {
         scratch: &mut Scratch,
         found: &mut Vec<Next>,
     ) -> Result<Option<Bound>, AllocError>
-        requires { IsWithin self.old packed.now }
+        requires made { k < length packed.now.parts.items }
+        requires within { IsWithin self.old packed.now }
         ensures more { OnOk result (IsMore self.old found.old.items self.new found.new.items) }
+        ensures why { IfOk result (λ o. IfSome o (IsWhy self.new packed.now)) }
         ensures done { IfOk result (λ o. o ≡ None
             → IsDone image.now (may_of outside) self.new packed.now found.new.items (suc k)) }
     {
         let Some(t) = thread_number(k) else {
-            return Ok(Some(Bound::Foreign));
+            unreachable!()
         };
         let own = self.own_nexts(alloc, image, packed, k, t, scratch, found)?;
         if own.is_some() {
             return Ok(own);
         }
-        let stray = self.stray_nexts(alloc, packed, k, t, outside.strays, found)?;
-        if stray.is_some() {
-            return Ok(stray);
-        }
+        self.stray_nexts(alloc, packed, k, t, outside.strays, found)?;
         self.kill_nexts(alloc, image, packed, k, t, outside.kills, scratch, found)
     }
 
@@ -238,17 +247,15 @@ impl Parts {
     ) -> Result<Option<Bound>, AllocError>
         requires { IsWithin self.old packed.now }
         ensures grown { OnOk result (IsGrown self.old self.new) }
+        ensures why { IfOk result (λ o. IfSome o (IsWhy self.new packed.now)) }
         ensures nexts { IfOk result (λ o. o ≡ None
             → AreNexts image.now (may_of outside) self.new packed.now found.new.items) }
     {
         found.clear();
-        if packed.places.len() > packed.parts.len() {
-            return Ok(Some(Bound::Foreign));
-        }
         self.nexts_of(alloc, image, packed, outside, scratch, found)
     }
 
-    // The same of a state in which nobody sleeps who wasn't made.
+    // The same behind what is found.
     fn nexts_of(
         &mut self,
         alloc: Global,
@@ -258,9 +265,9 @@ impl Parts {
         scratch: &mut Scratch,
         found: &mut Vec<Next>,
     ) -> Result<Option<Bound>, AllocError>
-        requires within { IsWithin self.old packed.now }
-        requires made { length packed.now.places.items ≤ length packed.now.parts.items }
+        requires { IsWithin self.old packed.now }
         ensures grown { OnOk result (IsGrown self.old self.new) }
+        ensures why { IfOk result (λ o. IfSome o (IsWhy self.new packed.now)) }
         ensures nexts { IfOk result (λ o. o ≡ None
             → AreNexts image.now (may_of outside) self.new packed.now found.new.items) }
     {
@@ -275,12 +282,24 @@ impl Parts {
 }
 
 impl Parts {
-    /// Whether the parts of a state are there.
+    /// Whether the parts of a state are there, each thread sleeps at a place or is awake, and there are no more threads than
+    /// there may be.
     pub fn is_within(&self, packed: &Packed) -> bool
-        ensures { result ≡ true → IsWithin self.now packed.now }
+        ensures { MatchBool result (IsWithin self.now packed.now)
+            (IsWithin self.now packed.now → ⊥) }
     {
-        self.has_memory_number(packed.memory)
-            && are_less(packed.parts.as_slice(), self.local_count())
+        let count = packed.parts.len();
+        if packed.places.len() != count {
+            return false;
+        }
+        let most = self.most_threads() as usize;
+        if count > most {
+            return false;
+        }
+        if !self.has_memory_number(packed.memory) {
+            return false;
+        }
+        are_less(packed.parts.as_slice(), self.local_count())
     }
 }
 
@@ -297,7 +316,8 @@ pub fn thread_number(k: usize) -> Option<u32>
 
 // Whether each of these numbers is less than another.
 fn are_less(numbers: &[u32], count: usize) -> bool
-    ensures { result ≡ true → All (λ n. n < count) numbers.now }
+    ensures { MatchBool result (All (λ n. n < count) numbers.now)
+        (All (λ n. n < count) numbers.now → ⊥) }
 {
     for number in numbers {
         if *number as usize >= count {

@@ -1,7 +1,10 @@
-ghost use Rattle.std.specs.Prelude.{◌≡◌, ◌<◌, ℕ, List, None, Some, IfOk, OnOk, length, Contains};
+ghost use Rattle.std.specs.Prelude.{◌≡◌, ◌≤◌, ℕ, All, List, None, IfOk, IfSome, OnOk, length, Contains};
 ghost use Rattle.buckets.specs.Places.{with_place};
 ghost use Rattle.image_states.specs.Packed.{IsPrefix, asleep_at, place_of};
-ghost use Rattle.image_states.specs.Choosing.{AreChosen, AreSleepers, HasPlaced, chosen_of, lists_in};
+ghost use Rattle.image_states.specs.Choosing.{AddsPlaced, AreChosen, AreSleepers, HasPlaced, chosen_of, lists_in};
+ghost use Rattle.image_states.specs.Reasons.{IsWhyAmong};
+ghost use Rattle.image_states.specs.Room.{AreThreads};
+ghost use Rattle.image_states.specs.declared.parts.Parts.{Parts as PartsOf};
 
 use crate::bound::Bound;
 use crate::each_set::sets;
@@ -11,7 +14,9 @@ use std::alloc::{AllocError, Global};
 
 // How many of so many sleepers are chosen, where so many may be.
 pub(crate) fn chosen_of(most: u32, sleepers: usize) -> usize
-    ensures { result ≡ chosen_of most sleepers }
+    ensures is { result ≡ chosen_of most sleepers }
+    ensures most { result ≤ most }
+    ensures few { result ≤ sleepers }
 {
     if most as usize <= sleepers {
         most as usize
@@ -29,16 +34,16 @@ pub(crate) fn push_placed(
     thread: u32,
     doing: Doing,
     found: &mut Vec<Next>,
-) -> Result<Option<Bound>, AllocError>
+) -> Result<(), AllocError>
+    requires { AreThreads (length packed.now.places.items) chosen.now }
     ensures longer { OnOk result (IsPrefix found.old.items found.new.items) }
-    ensures placed { IfOk result (λ o. o ≡ None → HasPlaced packed.now found.new.items
+    ensures placed { OnOk result (HasPlaced packed.now found.new.items
         (with_place (asleep_at packed.now.places.items) chosen.now (place_of to))) }
+    ensures adds { OnOk result (AddsPlaced packed.now to found.old.items found.new.items) }
 {
-    let Some(state) = placed(alloc, packed, chosen, to)? else {
-        return Ok(Some(Bound::Foreign));
-    };
+    let state = placed(alloc, packed, chosen, to)?;
     push_next(found, state, thread, doing)?;
-    Ok(None)
+    Ok(())
 }
 
 // The same where there are so many of these threads.
@@ -50,14 +55,16 @@ fn push_set(
     to: u32,
     thread: u32,
     found: &mut Vec<Next>,
-) -> Result<Option<Bound>, AllocError>
+) -> Result<(), AllocError>
+    requires { AreThreads (length packed.now.places.items) chosen.now }
     ensures longer { OnOk result (IsPrefix found.old.items found.new.items) }
-    ensures placed { IfOk result (λ o. o ≡ None → length chosen.now ≡ size
+    ensures placed { OnOk result (length chosen.now ≡ size
         → HasPlaced packed.now found.new.items
         (with_place (asleep_at packed.now.places.items) chosen.now (place_of to))) }
+    ensures adds { OnOk result (AddsPlaced packed.now to found.old.items found.new.items) }
 {
     if chosen.len() != size {
-        return Ok(None);
+        return Ok(());
     }
     push_placed(alloc, packed, chosen, to, thread, Doing::Own, found)
 }
@@ -71,23 +78,22 @@ fn push_sets(
     to: u32,
     thread: u32,
     found: &mut Vec<Next>,
-) -> Result<Option<Bound>, AllocError>
+) -> Result<(), AllocError>
+    requires { All (AreThreads (length packed.now.places.items)) (lists_in lists.now) }
     ensures longer { OnOk result (IsPrefix found.old.items found.new.items) }
-    ensures each { IfOk result (λ o. o ≡ None → (chosen : List ℕ)
-        → Contains (lists_in lists.now) chosen
+    ensures each { OnOk result ((chosen : List ℕ) → Contains (lists_in lists.now) chosen
         → length chosen ≡ size → HasPlaced packed.now found.new.items
         (with_place (asleep_at packed.now.places.items) chosen (place_of to))) }
+    ensures adds { OnOk result (AddsPlaced packed.now to found.old.items found.new.items) }
 {
     for list in lists {
-        let bound = push_set(alloc, packed, list.as_slice(), size, to, thread, found)?;
-        if bound.is_some() {
-            return Ok(bound);
-        }
+        push_set(alloc, packed, list.as_slice(), size, to, thread, found)?;
     }
-    Ok(None)
+    Ok(())
 }
 
-// The state with each choice of so many of those that sleep at a place, which are these, at another comes next.
+// The state with each choice of so many of those that sleep at a place, which are these, at another comes next; else answers
+// that there are too many.
 pub(crate) fn push_choices(
     alloc: Global,
     packed: &Packed,
@@ -97,15 +103,20 @@ pub(crate) fn push_choices(
     thread: u32,
     found: &mut Vec<Next>,
 ) -> Result<Option<Bound>, AllocError>
+    requires { AreThreads (length packed.now.places.items) sleepers.now }
     ensures longer { OnOk result (IsPrefix found.old.items found.new.items) }
     ensures each { IfOk result (λ o. o ≡ None → (place : ℕ)
         → AreSleepers packed.now.places.items place sleepers.now
         → (chosen : List ℕ) → AreChosen packed.now.places.items place size chosen
         → HasPlaced packed.now found.new.items
         (with_place (asleep_at packed.now.places.items) chosen (place_of to))) }
+    ensures adds { OnOk result (AddsPlaced packed.now to found.old.items found.new.items) }
+    ensures why { IfOk result (λ o. IfSome o
+        (λ why. (parts : PartsOf) → IsWhyAmong parts sleepers.now why)) }
 {
     let Some(lists) = sets(alloc, sleepers)? else {
         return Ok(Some(Bound::Sleepers));
     };
-    push_sets(alloc, packed, lists.as_slice(), size, to, thread, found)
+    push_sets(alloc, packed, lists.as_slice(), size, to, thread, found)?;
+    Ok(None)
 }

@@ -3,8 +3,8 @@ use Rattle.image_search.specs.Kept.{IsApartIn}
 use Rattle.image_search.proofs.Flagging.{holds_at}
 use Rattle.image_search.proofs.apart.is_apart_at.Goals as goal
 
-pub returns-in-Some : goal.returns-in-Some
-returns-in-Some c = λ e.
+pub returns-in-Some-clause-apart : goal.returns-in-Some-clause-apart
+returns-in-Some-clause-apart c = λ e.
     let p = c.args.image.now in
     let kept = c.args.kept.now in
     let x = c.in-Some.packed.now in

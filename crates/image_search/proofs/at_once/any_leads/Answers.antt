@@ -1,15 +1,11 @@
-use Rattle.image_search.proofs.Flagging.{made_still, still_none, still_twice}
+use Rattle.image_search.proofs.Flagging.{still_none, still_twice}
 use Rattle.image_search.proofs.at_once.any_leads.Goals as goal
 
 pub loop-k-init : goal.loop-k-init
 loop-k-init c = record { sound = c.requires.sound; still = still_none c.args.kept.now }
 
-pub thread_leads-requires-clause-sound : goal.thread_leads-requires-clause-sound
-thread_leads-requires-clause-sound c = c.loop-k.invariant.sound
-
-pub thread_leads-requires-clause-made : goal.thread_leads-requires-clause-made
-thread_leads-requires-clause-made c =
-    made_still c.args.image.now c.args.kept.now c.loop-k.kept c.loop-k.invariant.still c.requires.made
+pub thread_leads-requires : goal.thread_leads-requires
+thread_leads-requires c = record { sound = c.loop-k.invariant.sound }
 
 pub returns-then-branch-clause-still : goal.returns-then-branch-clause-still
 returns-then-branch-clause-still c = still_twice c.args.kept.now c.loop-k.kept c.thread_leads.new.kept

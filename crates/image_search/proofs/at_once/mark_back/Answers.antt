@@ -1,4 +1,4 @@
-use Rattle.image_search.proofs.Flagging.{made_still, still_none, still_twice}
+use Rattle.image_search.proofs.Flagging.{still_none, still_twice}
 use Rattle.image_search.proofs.at_once.mark_back.Goals as goal
 
 pub loop-behind-init : goal.loop-behind-init
@@ -10,10 +10,6 @@ loop-behind-init c = record {
 
 pub mark_for_all-requires-clause-sound : goal.mark_for_all-requires-clause-sound
 mark_for_all-requires-clause-sound c = c.loop-behind.invariant.sound
-
-pub mark_for_all-requires-clause-made : goal.mark_for_all-requires-clause-made
-mark_for_all-requires-clause-made c =
-    made_still c.args.image.now c.args.kept.now c.loop-behind.kept c.loop-behind.invariant.still c.requires.made
 
 pub mark_for_all-requires-clause-known : goal.mark_for_all-requires-clause-known
 mark_for_all-requires-clause-known c = c.loop-behind.invariant.known

@@ -1,4 +1,4 @@
-use Rattle.image_search.proofs.Flagging.{made_still, still_none, still_twice}
+use Rattle.image_search.proofs.Flagging.{still_none, still_twice}
 use Rattle.image_search.proofs.at_once.mark_often.Goals as goal
 
 pub loop-init : goal.loop-init
@@ -6,10 +6,6 @@ loop-init c = record { sound = c.requires.sound; still = still_none c.args.kept.
 
 pub mark_back-requires-clause-sound : goal.mark_back-requires-clause-sound
 mark_back-requires-clause-sound c = c.loop.invariant.sound
-
-pub mark_back-requires-clause-made : goal.mark_back-requires-clause-made
-mark_back-requires-clause-made c =
-    made_still c.args.image.now c.args.kept.now c.loop.kept c.loop.invariant.still c.requires.made
 
 pub mark_back-requires-clause-known : goal.mark_back-requires-clause-known
 mark_back-requires-clause-known c = c.loop.invariant.known

@@ -1,6 +1,6 @@
 use Rattle.std.proofs.Common.{◌∙◌, ◌==◌, ap, sym}
 use Rattle.machine.specs.Views.{address_of}
-use Rattle.image_search.specs.Crowds.{counted}
+use Rattle.image_states.specs.Crowds.{counted}
 use Rattle.image_search.proofs.Crowding.{counted_by, few_by}
 use Rattle.image_search.proofs.crowds.counted.Goals as goal
 

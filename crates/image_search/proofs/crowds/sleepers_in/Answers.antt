@@ -1,7 +1,7 @@
 use Rattle.std.proofs.Common.{◌∙◌, ap, arith}
 use Rattle.machine.specs.States.{state_of}
 use Rattle.machine.specs.Views.{concrete}
-use Rattle.image_search.specs.Crowds.{counted}
+use Rattle.image_states.specs.Crowds.{counted}
 use Rattle.image_search.proofs.Crowding.{one_more}
 use Rattle.image_search.proofs.crowds.sleepers_in.Goals as goal
 

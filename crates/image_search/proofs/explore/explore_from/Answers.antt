@@ -49,3 +49,7 @@ sleeping_behind-requires-clause-complete g c = λ e.
 
 pub sleeping_behind-requires-clause-sound : goal.sleeping_behind-requires-clause-sound
 sleeping_behind-requires-clause-sound g c = c.in_ok-ending.ensures.sound
+
+pub returns-in_default-2-clause-alone : goal.returns-in_default-2-clause-alone
+returns-in_default-2-clause-alone g c =
+    sym c.in_ok-bound.ensures.alone ∙ (rw c.in_default-2.is at c.in_ok-ending.ensures.alone)

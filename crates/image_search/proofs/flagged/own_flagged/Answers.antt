@@ -1,4 +1,4 @@
-use Rattle.std.proofs.Common.{◌≡◌, All, Some, slice_get, subst}
+use Rattle.std.proofs.Common.{◌≡◌, All, Some, slice_get, subst, ◌<◌, arith, length, sym}
 use Rattle.image_states.specs.Nexts.{OwnDone}
 use Rattle.image_states.specs.declared.packed.Packed.{Packed as PackedOf}
 use Rattle.image_states.proofs.Listing.{is_none}
@@ -38,3 +38,11 @@ returns-clause-leads c = λ e.
     (own_leads p kept' c.args.flags.now c.args.place c.in-Some.t at.0 found at.1 at.2
     (subst (All (λ (next : NextOf). IsFlagged kept' c.args.flags.now next.state)) c.as_slice-2.ensures.value
     (c.has_all_flagged-all.ensures e)))
+
+pub returns-then-place-len-clause-still : goal.returns-then-place-len-clause-still
+returns-then-place-len-clause-still c = still_none c.args.kept.now
+
+pub own_nexts_at-requires-clause-place : goal.own_nexts_at-requires-clause-place
+own_nexts_at-requires-clause-place c =
+    subst (λ xs. c.args.place < length xs) (sym c.as_slice.ensures.value)
+    (omega (arith, c.if-place-len.false, c.len.ensures, c.args.kept.now.states.ok.0))

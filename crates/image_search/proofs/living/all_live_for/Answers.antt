@@ -1,6 +1,6 @@
 use Rattle.std.proofs.Common.{arith, below_more, suc}
 use Rattle.image_search.specs.Living.{AllWakened}
-use Rattle.image_search.proofs.Flagging.{made_still, still_none, still_twice, wakened_still}
+use Rattle.image_search.proofs.Flagging.{still_none, still_twice, wakened_still}
 use Rattle.image_search.proofs.living.all_live_for.Goals as goal
 
 pub loop-k-init : goal.loop-k-init
@@ -10,12 +10,8 @@ loop-k-init c = record {
   wakened = λ j less. absurd (omega (arith, less));
 }
 
-pub all_live-requires-clause-sound : goal.all_live-requires-clause-sound
-all_live-requires-clause-sound c = c.loop-k.invariant.sound
-
-pub all_live-requires-clause-made : goal.all_live-requires-clause-made
-all_live-requires-clause-made c =
-    made_still c.args.image.now c.args.kept.now c.loop-k.kept c.loop-k.invariant.still c.requires.made
+pub all_live-requires : goal.all_live-requires
+all_live-requires c = record { sound = c.loop-k.invariant.sound }
 
 pub returns-then-not-branch-clause-still : goal.returns-then-not-branch-clause-still
 returns-then-not-branch-clause-still c =

@@ -1,4 +1,4 @@
-use Rattle.image_search.proofs.Flagging.{made_still, still_none, still_twice}
+use Rattle.image_search.proofs.Flagging.{still_none, still_twice}
 use Rattle.image_search.proofs.living.mark_all.Goals as goal
 
 pub loop-place-init : goal.loop-place-init
@@ -10,10 +10,6 @@ loop-place-init c = record {
 
 pub mark-requires-clause-sound : goal.mark-requires-clause-sound
 mark-requires-clause-sound c = c.loop-place.invariant.sound
-
-pub mark-requires-clause-made : goal.mark-requires-clause-made
-mark-requires-clause-made c =
-    made_still c.args.image.now c.args.kept.now c.loop-place.kept c.loop-place.invariant.still c.requires.made
 
 pub mark-requires-clause-known : goal.mark-requires-clause-known
 mark-requires-clause-known c = c.loop-place.invariant.known

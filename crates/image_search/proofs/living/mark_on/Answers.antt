@@ -1,4 +1,4 @@
-use Rattle.image_search.proofs.Flagging.{made_still, still_none, still_twice}
+use Rattle.image_search.proofs.Flagging.{still_none, still_twice}
 use Rattle.image_search.proofs.living.mark_on.Goals as goal
 
 pub loop-init : goal.loop-init
@@ -6,10 +6,6 @@ loop-init c = record { sound = c.requires.sound; still = still_none c.args.kept.
 
 pub mark_all-requires-clause-sound : goal.mark_all-requires-clause-sound
 mark_all-requires-clause-sound c = c.loop.invariant.sound
-
-pub mark_all-requires-clause-made : goal.mark_all-requires-clause-made
-mark_all-requires-clause-made c =
-    made_still c.args.image.now c.args.kept.now c.loop.kept c.loop.invariant.still c.requires.made
 
 pub mark_all-requires-clause-known : goal.mark_all-requires-clause-known
 mark_all-requires-clause-known c = c.loop.invariant.known

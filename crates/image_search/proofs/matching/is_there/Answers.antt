@@ -1,4 +1,5 @@
-use Rattle.std.proofs.Common.{◌≡◌, Some, slice_get}
+use Rattle.std.proofs.Common.{◌≡◌, ◌∙◌, Some, ap, slice_get, sym}
+use Rattle.words.specs.Versions.{most_of}
 use Rattle.image_search.proofs.matching.is_there.Goals as goal
 
 pub returns-then-has_memory : goal.returns-then-has_memory
@@ -9,6 +10,8 @@ returns-then-has_memory c = λ e.
     record {
       packed = x;
       here = here;
+      most = sym c.most_threads.ensures ∙ c.if-most_threads-most_processes.false ∙ c.most_processes.ensures
+          ∙ ap most_of c.version.ensures.value;
       words = c.has_memory.ensures c.if-has_memory.true;
       made = t.0;
       few = t.1;

@@ -1,8 +1,7 @@
-use Rattle.image_states.specs.Nexts.{may_of}
 use Rattle.image_search.proofs.reasons.crowd_bound.Goals as goal
 
 pub returns-then-branch : goal.returns-then-branch
 returns-then-branch c = c.in_ok-is_crowd_shown.ensures c.if-branch.true
 
 pub returns : goal.returns
-returns c = c.unshown_crowd.ensures c.args.image.now (may_of c.args.outside)
+returns c = c.requires

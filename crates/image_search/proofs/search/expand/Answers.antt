@@ -1,4 +1,5 @@
-use Rattle.std.proofs.Common.{◌≡◌, Some, slice_get, subst}
+use Rattle.std.proofs.Common.{◌≡◌, ◌<◌, Some, length, slice_get, subst, sym}
+use Rattle.image_search.specs.Kept.{IsWhyAt}
 use Rattle.image_states.specs.Nexts.{AreNexts, may_of}
 use Rattle.image_states.specs.declared.packed.Packed.{Packed as PackedOf}
 use Rattle.image_search.proofs.Searched.{expanded_at, match_both, met_in}
@@ -18,3 +19,12 @@ returns-clause-expanded c =
     c.in_ok-why.ensures.grown at.2 c.in_ok-bound.ensures.more.parts c.in_ok-bound.ensures.more.states all)
     (met_in c.args.image.now (may_of c.args.outside) c.keep_all.new.self)
     c.in_ok-bound.ensures.kept
+
+pub nexts_at-requires-clause-place : goal.nexts_at-requires-clause-place
+nexts_at-requires-clause-place c =
+    subst (λ xs. c.args.place < length xs) (sym c.as_slice.ensures.value) c.requires.place
+
+pub bound_at-requires : goal.bound_at-requires
+bound_at-requires c =
+    subst (λ xs. IsWhyAt c.nexts_at.new.parts xs c.args.place c.in-Some.why) c.as_slice.ensures.value
+    (rw c.in-Some.is at c.in_ok-why.ensures.why)

@@ -32,7 +32,7 @@ loop-place-preserved g c =
     let so_far : IsSoFar p alone may (states_of p kept') (c.loop-place.place + 1) c.look_at.new.passed =
     goes_on p alone may (states_of p kept) (states_of p kept') c.loop-place.place c.loop-place.passed
     c.look_at.new.passed c.loop-place.invariant.so_far (states_more p kept kept' c.loop-place.invariant.sound more) looked
-    (λ r at. c.is_apart_at.ensures c.if-not-is_apart_at.false r at) in
+    (λ r at. c.is_apart_at.ensures.apart c.if-not-is_apart_at.false r at) in
     record {
       sound = c.in_ok-ending.ensures.sound;
       most = more.most ∙ c.loop-place.invariant.most;
@@ -90,3 +90,10 @@ returns-then-len-kept-clause-ended g c =
     ended_so p kept.parts.alone (may_of c.args.outside) (states_of p kept) c.loop-place.place c.loop-place.passed
     c.loop-place.invariant.so_far end c.args.kept.now.most c.ending_of-then-len-kept.result
     c.ending_of-then-len-kept.ensures
+
+pub look_at-requires-clause-place : goal.look_at-requires-clause-place
+look_at-requires-clause-place g c = omega (arith, c.if-place-len.false, c.len.ensures, c.loop-place.kept.states.ok.0)
+
+pub returns-then-not-is_apart_at-clause-alone : goal.returns-then-not-is_apart_at-clause-alone
+returns-then-not-is_apart_at-clause-alone g c =
+    sym c.loop-place.invariant.alone ∙ c.is_apart_at.ensures.alone c.if-not-is_apart_at.true

@@ -10,8 +10,8 @@ use Rattle.robustexit.specs.declared.phase.ExitPhase.TheVariants.{Entry}
 use Rattle.image_states.proofs.Planned.{owned_entry}
 use Rattle.image_states.proofs.exits.entry_plan.Goals as goal
 
-pub returns : goal.returns
-returns c =
+pub returns-clause-plan : goal.returns-clause-plan
+returns-clause-plan c =
     let words = c.args.mem.now in
     let found = c.in-Some.ensures.found in
     let link : word_of words c.args.entry.0 ≡ c.load.result = word-got words c.args.entry.0 c.load.result c.load.ensures in

@@ -37,3 +37,10 @@ returns-in-Some-clause-moves c =
     access_moves c.args.image.now c.args.self.now c.exchange.new.self c.args.packed.now c.exchange.new.found.items c.args.t
     c.args.scratch.now.here m.parts c.requires.within c.args.request c.args.a.0 c.in-Some.w c.requires.asks
     c.requires.access there.1 (rw (c.word_after-after.ensures, c.access_answer-answer.ensures) at (r none)))
+
+pub exchange-requires-clause-lies : goal.exchange-requires-clause-lies
+exchange-requires-clause-lies c =
+    let there : (c.args.a.0 < length (words_in c.args.self.now.memories.items c.args.packed.now.memory))
+    × (c.in-Some.w ≡ slice_index (words_in c.args.self.now.memories.items c.args.packed.now.memory) c.args.a.0) =
+    rw c.in-Some.is at c.word.ensures in
+    there.0

@@ -1,4 +1,5 @@
-use Rattle.std.proofs.Common.{◌≡◌, ◌<◌, ◌∙◌, Some, ap, arith, length, slice_get, slice_set, subst, sym}
+use Rattle.image_states.proofs.Within.{thread_few, thread_within, word_lies}
+use Rattle.std.proofs.Common.{◌≡◌, ◌<◌, ◌∙◌, Some, ap, arith, length, slice_get, slice_set, subst, sym, ◌≤◌}
 use Rattle.std.specs.Prelude.{slice_index}
 use Rattle.std.proofs.lemmas.Option.{slice_get_within}
 use Rattle.words.specs.Process.{process_word}
@@ -6,13 +7,10 @@ use Rattle.locals.specs.Looks.{look}
 use Rattle.locals.specs.Requests.{after_answer}
 use Rattle.image_states.specs.Nexts.{ReachesAt}
 use Rattle.image_states.specs.Packed.{asleep_at, words_in, IsGrown}
-use Rattle.image_states.proofs.Growing.{grown_twice, more_grown, more_none, more_parts, within_still, words_still}
+use Rattle.image_states.proofs.Growing.{grown_twice, more_grown, more_parts, within_still, words_still}
 use Rattle.image_states.proofs.Results.{if_both, on_ok}
 use Rattle.image_states.proofs.Stepped.{stored_words}
 use Rattle.image_states.proofs.parts.Parts.end_by.Goals as goal
-
-pub returns-in_default-clause-more : goal.returns-in_default-clause-more
-returns-in_default-clause-more c = more_none c.args.self.now c.args.found.now.items
 
 pub returns-in-None-clause-more : goal.returns-in-None-clause-more
 returns-in-None-clause-more c =
@@ -50,8 +48,9 @@ returns-in-Some-2-clause-reaches c =
     let there : slice_get b.memories.items c.in-Some-2.after
     ≡ Some (slice_set (words_in a.memories.items c.args.memory) c.block-2.result.0 c.args.outcome) =
     rw c.in-Some-2.is at c.in_ok-stored.ensures.there in
-    let lies : c.block-2.result.0 < length (words_in a.memories.items c.args.memory) =
-    rw c.in-Some-2.is at c.in_ok-stored.ensures.lies in
+    let lies : process_word c.args.t 5 < length (words_in a.memories.items c.args.memory) =
+    word_lies a c.args.memory c.requires.memory c.args.t 5
+    (thread_within a x c.requires.within c.args.k c.args.t c.requires.number c.requires.made) (omega arith) in
     let head : (c.block.result.0 < length (words_in a.memories.items x.memory))
     × (c.in-Some.head ≡ slice_index (words_in a.memories.items x.memory) c.block.result.0) =
     rw c.in-Some.is at c.word.ensures in
@@ -62,7 +61,7 @@ returns-in-Some-2-clause-reaches c =
     let head_is : c.in-Some.head ≡ slice_index (words_in d.memories.items x.memory) (process_word c.args.t 0) =
     head.1 ∙ ap (λ ws. slice_index ws c.block.result.0) (sym (words_still a d all x.memory (c.requires.within).memory))
     ∙ ap (slice_index (words_in d.memories.items x.memory)) c.block.ensures in (
-      omega (arith, lies, size, c.block-2.ensures),
+      omega (arith, lies, size),
       subst (λ n. ReachesAt p d x c.push_end.new.found.items c.args.t
           (slice_set (words_in d.memories.items c.args.memory) (process_word c.args.t 5) c.args.outcome)
           (asleep_at x.places.items) (after_answer l n here)) head_is
@@ -73,3 +72,36 @@ returns-in-Some-2-clause-reaches c =
           ∙ ap (λ n. slice_set (words_in d.memories.items c.args.memory) n c.args.outcome) c.block-2.ensures)
           (r none)),
     ))
+
+pub block-requires : goal.block-requires
+block-requires c =
+    let few : c.args.t ≤ 1000 =
+    thread_few c.args.self.now c.args.packed.now c.requires.within c.args.k c.args.t c.requires.number c.requires.made in
+    (omega (arith, c.requires.number), omega (arith, few))
+
+pub block-requires-2 : goal.block-requires-2
+block-requires-2 c =
+    let few : c.args.t ≤ 1000 =
+    thread_few c.args.self.now c.args.packed.now c.requires.within c.args.k c.args.t c.requires.number c.requires.made in
+    (omega (arith, c.requires.number), omega (arith, few))
+
+pub stored-requires : goal.stored-requires
+stored-requires c =
+    let word : process_word c.args.t 5 < length (words_in c.args.self.now.memories.items c.args.memory) =
+    word_lies c.args.self.now c.args.memory c.requires.memory c.args.t 5
+    (thread_within c.args.self.now c.args.packed.now c.requires.within c.args.k c.args.t c.requires.number c.requires.made)
+    (omega arith) in
+    omega (arith, word, c.block-2.ensures)
+
+pub returns-in-None-clause-why : goal.returns-in-None-clause-why
+returns-in-None-clause-why c = rw c.in-None.is at c.in_ok-stored.ensures.full
+
+pub unreachable-requires : goal.unreachable-requires
+unreachable-requires c =
+    let outside : length (words_in c.args.self.now.memories.items c.args.packed.now.memory) ≤ c.block.result.0 =
+    rw c.in_default.is at c.word.ensures in
+    let word : process_word c.args.t 0 < length (words_in c.args.self.now.memories.items c.args.packed.now.memory) =
+    word_lies c.args.self.now c.args.packed.now.memory (c.requires.within).memory c.args.t 0
+    (thread_within c.args.self.now c.args.packed.now c.requires.within c.args.k c.args.t c.requires.number c.requires.made)
+    (omega arith) in
+    omega (arith, outside, word, c.block.ensures)

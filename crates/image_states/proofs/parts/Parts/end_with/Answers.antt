@@ -1,4 +1,6 @@
-use Rattle.std.proofs.Common.{◌≡◌, ◌∙◌, Some, ap, slice_get, slice_set}
+use Rattle.words.specs.Process.{process_word}
+use Rattle.image_states.proofs.Within.{thread_few, thread_within, word_lies}
+use Rattle.std.proofs.Common.{◌≡◌, ◌∙◌, Some, ap, slice_get, slice_set, ◌≤◌, ◌<◌, arith, length}
 use Rattle.std.proofs.lemmas.Option.{slice_get_within}
 use Rattle.machine.proofs.Steps.{can_answer}
 use Rattle.locals.specs.declared.request.Request.TheVariants as told
@@ -50,3 +52,20 @@ returns-in-Some-clause-moves c =
     (stored_words a b d x c.in-Some.memory x.memory c.block.result.0 c.args.value all m.parts (c.requires.within).memory
     there ∙ ap (λ n. slice_set (words_in d.memories.items x.memory) n c.args.value) c.block.ensures)
     (r none).0 (r none).1)
+
+pub block-requires : goal.block-requires
+block-requires c =
+    let few : c.args.t ≤ 1000 =
+    thread_few c.args.self.now c.args.packed.now c.requires.within c.args.k c.args.t c.requires.number c.requires.made in
+    (omega (arith, c.requires.number), omega (arith, few))
+
+pub stored-requires : goal.stored-requires
+stored-requires c =
+    let word : process_word c.args.t 4 < length (words_in c.args.self.now.memories.items c.args.packed.now.memory) =
+    word_lies c.args.self.now c.args.packed.now.memory (c.requires.within).memory c.args.t 4
+    (thread_within c.args.self.now c.args.packed.now c.requires.within c.args.k c.args.t c.requires.number c.requires.made)
+    (omega arith) in
+    omega (arith, word, c.block.ensures)
+
+pub returns-in-None-clause-why : goal.returns-in-None-clause-why
+returns-in-None-clause-why c = rw c.in-None.is at c.in_ok-stored.ensures.full

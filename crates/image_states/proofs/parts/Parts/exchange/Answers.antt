@@ -43,3 +43,6 @@ returns-in-Some-clause-reaches c =
     c.args.packed.now.memory c.args.a.0 c.args.v
     (grown_twice c.args.self.now c.stored.new.self c.push_answer.new.self c.in_ok-stored.ensures.grown m.parts) m.parts
     (c.requires.within).memory there) (r none))
+
+pub returns-in-None-clause-why : goal.returns-in-None-clause-why
+returns-in-None-clause-why c = rw c.in-None.is at c.in_ok-stored.ensures.full

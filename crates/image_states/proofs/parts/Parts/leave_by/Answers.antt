@@ -1,3 +1,4 @@
+use Rattle.image_states.proofs.Within.{address_in}
 use Rattle.std.proofs.Common.{subst}
 use Rattle.image_states.specs.Nexts.{ReachesAt}
 use Rattle.image_states.specs.Packed.{words_in, IsMarked}
@@ -7,8 +8,18 @@ use Rattle.image_states.proofs.Results.{if_both, on_ok}
 use Rattle.image_states.proofs.Stepped.{leaves_by}
 use Rattle.image_states.proofs.parts.Parts.leave_by.Goals as goal
 
-pub marked-requires : goal.marked-requires
-marked-requires c = (c.requires.within).memory
+pub marked-requires-clause-memory : goal.marked-requires-clause-memory
+marked-requires-clause-memory c = (c.requires.within).memory
+
+pub marked-requires-clause-lies : goal.marked-requires-clause-lies
+marked-requires-clause-lies c = (c.requires.lies).marks
+
+pub returns-in_default-clause-why : goal.returns-in_default-clause-why
+returns-in_default-clause-why c = rw c.in_default.is at c.in_ok-memory.ensures.full
+
+pub stand_by-requires-clause-address : goal.stand_by-requires-clause-address
+stand_by-requires-clause-address c =
+    address_in c.args.self.now c.args.packed.now.memory (c.requires.within).memory c.args.plan.wakes (c.requires.lies).wakes
 
 pub returns-in_default-clause-more : goal.returns-in_default-clause-more
 returns-in_default-clause-more c =

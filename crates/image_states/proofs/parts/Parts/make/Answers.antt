@@ -1,5 +1,7 @@
-use Rattle.std.proofs.Common.{◌≡◌, ◌<◌, ◌∙◌, Some, ap, arith, inr, length, refl, slice_get, slice_set, subst, suc, true, ℕ}
-use Rattle.std.proofs.lemmas.Option.{slice_get_within}
+use Rattle.std.proofs.lemmas.Result.{IfOk-weaker}
+use Rattle.image_states.proofs.Within.{word_lies}
+use Rattle.std.proofs.Common.{◌≡◌, ◌<◌, ◌∙◌, Some, ap, arith, inr, length, refl, slice_get, slice_set, subst, suc, sym, true, ℕ, ◌≤◌}
+use Rattle.std.proofs.lemmas.Option.{slice_get_within, IfSome_then}
 use Rattle.words.specs.Process.{process_word}
 use Rattle.locals.specs.Looks.{look}
 use Rattle.locals.specs.Requests.{after_answer}
@@ -50,8 +52,10 @@ returns-in-Some-2-clause-moves c =
     let there : slice_get b.memories.items memory
     ≡ Some (slice_set (words_in a.memories.items x.memory) c.block.result.0 c.args.number) =
     rw c.in-Some.is at c.in_ok-stored.ensures.there in
-    let lies : c.block.result.0 < length (words_in a.memories.items x.memory) =
-    rw c.in-Some.is at c.in_ok-stored.ensures.lies in
+    let word : process_word c.args.number 2 < length (words_in a.memories.items x.memory) =
+    word_lies a x.memory (c.requires.within).memory c.args.number 2 (omega (arith, c.requires.few, c.requires.next))
+    (omega arith) in
+    let lies : c.block.result.0 < length (words_in a.memories.items x.memory) = omega (arith, word, c.block.ensures) in
     let base : IsBase p c.stand.new.self x c.args.k memory c.go_on.new.self state =
     rw c.in-Some-2.is at c.in_ok-stand.ensures.stands in
     let answered : c.go_on.new.self ≡ after_answer l number here =
@@ -67,7 +71,7 @@ returns-in-Some-2-clause-moves c =
     let same : length (words_in d.memories.items x.memory) ≡ length (words_in a.memories.items x.memory) =
     ap length (words_still a d all x.memory (c.requires.within).memory) in
     fork_moves p d x state c.args.k c.args.t memory here c.args.child c.add_child.new.found.items c.requires.number
-    c.requires.asks c.requires.child c.requires.few
+    c.requires.asks c.requires.child (subst (λ n. length x.parts.items < n) (sym all.most) c.requires.few)
     (subst (λ z. IsBase p d x c.args.k memory z state) answered
     (base_still p c.stand.new.self d g x c.args.k memory c.go_on.new.self state base))
     has
@@ -79,3 +83,25 @@ returns-in-Some-2-clause-moves c =
     (prefix_within b.memories.items d.memories.items memory after_b.memories
     (slice_get_within b.memories.items memory
     (slice_set (words_in a.memories.items x.memory) c.block.result.0 c.args.number) there)))
+
+pub block-requires : goal.block-requires
+block-requires c =
+    let most : c.args.self.now.most ≤ 1000 = (c.args.self.now.room).few in
+    (omega (arith, c.requires.next), omega (arith, c.requires.few, c.requires.next, most))
+
+pub stored-requires : goal.stored-requires
+stored-requires c =
+    let word : process_word c.args.number 2 < length (words_in c.args.self.now.memories.items c.args.packed.now.memory) =
+    word_lies c.args.self.now c.args.packed.now.memory (c.requires.within).memory c.args.number 2
+    (omega (arith, c.requires.few, c.requires.next)) (omega arith) in
+    omega (arith, word, c.block.ensures)
+
+pub returns-in_default-clause-why : goal.returns-in_default-clause-why
+returns-in_default-clause-why c = rw c.in_default.is at c.in_ok-stored.ensures.full
+
+pub returns-in-None-clause-why : goal.returns-in-None-clause-why
+returns-in-None-clause-why c = rw c.in-None.is at c.in_ok-stand.ensures.full
+
+pub returns-in-Some-2-clause-why : goal.returns-in-Some-2-clause-why
+returns-in-Some-2-clause-why c =
+    IfOk-weaker c.add_child.result _ _ (λ o h. IfSome_then o h (λ why is. is c.args.packed.now)) c.add_child.ensures.full

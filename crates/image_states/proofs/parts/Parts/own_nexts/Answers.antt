@@ -1,3 +1,4 @@
+use Rattle.image_states.proofs.Within.{made_of}
 use Rattle.std.proofs.Common.{sym, ◌≡◌, ◌∙◌, Some, ap, suc}
 use Rattle.robustexit.specs.declared.phase.ExitPhase.TheVariants.{Ended}
 use Rattle.locals.specs.Threads.{Exits}
@@ -57,3 +58,8 @@ own_step-requires-clause-stands c =
     rw c.in-Some.is at c.thread.ensures.some in
     ap (thread_at c.args.self.now.locals.items c.args.packed.now.parts.items) c.requires.number ∙ there
     ∙ ap (λ z. Some z) (sym c.look_at.ensures)
+
+pub own_step-requires-clause-made : goal.own_step-requires-clause-made
+own_step-requires-clause-made c =
+    made_of c.args.self.now.locals.items c.args.packed.now.parts.items c.args.k c.in-Some.local.now
+    (rw c.in-Some.is at c.thread.ensures.some)

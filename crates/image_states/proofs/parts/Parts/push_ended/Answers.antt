@@ -1,4 +1,5 @@
-use Rattle.std.proofs.Common.{◌≡◌, ◌<◌, ◌∙◌, Some, ap, arith, length, slice_get, slice_set, subst, suc, sym}
+use Rattle.image_states.proofs.Within.{thread_few, thread_within, word_lies}
+use Rattle.std.proofs.Common.{◌≡◌, ◌<◌, ◌∙◌, Some, ap, arith, length, slice_get, slice_set, subst, suc, sym, ◌≤◌}
 use Rattle.std.specs.Prelude.{slice_index}
 use Rattle.std.proofs.lemmas.Option.{slice_get_within}
 use Rattle.words.specs.Process.{process_word}
@@ -45,8 +46,10 @@ returns-in-Some-clause-reaches c =
     let there : slice_get b.memories.items c.in-Some.after
     ≡ Some (slice_set (words_in a.memories.items c.args.memory) c.block.result.0 0) =
     rw c.in-Some.is at c.in_ok-stored.ensures.there in
-    let lies : c.block.result.0 < length (words_in a.memories.items c.args.memory) =
-    rw c.in-Some.is at c.in_ok-stored.ensures.lies in
+    let word : process_word t 2 < length (words_in a.memories.items c.args.memory) =
+    word_lies a c.args.memory c.requires.memory t 2
+    (thread_within a x c.requires.within c.args.k t c.requires.number c.requires.made) (omega arith) in
+    let lies : c.block.result.0 < length (words_in a.memories.items c.args.memory) = omega (arith, word, id) in
     let can = c.requires.can in
     let number : t ≡ suc c.args.k = c.requires.number in
     if_both c.push_stand.result _ _ _ c.push_stand.ensures.more c.push_stand.ensures.reaches (λ m o r none.
@@ -65,3 +68,20 @@ returns-in-Some-clause-reaches c =
     ∙ ap (λ n. slice_set (words_in d.memories.items c.args.memory) n 0) id)
     (subst (λ z. ReachesAt p d x c.push_stand.new.found.items t (words_in d.memories.items c.in-Some.after)
     (asleep_at x.places.items) z) c.enter_phase.ensures (r none)))))
+
+pub block-requires : goal.block-requires
+block-requires c =
+    let few : c.args.t ≤ 1000 =
+    thread_few c.args.self.now c.args.packed.now c.requires.within c.args.k c.args.t c.requires.number c.requires.made in
+    (omega (arith, c.requires.number), omega (arith, few))
+
+pub stored-requires : goal.stored-requires
+stored-requires c =
+    let word : process_word c.args.t 2 < length (words_in c.args.self.now.memories.items c.args.memory) =
+    word_lies c.args.self.now c.args.memory c.requires.memory c.args.t 2
+    (thread_within c.args.self.now c.args.packed.now c.requires.within c.args.k c.args.t c.requires.number c.requires.made)
+    (omega arith) in
+    omega (arith, word, c.block.ensures)
+
+pub returns-in-None-clause-why : goal.returns-in-None-clause-why
+returns-in-None-clause-why c = rw c.in-None.is at c.in_ok-stored.ensures.full

@@ -15,3 +15,6 @@ returns-in_ok-push_next-in-Some-clause-reaches c =
     c.args.t c.args.memory c.args.scratch.now.here c.push_next.new.found.items c.requires.number
     c.in_ok-stand.ensures.grown c.requires.within c.requires.memory base
     c.in_ok-push_next-in-Some.ensures.there
+
+pub returns-in-None-clause-why : goal.returns-in-None-clause-why
+returns-in-None-clause-why c = rw c.in-None.is at c.in_ok-stand.ensures.full

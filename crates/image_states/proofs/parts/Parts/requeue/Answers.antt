@@ -1,14 +1,15 @@
-use Rattle.std.proofs.Common.{◌≡◌, ◌∙◌, refl, subst, sym}
+use Rattle.std.proofs.Common.{◌≡◌, ◌<◌, ◌∙◌, length, refl, subst, sym}
 use Rattle.std.proofs.lemmas.Option.{same_Some}
 use Rattle.locals.specs.declared.request.NextStep.TheVariants as step
 use Rattle.locals.specs.Looks.{look}
 use Rattle.locals.specs.Requests.{next_step_of}
 use Rattle.locals.specs.declared.request.Request.TheVariants as told
 use Rattle.image_states.specs.Packed.{unpacked}
-use Rattle.image_states.proofs.Growing.{more_none, more_twice, stands_still, within_still}
+use Rattle.image_states.proofs.Growing.{more_none, more_twice, stands_still, within_still, words_still}
 use Rattle.image_states.proofs.Listing.{is_none}
-use Rattle.image_states.proofs.Requeued.{asks_still, requeue_moves, requeue_none, requeues_still}
+use Rattle.image_states.proofs.Requeued.{asks_still, both_lie, requeue_moves, requeue_none, requeues_still}
 use Rattle.image_states.proofs.Results.{if_both, on_ok}
+use Rattle.image_states.proofs.Within.{address_few}
 use Rattle.image_states.proofs.parts.Parts.requeue.Goals as goal
 
 pub returns-then-not-lies-clause-more : goal.returns-then-not-lies-clause-more
@@ -63,3 +64,23 @@ returns-clause-moves c =
     (requeues_still p b d c.requeue_all.new.found.items c.requeue_again.new.found.items m x within c.args.t c.args.from.0
     c.args.to.0 c.args.wake c.most_moved-most.result done)
     (λ differs. r none here stands differs))
+
+pub requeue_all-requires-clause-from : goal.requeue_all-requires-clause-from
+requeue_all-requires-clause-from c =
+    let lie = both_lie c.args.from.0 c.args.to.0 _
+    (rw c.if-not-lies.false at (c.lies.ensures (unpacked c.args.image.now c.args.self.now c.args.packed.now) refl)) in
+    address_few c.args.self.now c.args.packed.now.memory (c.requires.within).memory c.args.from.0 lie.0
+
+pub requeue_all-requires-clause-to : goal.requeue_all-requires-clause-to
+requeue_all-requires-clause-to c =
+    let lie = both_lie c.args.from.0 c.args.to.0 _
+    (rw c.if-not-lies.false at (c.lies.ensures (unpacked c.args.image.now c.args.self.now c.args.packed.now) refl)) in
+    address_few c.args.self.now c.args.packed.now.memory (c.requires.within).memory c.args.to.0 lie.1
+
+pub requeue_again-requires-clause-lies : goal.requeue_again-requires-clause-lies
+requeue_again-requires-clause-lies c =
+    let lie = both_lie c.args.from.0 c.args.to.0 _
+    (rw c.if-not-lies.false at (c.lies.ensures (unpacked c.args.image.now c.args.self.now c.args.packed.now) refl)) in
+    subst (λ ws. c.args.from.0 < length ws)
+    (sym (words_still c.args.self.now c.requeue_all.new.self (c.in_ok-moved.ensures.more).parts c.args.packed.now.memory
+    (c.requires.within).memory)) lie.0

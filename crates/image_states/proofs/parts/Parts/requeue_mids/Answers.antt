@@ -4,7 +4,7 @@ use Rattle.image_states.specs.Packed.{IsWithin}
 use Rattle.image_states.specs.Requeues.{MidDone}
 use Rattle.image_states.proofs.Growing.{more_none, more_twice, within_still}
 use Rattle.image_states.proofs.Listing.{is_none}
-use Rattle.image_states.proofs.Requeued.{asks_still, mid_still, none_of, one_more_of}
+use Rattle.image_states.proofs.Requeued.{asks_still, item_of, mid_still, none_of, one_more_of, some_within}
 use Rattle.image_states.proofs.parts.Parts.requeue_mids.Goals as goal
 
 pub loop-mid-init : goal.loop-mid-init
@@ -33,7 +33,7 @@ loop-mid-preserved c =
     let m = c.in_ok-bound.ensures.more in
     let within = within_still c.args.self.now a (c.loop-mid.invariant.more).parts x c.requires.within in
     let none = is_none c.in_ok-bound.bound c.is_some.result c.is_some.ensures c.if-is_some.false in
-    let in_mid = c.in_ok-bound.ensures.within none in
+    let in_mid = some_within a x (c.mid-item.result).state (c.requires.mids (c.mid-item.result) (item_of c.args.mids.now c.loop-mid.mid-index c.mid-item.result c.loop-mid-test.true c.mid-item.is)) within in
     record {
       more = more_twice c.args.self.now a b c.args.found.now.items xs ys c.loop-mid.invariant.more m;
       done = one_more_of (λ mid. IsWithin b mid.state
@@ -56,3 +56,7 @@ pub returns-clause-done : goal.returns-clause-done
 returns-clause-done c = λ none mid has.
     (c.loop-mid.invariant.done mid
     (subst (λ ms. Contains ms mid) (sym (take_all c.loop-mid.mid-index c.args.mids.now c.loop-mid-test.false)) has)).1
+
+pub requeue_mid-requires-clause-mid : goal.requeue_mid-requires-clause-mid
+requeue_mid-requires-clause-mid c = c.requires.mids (c.mid-item.result)
+    (item_of c.args.mids.now c.loop-mid.mid-index c.mid-item.result c.loop-mid-test.true c.mid-item.is)

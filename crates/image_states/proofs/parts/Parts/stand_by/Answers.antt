@@ -1,6 +1,6 @@
 use Rattle.std.proofs.Common.{subst, sym}
 use Rattle.std.proofs.lemmas.Result.{IfOk-weaker}
-use Rattle.image_states.specs.Exits.{WakesAt}
+use Rattle.image_states.specs.Exits.{WakesAt, IsAddressIn}
 use Rattle.image_states.specs.Nexts.{ReachesAt}
 use Rattle.image_states.specs.Packed.{asleep_at, words_in}
 use Rattle.image_states.proofs.parts.Parts.stand_by.Goals as goal
@@ -16,3 +16,6 @@ pub returns-in-Some-clause-reaches : goal.returns-in-Some-clause-reaches
 returns-in-Some-clause-reaches c = IfOk-weaker c.stand_one.result _ _ (λ o r none woken after wakes.
     r none woken after (subst (λ w. WakesAt w (asleep_at c.args.packed.now.places.items) woken after) c.in-Some.is wakes))
     c.stand_one.ensures.reaches
+
+pub stand_one-requires-clause-address : goal.stand_one-requires-clause-address
+stand_one-requires-clause-address c = subst (IsAddressIn 4294967295) c.in-Some.is c.requires.address

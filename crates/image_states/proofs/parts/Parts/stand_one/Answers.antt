@@ -1,12 +1,12 @@
 use Rattle.std.proofs.Common.{subst, suc, sym}
 use Rattle.image_states.specs.Choosing.{AreSleepers}
-use Rattle.image_states.proofs.Growing.{more_none}
+use Rattle.image_states.proofs.Within.{places_few}
 use Rattle.image_states.proofs.parts.Parts.stand_one.Goals as goal
 
-pub returns-in-None-clause-more : goal.returns-in-None-clause-more
-returns-in-None-clause-more c = more_none c.args.self.now c.args.found.now.items
+pub sleepers_on-requires-clause-few : goal.sleepers_on-requires-clause-few
+sleepers_on-requires-clause-few c = places_few c.args.self.now c.args.packed.now c.requires.within
 
 pub stand_among-requires-clause-sleepers : goal.stand_among-requires-clause-sleepers
 stand_among-requires-clause-sleepers c =
     subst (AreSleepers c.args.packed.now.places.items (suc c.args.a.0)) (sym c.as_slice.ensures.value)
-    (rw c.in-Some.is at c.in_ok-sleepers_on.ensures)
+    c.in_ok-sleepers.ensures

@@ -1,4 +1,6 @@
-use Rattle.std.proofs.Common.{subst, sym}
+use Rattle.image_states.specs.Room.{AreThreads}
+use Rattle.std.proofs.lemmas.Option.{IfSome_then}
+use Rattle.std.proofs.Common.{subst, sym, length}
 use Rattle.std.proofs.lemmas.Result.{IfOk-weaker}
 use Rattle.buckets.specs.Places.{with_place}
 use Rattle.image_states.specs.Choosing.{AreChosen, AreSleepers, HasPlaced}
@@ -31,3 +33,16 @@ returns-in-Some-clause-reaches c =
     (h none place
     (subst (λ ns. AreSleepers ns place c.args.sleepers.now) (sym base.moved.places) are) woken
     (subst (λ ns. AreChosen ns place c.args.size woken) (sym base.moved.places) chose)))) c.push_choices.ensures.each
+
+pub returns-in-None-clause-why : goal.returns-in-None-clause-why
+returns-in-None-clause-why c = rw c.in-None.is at c.in_ok-stand.ensures.full
+
+pub push_choices-requires : goal.push_choices-requires
+push_choices-requires c =
+    let base : IsBase c.args.image.now c.stand.new.self c.args.packed.now c.args.k c.args.memory c.args.scratch.now.here c.in-Some.state =
+    rw c.in-Some.is at c.in_ok-stand.ensures.stands in
+    subst (λ ns. AreThreads (length ns) c.args.sleepers.now) (sym base.moved.places) c.requires.threads
+
+pub returns-in-Some-clause-why : goal.returns-in-Some-clause-why
+returns-in-Some-clause-why c =
+    IfOk-weaker c.push_choices.result _ _ (λ o h. IfSome_then o h (λ why is. is c.stand.new.self)) c.push_choices.ensures.why

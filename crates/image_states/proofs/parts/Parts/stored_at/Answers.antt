@@ -3,7 +3,7 @@ use Rattle.std.specs.Prelude.{Vec}
 use Rattle.std.specs.Global.{Global}
 use Rattle.image_states.specs.Stores.{IsStored}
 use Rattle.image_states.proofs.Growing.{grown_none, grown_twice, same_stored}
-use Rattle.image_states.proofs.Storing.{stored_behind, stored_there}
+use Rattle.image_states.proofs.Storing.{has_number, stored_behind, stored_there}
 use Rattle.image_states.proofs.parts.Parts.stored_at.Goals as goal
 
 pub returns-then-before-v-clause-grown : goal.returns-then-before-v-clause-grown
@@ -22,6 +22,9 @@ returns-in-Some-clause-there c =
     let is : IsStored c.args.self.now.memories.items c.args.number c.args.a.0 c.args.v c.in-Some.found =
     rw c.in-Some.is at c.stored_before.ensures in
     stored_there c.args.self.now.memories.items c.args.number c.args.a.0 c.args.v c.in-Some.found is
+
+pub store-requires : goal.store-requires
+store-requires c = has_number c.args.self.now.memories.items c.args.number c.args.a.0 c.requires.lies
 
 pub note_store-requires : goal.note_store-requires
 note_store-requires c =

@@ -1,3 +1,4 @@
+use Rattle.image_states.proofs.Within.{address_few}
 use Rattle.std.proofs.Common.{◌≡◌, ◌<◌, ◌≤◌, length}
 use Rattle.std.specs.Prelude.{slice_index}
 use Rattle.machine.proofs.Steps.{can_answer}
@@ -51,3 +52,10 @@ returns-else-w-expected-clause-moves c =
     again_moves c.args.image.now c.args.self.now c.push_answer.new.self c.args.packed.now c.push_answer.new.found.items
     c.args.t c.args.scratch.now.here m.parts c.requires.within c.args.address c.args.expected c.in-Some.w c.requires.asks
     there.1 c.if-w-expected.false (r none))
+
+pub sleep-requires-clause-lies : goal.sleep-requires-clause-lies
+sleep-requires-clause-lies c =
+    let there : (c.args.address.0 < length (words_in c.args.self.now.memories.items c.args.packed.now.memory))
+    × (c.in-Some.w ≡ slice_index (words_in c.args.self.now.memories.items c.args.packed.now.memory) c.args.address.0) =
+    rw c.in-Some.is at c.word.ensures in
+    address_few c.args.self.now c.args.packed.now.memory (c.requires.within).memory c.args.address.0 there.0

@@ -1,3 +1,4 @@
+use Rattle.image_states.proofs.Within.{address_few}
 use Rattle.std.proofs.Common.{◌≤◌, length}
 use Rattle.locals.specs.declared.request.Request.TheVariants as told
 use Rattle.image_states.specs.Packed.{words_in}
@@ -16,3 +17,8 @@ returns-in-None-clause-moves c =
     λ none. none_moves c.args.image.now a a c.args.packed.now c.args.found.now.items c.args.t c.args.scratch.now.here
     (grown_none a) c.requires.within (told.Wake c.args.address c.args.count) c.args.address.0 c.requires.asks outside
     (λ woken answer mid served. served.0)
+
+pub wake_at-requires-clause-lies : goal.wake_at-requires-clause-lies
+wake_at-requires-clause-lies c =
+    let there = rw c.in-Some.is at c.word.ensures in
+    address_few c.args.self.now c.args.packed.now.memory (c.requires.within).memory c.args.address.0 there.0
