@@ -2,10 +2,11 @@
 use Rattle.std.proofs.Common.{◌≡◌, ◌∙◌, ◌<◌, ◌≤◌, ◌+◌, ℕ, zero, suc, All, Bool, Contains, List, [], ◌∷◌, Option, Some, None, ap, arith}
 use Rattle.std.proofs.Common.{◌==◌, false, not, inl, inr, length, map, refl, slice_get, subst, sym, take, true}
 use Rattle.std.proofs.lemmas.Bool.{cases_lt}
+use Rattle.machine.specs.Runs.{CanStep, NextIsBroken}
 use Rattle.std.proofs.lemmas.List.{get_or_past, length-map}
 use Rattle.std.proofs.lemmas.List.Elements.{All-contains, All-more}
 use Rattle.std.proofs.lemmas.Option.{get_or_from_slice_get, slice_get_within, same_Some}
-use Rattle.std.specs.Prelude.{slice_index_or, slice_set, ◌⊎◌, Vec}
+use Rattle.std.specs.Prelude.{slice_index_or, slice_set, ◌⊎◌, Vec, MatchBool}
 use Rattle.std.specs.Global.{Global}
 use Rattle.isa.specs.Programs.{Program}
 use Rattle.machine.specs.States.{State}
@@ -48,6 +49,16 @@ one_at p kept place x here r at = same_Some _ _ (sym (state_at p kept place x he
 pub holds_at : (p : Program) (kept : KeptOf) (place : ℕ) (x : PackedOf) (Holds : Kept → Type 0)
     → slice_get kept.states.items place ≡ Some x → Holds (kept_of p kept.parts x) → HoldsAt p kept place Holds
 holds_at p kept place x Holds here is r at = subst Holds (one_at p kept place x here r at) is
+
+-- who can step, and stands before no step that may not be
+pub can_go_so : (p : Program) (kept : KeptOf) (place u : ℕ) (x : PackedOf) → slice_get kept.states.items place ≡ Some x
+    → CanStep (kept_of p kept.parts x).state u → (broken : Bool)
+    → MatchBool broken (NextIsBroken p (kept_of p kept.parts x).state u)
+    (NextIsBroken p (kept_of p kept.parts x).state u → ⊥)
+    → not broken ≡ true → HoldsAt p kept place (CanGo p u)
+can_go_so p kept place u x here can true is e = absurd (let differ : false ≡ true = e in cc)
+can_go_so p kept place u x here can false is e =
+    holds_at p kept place x (CanGo p u) here (record { can = can; whole = is })
 
 -- where whatever comes next is flagged, it leads to what the flagged states cover
 pub own_leads : (p : Program) (kept : KeptOf) (flags : List Bool) (place u : ℕ) (x : PackedOf) (found : List NextOf)

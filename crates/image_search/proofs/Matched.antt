@@ -5,7 +5,6 @@ use Rattle.std.proofs.lemmas.Bool.{cases_lt}
 use Rattle.std.proofs.lemmas.List.{get_or_past}
 use Rattle.std.specs.Prelude.{slice_index}
 use Rattle.std.proofs.lemmas.Option.{same_Some, slice_get_past}
-use Rattle.words.specs.Versions.{most_of}
 use Rattle.isa.specs.Programs.{Program}
 use Rattle.locals.specs.Steps.{local_after}
 use Rattle.locals.specs.Threads.{Thread, is_dying}

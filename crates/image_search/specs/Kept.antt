@@ -1,5 +1,5 @@
 -- The states that a search keeps.
-use Rattle.std.specs.Prelude.{ℕ, ◌≡◌, ◌<◌, ◌≤◌, ◌⊎◌, All, Bool, Contains, List, MatchBool, Some, length, map, ⊤, ◌^◌, ◌+◌, true, false}
+use Rattle.std.specs.Prelude.{ℕ, ◌≡◌, ◌<◌, ◌≤◌, ◌⊎◌, All, Bool, Contains, List, MatchBool, Some, length, map, ◌^◌, ◌+◌, true, false}
 use Rattle.std.specs.List.{slice_get}
 use Rattle.isa.specs.Programs.{Program}
 use Rattle.machine.specs.Runs.{NextIsBroken}

@@ -1,7 +1,7 @@
 -- How many threads sleep on an address, and those that sleep there as a list.
 use Rattle.std.proofs.Common.{◌≡◌, ◌≢◌, ◌<◌, ◌≤◌, ◌+◌, ◌-◌, ◌∙◌, ℕ, zero, suc, Bool, true, false, List, Option, None, Some, arith}
-use Rattle.std.proofs.Common.{ap, cond, length, refl, subst, sym, ◌==◌}
-use Rattle.std.specs.Prelude.{if◌then◌else◌, slice_index}
+use Rattle.std.proofs.Common.{ap, length, refl, subst, ◌==◌}
+use Rattle.std.specs.Prelude.{if◌then◌else◌}
 use Rattle.std.proofs.lemmas.Bool.{eqb-true, eq-eqb}
 use Rattle.buckets.specs.Places.{names, with_place}
 use Rattle.image_states.specs.declared.bound.Bound.{Bound}

@@ -1,7 +1,7 @@
 -- A thread that makes another, and both are taken on by local steps.
 use Rattle.std.proofs.Common.{◌≡◌, ◌≢◌, ◌<◌, ◌≤◌, ◌+◌, ◌∙◌, ℕ, zero, suc, Bool, true, false, List, [], ◌∷◌, ◌++◌, None, Some}
 use Rattle.std.proofs.Common.{inl, inr, refl, sym, ap, subst, arith, length, All, slice_get}
-use Rattle.std.specs.Prelude.{◌⊎◌, slice_index, slice_set}
+use Rattle.std.specs.Prelude.{slice_index, slice_set}
 use Rattle.std.proofs.lemmas.List.{length-append, length-set}
 use Rattle.std.proofs.lemmas.List.Elements.{All-push, All-set}
 use Rattle.std.proofs.lemmas.Option.{slice_get_within, same_Some}

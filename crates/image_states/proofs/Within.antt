@@ -1,5 +1,5 @@
 -- The words and the threads of states that are within some parts.
-use Rattle.std.proofs.Common.{◌≡◌, ◌<◌, ◌≤◌, ◌+◌, ◌*◌, ◌++◌, ◌∷◌, ◌∙◌, ℕ, suc, Bool, true, false, List, [], Option, None, Some, All}
+use Rattle.std.proofs.Common.{◌≡◌, ◌<◌, ◌≤◌, ◌+◌, ◌*◌, ◌++◌, ◌∷◌, ◌∙◌, ℕ, suc, Bool, true, false, List, [], Option, None, Some}
 use Rattle.std.proofs.Common.{ap, arith, get_or, length, refl, slice_get, subst, sym}
 use Rattle.std.specs.Prelude.{if◌then◌else◌}
 use Rattle.std.proofs.lemmas.List.Elements.{All-push}

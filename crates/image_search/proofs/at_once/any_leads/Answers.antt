@@ -4,8 +4,8 @@ use Rattle.image_search.proofs.at_once.any_leads.Goals as goal
 pub loop-k-init : goal.loop-k-init
 loop-k-init c = record { sound = c.requires.sound; still = still_none c.args.kept.now }
 
-pub thread_leads-requires-clause-sound : goal.thread_leads-requires-clause-sound
-thread_leads-requires-clause-sound c = c.loop-k.invariant.sound
+pub thread_leads-requires : goal.thread_leads-requires
+thread_leads-requires c = record { sound = c.loop-k.invariant.sound }
 
 pub returns-then-branch-clause-still : goal.returns-then-branch-clause-still
 returns-then-branch-clause-still c = still_twice c.args.kept.now c.loop-k.kept c.thread_leads.new.kept

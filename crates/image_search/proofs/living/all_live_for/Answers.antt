@@ -10,8 +10,8 @@ loop-k-init c = record {
   wakened = λ j less. absurd (omega (arith, less));
 }
 
-pub all_live-requires-clause-sound : goal.all_live-requires-clause-sound
-all_live-requires-clause-sound c = c.loop-k.invariant.sound
+pub all_live-requires : goal.all_live-requires
+all_live-requires c = record { sound = c.loop-k.invariant.sound }
 
 pub returns-then-not-branch-clause-still : goal.returns-then-not-branch-clause-still
 returns-then-not-branch-clause-still c =

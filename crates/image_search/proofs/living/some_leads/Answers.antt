@@ -4,8 +4,8 @@ use Rattle.image_search.proofs.living.some_leads.Goals as goal
 pub loop-number-init : goal.loop-number-init
 loop-number-init c = record { sound = c.requires.sound; still = still_none c.args.kept.now }
 
-pub leads_by-requires-clause-sound : goal.leads_by-requires-clause-sound
-leads_by-requires-clause-sound c = c.loop-number.invariant.sound
+pub leads_by-requires : goal.leads_by-requires
+leads_by-requires c = record { sound = c.loop-number.invariant.sound }
 
 pub returns-then-branch-clause-still : goal.returns-then-branch-clause-still
 returns-then-branch-clause-still c = still_twice c.args.kept.now c.loop-number.kept c.leads_by.new.kept

@@ -1,5 +1,4 @@
 use Rattle.std.proofs.Common.{subst}
-use Rattle.image_states.specs.Reasons.{IsWhy}
 use Rattle.image_search.specs.Kept.{IsWhyAt}
 use Rattle.image_search.proofs.Keeping.{contains_at}
 use Rattle.image_search.proofs.reasons.bound_at.Goals as goal

@@ -7,7 +7,7 @@ use Rattle.locals.specs.Looks.{look}
 use Rattle.locals.specs.Requests.{after_answer, next_step_of}
 use Rattle.image_states.specs.Nexts.{ReachesAt}
 use Rattle.image_states.specs.Packed.{asleep_at, thread_at, words_in}
-use Rattle.image_states.proofs.Growing.{more_none, stands_still}
+use Rattle.image_states.proofs.Growing.{stands_still}
 use Rattle.image_states.proofs.Results.{if_both}
 use Rattle.image_states.proofs.parts.Parts.answer_again.Goals as goal
 

@@ -1,5 +1,5 @@
 use Rattle.machine.specs.RequestMeanings.{AsksFork}
-use Rattle.std.proofs.Common.{◌≡◌, ◌≢◌, ◌<◌, ◌≤◌, ◌∙◌, arith, inl, length, refl, rules, sym, subst}
+use Rattle.std.proofs.Common.{◌≡◌, ◌≢◌, ◌≤◌, ◌∙◌, arith, inl, length, refl, rules, sym, subst}
 use Rattle.locals.specs.Looks.{look}
 use Rattle.machine.proofs.Steps.{can_answer_fork}
 use Rattle.image_states.proofs.Forked.{full_moves, no_fork_moves, child_there}

@@ -1,4 +1,4 @@
-use Rattle.std.proofs.Common.{◌≡◌, ◌∷◌, [], length, subst, sym}
+use Rattle.std.proofs.Common.{◌∷◌, [], length, subst, sym}
 use Rattle.words.specs.declared.outcome.Cause.TheVariants.{Killed as Killed'}
 use Rattle.locals.specs.Threads.{Dies}
 use Rattle.image_states.specs.Nexts.{IsBase}

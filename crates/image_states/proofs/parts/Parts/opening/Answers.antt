@@ -1,4 +1,4 @@
-use Rattle.std.proofs.Common.{ap, length, replicate, slice_set, sym, ◌∙◌}
+use Rattle.std.proofs.Common.{ap, length, replicate, sym, ◌∙◌}
 use Rattle.std.proofs.lemmas.List.{length-replicate, length-set}
 use Rattle.std.proofs.lemmas.Option.{IfSome_then}
 use Rattle.isa.specs.Programs.{memory_size}
