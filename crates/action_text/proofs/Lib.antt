@@ -1,6 +1,9 @@
 pub mod Shown
-pub mod Counting
-pub mod Monitors
-pub mod Kinds
+pub mod Numbers
+pub mod Called
+pub mod Forms
 pub mod Lines
-pub mod Ends
+pub mod Members
+pub mod Passing
+pub mod Refused
+pub mod Ending

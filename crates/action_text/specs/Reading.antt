@@ -8,6 +8,7 @@ use Rattle.meaning.specs.Labels.{Action, Kind}
 use Rattle.actionlines.specs.Lines.{condition_name}
 use Rattle.action_text.specs.ActionText.{action_line, action_text, kind_text, numbers_text, run_lines}
 use Rattle.action_text.specs.Sized.{HasMember, IsNumber, IsReadable, IsSized, IsSizedKind}
+use Rattle.action_text.specs.declared.counting.Counted.{Counted}
 use Rattle.action_text.specs.declared.reading.ReadActionsFault.{ReadActionsFault}
 use Rattle.action_text.specs.declared.reading.ReadActionsFault.TheVariants.{Line, Memory}
 
@@ -26,6 +27,10 @@ IsTextOf names line a = IsSized names a × (line ≡ action_text names a)
 -- it is that of none
 abbrev pub IsNoText : Naming → List ℕ → Type 0
 IsNoText names line = (a : Action) → IsSized names a → line ≢ action_text names a
+
+-- nothing stands behind the numbers, and where they are to be none, they are
+abbrev pub IsWhole : Counted → (alone : Bool) → Type 0
+IsWhole c alone = (c.rest.now ≡ []) × (alone ≡ true → c.numbers.items ≡ [])
 
 -- it names this condition, and these processes behind it; none, where it is to be the condition alone
 abbrev pub NamesCondition : Naming → (alone : Bool) → List ℕ → Member → List ℕ → Type 0

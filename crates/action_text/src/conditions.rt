@@ -1,11 +1,11 @@
-ghost use Rattle.std.specs.Prelude.{◌≡◌, ◌≢◌, ◌<◌, ◌++◌, ◌∷◌, IfOk, IfSome, List, MatchOption, ℕ, length, slice_get};
+ghost use Rattle.std.specs.Prelude.{◌≡◌, ◌≢◌, ◌<◌, ◌≤◌, ◌++◌, ◌∷◌, IfOk, IfSome, List, MatchBool, MatchOption, ℕ, length, slice_get};
 ghost use Rattle.program.specs.Names.{naming_of};
 ghost use Rattle.program.specs.declared.kinds.Member.{Member as MemberOf};
-ghost use Rattle.actionlines.specs.Lines.{condition_name};
-ghost use Rattle.action_text.specs.Reading.{NamesCondition};
+ghost use Rattle.actionlines.specs.Lines.{condition_name, member_in, monitor_name};
+ghost use Rattle.action_text.specs.Reading.{IsWhole, NamesCondition};
 ghost use Rattle.action_text.specs.Sized.{HasMember, IsNumber};
 
-use crate::counting::numbers_of;
+use crate::counting::{Counted, numbers_of};
 use log_text::{past_byte, past_word};
 use program::{Member, Names};
 use std::alloc::{AllocError, Global};
@@ -20,7 +20,7 @@ pub struct Notified {
 }
 
 /// The first condition that a text names, and the processes behind it; `alone` asks for a condition behind which none are.
-pub fn notified(
+pub fn condition_named(
     alloc: Global,
     names: &Names,
     text: &[u8],
@@ -93,16 +93,23 @@ fn notified_at(
         return Ok(None);
     };
     let counted = numbers_of(alloc, behind)?;
-    if !counted.rest.is_empty() {
-        return Ok(None);
-    }
-    if alone && !counted.numbers.is_empty() {
+    if !is_whole(&counted, alone) {
         return Ok(None);
     }
     Ok(Some(Notified {
         condition,
         resumed: counted.numbers,
     }))
+}
+
+// Whether nothing stands behind the numbers, and where they are to be none, they are.
+fn is_whole(counted: &Counted<'_>, alone: bool) -> bool
+    ensures { MatchBool result (IsWhole counted.now alone) (IsWhole counted.now alone → ⊥) }
+{
+    if !counted.rest.is_empty() {
+        return false;
+    }
+    !alone || counted.numbers.is_empty()
 }
 
 // The member of these numbers, where they are small enough.
@@ -127,13 +134,42 @@ fn past_condition<'t>(names: &Names, condition: Member, text: &'t [u8]) -> Optio
         (λ rest. HasMember (naming_of names.now) condition
         × (text.now ≡ condition_name (naming_of names.now) condition ++ rest.now)) }
 {
-    let Some(naming) = names.monitors.get(condition.monitor as usize) else {
+    let Some(name) = monitor_called(names, condition.monitor) else {
         return None;
     };
-    let Some(member) = naming.members.get(condition.number as usize) else {
+    let Some(member) = member_called(names, condition) else {
         return None;
     };
-    past_name(text, naming.name, *member)
+    past_name(text, name, member)
+}
+
+// The name of a monitor, where it is there.
+fn monitor_called<'n>(names: &'n Names<'_>, monitor: u32) -> Option<&'n [u8]>
+    ensures { MatchOption result (length (naming_of names.now).monitors ≤ monitor)
+        (λ name. (monitor < length (naming_of names.now).monitors)
+        × (name.now ≡ monitor_name (naming_of names.now) monitor)) }
+{
+    match names.monitors.get(monitor as usize) {
+        Some(naming) => Some(naming.name),
+        None => None,
+    }
+}
+
+// The name of a member, where it is there.
+fn member_called<'n>(names: &'n Names<'_>, member: Member) -> Option<&'n [u8]>
+    ensures { MatchOption result
+        (HasMember (naming_of names.now) member → ⊥)
+        (λ name. IfSome (slice_get (naming_of names.now).monitors member.monitor)
+        (λ m. member.number < length m.members)
+        × (name.now ≡ member_in (slice_get (naming_of names.now).monitors member.monitor) member.number)) }
+{
+    let Some(naming) = names.monitors.get(member.monitor as usize) else {
+        return None;
+    };
+    match naming.members.get(member.number as usize) {
+        Some(name) => Some(*name),
+        None => None,
+    }
 }
 
 // What stands in a text behind two names with a dot between them.

@@ -6,7 +6,7 @@ ghost use Rattle.action_text.specs.ActionText.{last_text};
 ghost use Rattle.action_text.specs.Reading.{IsCondition, IsKindText, IsNoKind};
 ghost use Rattle.action_text.specs.Sized.{HasLast, HasNumber, IsOfCondition, IsOfKill, IsOfMonitor, IsPlain};
 
-use crate::conditions::{Notified, notified};
+use crate::conditions::{Notified, condition_named};
 use crate::counting::{fault_of, number_after, numbers_of, printed};
 use crate::monitors::monitor_after;
 use log_text::{are_same, past_word};
@@ -119,7 +119,7 @@ fn condition_after(
         (λ n. IsCondition (naming_of names.now) word.now alone text.now n.condition n.resumed.items)) }
 {
     match past_word(text, word) {
-        Some(behind) => notified(alloc, names, behind, alone),
+        Some(behind) => condition_named(alloc, names, behind, alone),
         None => Ok(None),
     }
 }

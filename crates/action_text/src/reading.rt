@@ -82,7 +82,9 @@ pub fn read_actions(
         let Some(action) = read_line(alloc, names, line.front)? else {
             return Err(ReadActionsFault::Line(number));
         };
-        actions.push(action)?;
+        if actions.push(action).is_err() {
+            return Err(ReadActionsFault::Memory);
+        }
         rest = past_first(line.rest);
     }
     Ok(actions)

@@ -1,7 +1,8 @@
-ghost use Rattle.std.specs.Prelude.{◌≡◌, ◌++◌, ◌∷◌, [], IfOk, List, OnOk, map, ℕ};
+ghost use Rattle.std.specs.Prelude.{◌≡◌, ◌++◌, ◌∷◌, [], IfOk, List, OnOk, codes, map, ℕ};
 ghost use Rattle.program.specs.Names.{naming_of};
 ghost use Rattle.source_states.specs.Actions.{action_of, kind_of};
-ghost use Rattle.action_text.specs.ActionText.{action_line, last_in, last_text, run_lines};
+ghost use Rattle.actionlines.specs.Lines.{monitor_name};
+ghost use Rattle.action_text.specs.ActionText.{action_line, last_in, run_lines};
 
 use actionlines::append_line;
 use program::Names;

@@ -3,7 +3,7 @@ use Rattle.std.specs.List.{All}
 use Rattle.log_text.specs.Cuts.{NoNumber}
 use Rattle.action_text.specs.ActionText.{numbers_text}
 use Rattle.action_text.specs.Sized.{IsNumber}
-use Rattle.action_text.proofs.Counting.{Behind}
+use Rattle.action_text.proofs.Numbers.{Behind}
 use Rattle.action_text.proofs.counting.numbers_of.Given as goal
 
 abbrev pub invariant-numbers : goal.invariant-numbers

@@ -3,7 +3,7 @@ use Rattle.std.proofs.lemmas.List.Elements.{Contains-get_or}
 use Rattle.program.specs.Views.{program_of}
 use Rattle.source_states.specs.States.{state_of}
 use Rattle.action_text.specs.Following.{EndsSo, GoesOn}
-use Rattle.action_text.proofs.Ends.{end_decided}
+use Rattle.action_text.proofs.Ending.{end_decided}
 use Rattle.action_text.proofs.ends.end_of.Goals as goal
 
 pub returns-then-moving-gt0 : goal.returns-then-moving-gt0

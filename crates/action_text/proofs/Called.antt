@@ -4,7 +4,7 @@ use Rattle.std.proofs.lemmas.Bool.{cases_lt}
 use Rattle.program.specs.Names.{Naming}
 use Rattle.actionlines.specs.Lines.{monitor_name}
 use Rattle.action_text.specs.Sized.{HasMonitor, IsNumber}
-use Rattle.action_text.proofs.Counting.{cancel}
+use Rattle.action_text.proofs.Numbers.{cancel}
 
 -- what holds below a number, and of it
 pub up_to : (P : ℕ → Type 0) (n : ℕ) → ((m : ℕ) → m < n → P m) → P n → (m : ℕ) → m < n + 1 → P m
