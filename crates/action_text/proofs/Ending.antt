@@ -1,18 +1,14 @@
 -- How a run ends, by whether some process isn't over.
-use Rattle.std.proofs.Common.{◌≡◌, ◌<◌, ◌↔◌, ℕ, Bool, true, false, List, Contains, Some, MatchBool, ap, arith, get_or, is_some, length, map, subst, sym}
+use Rattle.std.proofs.Common.{◌↔◌, ℕ, Bool, true, false, List, Contains, MatchBool, ap, is_some}
 use Rattle.std.specs.Prelude.{IsSome}
 use Rattle.std.specs.List.{All}
-use Rattle.std.proofs.Math.Seq.{take-length}
 use Rattle.std.proofs.lemmas.List.Elements.{All-contains}
 use Rattle.program.specs.Trees.{Program}
 use Rattle.meaning.specs.Processes.{Process, Over}
-use Rattle.meaning.specs.Runs.{CanMove, IsRun}
+use Rattle.meaning.specs.Runs.{CanMove}
 use Rattle.meaning.specs.States.{SourceState}
-use Rattle.proof_exploration.specs.Exploring.{IsOver, IsStuck}
-use Rattle.source_states.specs.Actions.{action_of}
-use Rattle.source_states.specs.declared.action.Action.{Action as ActionOf}
-use Rattle.sourcemeaning.specs.Running.{IsRunLength}
-use Rattle.action_text.specs.Following.{EndsSo, GoesOn, IsFirstRefused, end_by}
+use Rattle.proof_exploration.specs.Exploring.{IsOver}
+use Rattle.action_text.specs.Following.{EndsSo, GoesOn, end_by}
 
 -- who isn't over goes on
 over_or : (at : Process) → ((IsOver at → ⊥) → ⊥) → IsOver at

@@ -1,7 +1,6 @@
 -- Texts that are those of no action of a form.
-use Rattle.std.proofs.Common.{◌≡◌, ◌≢◌, ◌∙◌, ◌⊎◌, ℕ, ℤ, List, [], ◌∷◌, ◌++◌, Option, Some, None, true, false, ap, codes, inl, inr, refl, sym}
+use Rattle.std.proofs.Common.{◌≡◌, ◌≢◌, ◌∙◌, ℕ, ℤ, List, [], ◌++◌, true, false, ap, codes, refl, sym}
 use Rattle.std.specs.Prelude.{⊤, FitsSigned}
-use Rattle.std.specs.List.{All}
 use Rattle.std.specs.Fmt.{decimal, signed_decimal}
 use Rattle.std.specs.Int.{w32}
 use Rattle.std.proofs.lemmas.List.{append-nil}
@@ -10,11 +9,11 @@ use Rattle.words.specs.Outcomes.{fault_number}
 use Rattle.words.specs.declared.outcome.Fault.{Fault}
 use Rattle.program.specs.Names.{Naming}
 use Rattle.program.specs.declared.kinds.Member.{Member}
-use Rattle.meaning.specs.Labels.{Action, Kind, Assign, Test, Call, Return, Print, Fork, Claim, Join, Fails, Enter}
+use Rattle.meaning.specs.Labels.{Assign, Test, Call, Return, Print, Fork, Claim, Join, Fails, Enter}
 use Rattle.meaning.specs.Labels.{Exit, Wait, Resume, Notify, Broadcast, Abandon, Finish, Stray, Kill}
 use Rattle.actionlines.specs.Lines.{condition_name, monitor_name}
 use Rattle.action_text.specs.ActionText.{numbers_text}
-use Rattle.action_text.specs.Reading.{IsCondition, IsKindText, IsNoKind}
+use Rattle.action_text.specs.Reading.{IsCondition, IsNoKind}
 use Rattle.action_text.specs.Sized.{HasMonitor, HasNumber, IsNumber, IsOfCondition, IsOfKill, IsOfMonitor, IsPlain}
 
 module _ (names : Naming) (text : List ℕ) where

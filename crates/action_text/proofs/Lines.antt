@@ -1,6 +1,10 @@
 -- Lines of actions, and texts that have none.
-use Rattle.std.proofs.Common.{◌≡◌, ◌≢◌, ◌<◌, ◌≤◌, ◌+◌, ℕ, List, [], ◌∷◌, ◌++◌, length, drop, codes}
+use Rattle.std.proofs.Common.{◌≡◌, ◌<◌, ℕ, List, [], ◌∷◌, ◌++◌, length, drop}
 use Rattle.std.proofs.Common.{refl, ap, sym, ◌∙◌, subst, arith, length-append}
+use Rattle.std.proofs.Common.{Bool, false, Result, Ok, Err, is_ok, is_err, if◌then◌else◌, map}
+use Rattle.std.proofs.lemmas.List.{map-append}
+use Rattle.source_states.specs.Actions.{action_of}
+use Rattle.source_states.specs.declared.action.Action.{Action as ActionOf}
 use Rattle.std.specs.List.{All}
 use Rattle.std.proofs.lemmas.List.{append-nil, append_assoc}
 use Rattle.std.proofs.lemmas.List.Elements.{All-append, All-cons, All-nil, All-head, All-tail}
@@ -106,3 +110,13 @@ module _ (names : Naming) where
   read_whole text rest run whole none =
       sym (append-nil (run_lines names run)) ∙ ap (λ (z : List ℕ). run_lines names run ++ z) (sym (no_length rest none))
       ∙ sym whole
+
+-- an action that was pushed stands at the end
+pub pushed : {X A E : Type 0} (r : Result A E) (b : Bool) (new old : List X) (x : X) → b ≡ is_err r → b ≡ false
+    → new ≡ (if is_ok r then old ++ x ∷ [] else old) → new ≡ old ++ x ∷ []
+pushed (Ok y) b new old x is ended items = items
+pushed (Err y) b new old x is ended items = absurd cc
+
+pub run_grows : (old new : List ActionOf) (a : ActionOf) → new ≡ old ++ a ∷ []
+    → map action_of new ≡ map action_of old ++ action_of a ∷ []
+run_grows old new a grows = ap (map action_of) grows ∙ map-append action_of old (a ∷ [])

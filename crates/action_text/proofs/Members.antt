@@ -1,8 +1,7 @@
 -- Conditions by their names.
-use Rattle.std.proofs.Common.{◌≡◌, ◌≢◌, ◌∙◌, ◌<◌, ◌≤◌, ◌+◌, ℕ, List, [], ◌∷◌, ◌++◌, Bool, true, Option, Some, None, IfOk, IfSome, MatchOption, Result, Ok, Err}
-use Rattle.std.proofs.Common.{ap, arith, codes, inl, inr, length, refl, slice_get, subst, sym}
-use Rattle.std.proofs.lemmas.Bool.{cases_lt}
-use Rattle.std.proofs.lemmas.List.{append-nil}
+use Rattle.std.proofs.Common.{◌≡◌, ◌≢◌, ◌∙◌, ◌<◌, ◌≤◌, ℕ, List, [], ◌∷◌, ◌++◌, Bool, Option, Some, None, IfOk, IfSome, MatchOption, Result, Ok, Err}
+use Rattle.std.proofs.Common.{ap, arith, codes, drop, length, slice_get, subst, sym}
+use Rattle.std.proofs.lemmas.List.{append-nil, append_assoc}
 use Rattle.std.proofs.lemmas.Option.{slice_get-get_or}
 use Rattle.std.specs.Prelude.{get_or}
 use Rattle.program.specs.Names.{MonitorNaming, Naming}
@@ -35,7 +34,9 @@ member_below names c monitor count place same has counts past =
 -- the name of a condition, of its two parts
 pub called : (names : Naming) (c : Member) (name member : List ℕ) → name ≡ monitor_name names c.monitor
     → member ≡ member_in (slice_get names.monitors c.monitor) c.number → name ++ 46 ∷ member ≡ condition_name names c
-called names c name member is is' = λ i. is i ++ 46 ∷ is' i
+called names c name member is is' =
+    (λ i. is i ++ 46 ∷ is' i)
+    ∙ sym (append_assoc (monitor_name names c.monitor) (codes ".") (member_in (slice_get names.monitors c.monitor) c.number))
 
 -- and what stands behind it
 pub past_called : (names : Naming) (c : Member) (name member text : List ℕ) (P : List ℕ → Type 0)
@@ -79,3 +80,15 @@ whole_there names c alone text behind counted has is numbers small whole = (
       (numbers ∙ ap (λ (z : List ℕ). numbers_text counted.numbers.items ++ z) whole.0
       ∙ append-nil (numbers_text counted.numbers.items)),
 )
+
+-- what stands behind two names with a dot between them
+pub past_dotted : {X : Type 0} (now : X → List ℕ) (r : Option X) (text name member first second : List ℕ)
+    → text ≡ name ++ first → first ≡ 46 ∷ second
+    → MatchOption r ((rest : List ℕ) → second ≢ member ++ rest) (λ x. second ≡ member ++ now x)
+    → MatchOption r ((rest : List ℕ) → text ≢ (name ++ 46 ∷ member) ++ rest)
+    (λ x. text ≡ (name ++ 46 ∷ member) ++ now x)
+past_dotted now None text name member first second is is' none = λ rest same.
+    none rest
+    (ap (drop 1) (sym is' ∙ cancel name first (46 ∷ (member ++ rest)) (sym is ∙ same ∙ append_assoc name (46 ∷ member) rest)))
+past_dotted now (Some x) text name member first second is is' h =
+    is ∙ ap (λ (z : List ℕ). name ++ z) (is' ∙ ap (λ (z : List ℕ). 46 ∷ z) h) ∙ sym (append_assoc name (46 ∷ member) (now x))

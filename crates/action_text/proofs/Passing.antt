@@ -1,8 +1,8 @@
--- Faults that are passed on.
-use Rattle.std.proofs.Common.{Result, Ok, Err}
-use Rattle.std.specs.Prelude.{IsErr, IsErrAnd, MatchResult}
+-- What is known of an option, of what it is.
+use Rattle.std.proofs.Common.{◌≡◌, Option, Some, None, MatchOption, subst}
 
-pub passed_by : {T E : Type 0} (r : Result T E) (G : E → Type 0) (P : T → Type 0) (Q : E → Type 0)
-    → IsErr r × IsErrAnd r G → ((x : E) → G x → Q x) → MatchResult r P Q
-passed_by (Ok t) G P Q h on = absurd h.1
-passed_by (Err x) G P Q h on = on x h.1
+pub none_of : {X : Type 0} (o : Option X) (N : Type 0) (S : X → Type 0) → o ≡ None → MatchOption o N S → N
+none_of o N S is h = subst (λ p. MatchOption p N S) is h
+
+pub some_of : {X : Type 0} (o : Option X) (x : X) (N : Type 0) (S : X → Type 0) → o ≡ Some x → MatchOption o N S → S x
+some_of o x N S is h = subst (λ p. MatchOption p N S) is h

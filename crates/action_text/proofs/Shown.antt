@@ -1,5 +1,5 @@
 -- The lines of actions, as they are shown and as they are written.
-use Rattle.std.proofs.Common.{◌≡◌, ◌∙◌, ℕ, List, [], ◌∷◌, ◌++◌, Option, Some, None, ap, codes, refl, sym}
+use Rattle.std.proofs.Common.{◌≡◌, ◌∙◌, ℕ, List, [], ◌∷◌, ◌++◌, Some, None, OnOk, Result, Ok, Err, ap, codes, refl, sym}
 use Rattle.std.proofs.lemmas.List.{append-nil, append_assoc}
 use Rattle.std.specs.Fmt.{decimal}
 use Rattle.program.specs.Names.{Naming}
@@ -38,7 +38,7 @@ last_kind names (Kill resumed last) m is =
     ∙ sym (append_assoc (codes "kill") (numbers_text resumed) (codes " last " ++ monitor_name names m))
 last_kind names other m is = absurd cc
 
-regrouped : (d s w t n : List ℕ) → (d ++ (s ++ (w ++ t))) ++ n ≡ d ++ (s ++ (w ++ (t ++ n)))
+regrouped : (d s w t n : List ℕ) → (d ++ (s ++ (w ++ t))) ++ n ≡ (((d ++ s) ++ w) ++ t) ++ n
 regrouped d s w t n = simp append_assoc
 
 -- the line of an action as it is shown
@@ -68,3 +68,8 @@ last_line names a m old is =
     (monitor_name names m) (codes "\n")
     ∙ ap (λ (z : List ℕ). old ++ ((decimal a.process ++ (codes " " ++ z)) ++ codes "\n"))
     (sym (last_kind names a.kind m is))
+
+-- what holds where a call is Ok holds in other words
+pub ok_so : {A E : Type 0} (r : Result A E) (P Q : Type 0) → (P → Q) → OnOk r P → OnOk r Q
+ok_so (Ok x) P Q on h = on h
+ok_so (Err e) P Q on h = tt

@@ -1,5 +1,5 @@
 -- What comes of a text that is to be the lines of actions.
-use Rattle.std.specs.Prelude.{ℕ, ◌≡◌, ◌≢◌, ◌<◌, ◌+◌, List, ◌++◌, length, Bool, true, Option, Some, None}
+use Rattle.std.specs.Prelude.{ℕ, ◌≡◌, ◌≢◌, ◌<◌, ◌+◌, List, ◌++◌, length, Bool, true}
 use Rattle.std.specs.Prelude.{[]}
 use Rattle.std.specs.List.{All}
 use Rattle.program.specs.Names.{Naming}

@@ -1,5 +1,5 @@
 -- Which actions have a text that is read.
-use Rattle.std.specs.Prelude.{ℕ, ◌≡◌, ◌<◌, ◌^◌, List, length, Option, Some, None, IfSome, ⊤, FitsSigned, slice_get}
+use Rattle.std.specs.Prelude.{ℕ, ◌<◌, ◌^◌, length, Option, Some, None, IfSome, ⊤, FitsSigned, slice_get}
 use Rattle.std.specs.Int.{w32}
 use Rattle.std.specs.List.{All}
 use Rattle.program.specs.Names.{Naming}

@@ -184,5 +184,6 @@ fn past_name<'t>(text: &'t [u8], name: &[u8], member: &[u8]) -> Option<&'t [u8]>
     let Some(behind) = past_byte(behind, b'.') else {
         return None;
     };
-    past_word(behind, member)
+    let rest = past_word(behind, member);
+    rest
 }

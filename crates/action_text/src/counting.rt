@@ -11,7 +11,7 @@ ghost use Rattle.action_text.specs.Sized.{IsNumber};
 use log_text::{number, past_word, spaced_number, value_of};
 use machine::EventName;
 use std::alloc::{AllocError, Global};
-use words::{Fault, signed};
+use words::{Fault, signed, signed_laws};
 
 /// Numbers at the front of a text, and what stands behind them.
 #[derive(Drop)]
@@ -62,6 +62,7 @@ pub fn printed(text: &[u8]) -> Option<i64>
         ((z : ℤ) → FitsSigned w32 z → text.now ≢ codes "print " ++ signed_decimal z)
         (λ z. FitsSigned w32 z × (text.now ≡ codes "print " ++ signed_decimal z)) }
 {
+    signed_laws();
     let Some(shown) = past_word(text, b"print ") else {
         return None;
     };
@@ -83,7 +84,8 @@ pub fn fault_of(text: &[u8]) -> Option<Fault>
     let Some(value) = number_after(text, b"fault ") else {
         return None;
     };
-    fault_numbered(value)
+    let fault = fault_numbered(value);
+    fault
 }
 
 // The fault of this number.

@@ -1,4 +1,4 @@
-use Rattle.std.proofs.Common.{◌≡◌, ◌∙◌, ◌++◌, [], ℕ, ap, rules, subst, sym}
+use Rattle.std.proofs.Common.{◌≡◌, ◌∙◌, ◌++◌, [], subst, sym}
 use Rattle.std.proofs.lemmas.List.{append-nil}
 use Rattle.program.specs.Names.{naming_of}
 use Rattle.program.specs.declared.kinds.Member.{Member}

@@ -1,4 +1,4 @@
-use Rattle.std.proofs.Common.{◌<◌, ◌∙◌, ℕ, All, MatchBool, ap, arith, get_or, length, subst, sym}
+use Rattle.std.proofs.Common.{◌<◌, ℕ, All, MatchBool, ap, arith, get_or, length, subst, sym}
 use Rattle.std.proofs.lemmas.List.Elements.{Contains-get_or}
 use Rattle.program.specs.Views.{program_of}
 use Rattle.source_states.specs.States.{state_of}

@@ -1,4 +1,4 @@
-use Rattle.std.proofs.Common.{◌≢◌, ◌<◌, ◌∙◌, ◌≤◌, ℕ, arith, length}
+use Rattle.std.proofs.Common.{◌≢◌, ℕ, arith}
 use Rattle.std.proofs.lemmas.List.{length-map}
 use Rattle.program.specs.Names.{monitor_naming_of, naming_of}
 use Rattle.actionlines.specs.Lines.{monitor_name}
