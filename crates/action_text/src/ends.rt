@@ -45,11 +45,7 @@ pub(crate) fn end_of(
 fn end_by(goes_on: bool) -> RunEnd
     ensures { result ≡ end_by goes_on }
 {
-    if goes_on {
-        RunEnd::Stuck
-    } else {
-        RunEnd::Over
-    }
+    if goes_on { RunEnd::Stuck } else { RunEnd::Over }
 }
 
 // Whether one of these processes isn't over.

@@ -125,11 +125,7 @@ fn condition_after(
 }
 
 // One with a condition behind its name.
-fn of_condition(
-    alloc: Global,
-    names: &Names,
-    text: &[u8],
-) -> Result<Option<ActionKind>, AllocError>
+fn of_condition(alloc: Global, names: &Names, text: &[u8]) -> Result<Option<ActionKind>, AllocError>
     ensures { IfOk result (λ o. MatchOption o (IsNoKind IsOfCondition (naming_of names.now) text.now)
         (λ kind. IsKindText (naming_of names.now) text.now (kind_of kind))) }
 {

@@ -10,11 +10,7 @@ use source_states::{Action, ActionKind};
 use std::alloc::{AllocError, Global};
 
 /// Appends the line of an action: as it is shown, and of a kill the monitor that it abandons last behind that.
-pub fn append_action(
-    bytes: &mut Vec<u8>,
-    names: &Names,
-    action: &Action,
-) -> Result<(), AllocError>
+pub fn append_action(bytes: &mut Vec<u8>, names: &Names, action: &Action) -> Result<(), AllocError>
     ensures { OnOk result (bytes.new.items
         ≡ bytes.old.items ++ action_line (naming_of names.now) (action_of action.now)) }
 {

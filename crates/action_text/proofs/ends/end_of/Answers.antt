@@ -9,8 +9,7 @@ use Rattle.action_text.proofs.ends.end_of.Goals as goal
 pub returns-then-moving-gt0 : goal.returns-then-moving-gt0
 returns-then-moving-gt0 c =
     let some : 0 < length c.in_ok-able.able.items =
-    omega (arith, c.if-moving-gt0.true, ap length c.as_slice-moving.ensures.value) in
-    (
+    omega (arith, c.if-moving-gt0.true, ap length c.as_slice-moving.ensures.value) in (
       get_or c.in_ok-able.able.items 0 0,
       (c.in_ok-able.ensures.all (get_or c.in_ok-able.able.items 0 0)).0 (Contains-get_or c.in_ok-able.able.items 0 0 some),
     )
