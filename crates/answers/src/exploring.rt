@@ -218,8 +218,7 @@ fn found_answer<'a>(
         (IsRefusalOrMemory (RefusesTextAs (version_by text.now.exits) text.now.bytes.now)) }
 {
     let found = shown(&explored.exploration).is_some();
-    let scheduled =
-        schedule_of_found(alloc, text, &explored.exploration, found, written.schedule)?;
+    let scheduled = schedule_of_found(alloc, text, &explored.exploration, found, written.schedule)?;
     let actions = actions_file(alloc, explored, written.actions)?;
     let lines = told_lines(alloc, text, explored, outside, places)?;
     let files = drawn_found(alloc, drawings, text, explored)?;

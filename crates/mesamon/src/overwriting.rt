@@ -57,10 +57,7 @@ fn is_one_of(
     ensures { result
         ≡ is_one_of name.entry first.entry second.entry third.entry fourth.entry }
 {
-    is_same(name, first)
-        || is_same(name, second)
-        || is_same(name, third)
-        || is_same(name, fourth)
+    is_same(name, first) || is_same(name, second) || is_same(name, third) || is_same(name, fourth)
 }
 
 // The same of what shows a run of the text in a file: its picture, its timeline, its page, a schedule and its actions.

@@ -8,8 +8,8 @@ pub returns-in-Ok-clause-told : goal.returns-in-Ok-clause-told
 returns-in-Ok-clause-told c =
     ok_so c.retold_answer.result _ _
     (λ a h. record {
-      actions = map action_of c.in-Ok.run.actions.items;
-      end = c.in-Ok.run.end;
+      actions = map action_of c.in-Ok.run'.actions.items;
+      end = c.in-Ok.run'.end;
       run = c.in-Ok.ensures;
       tells = h;
     })

@@ -11,7 +11,11 @@ returns-clause-told c = record {
   are_told = subst
       (λ (xs : List ℕ). AreTold c.args.places
       (flat_map (line c.args.checked.now.names) (map action_of c.args.run.now.actions.items)) xs)
-      (sym c.quiet.ensures.output) c.in_ok-lines.ensures;
+      (sym c.quiet.ensures.output)
+      (subst
+      (λ actions. AreTold c.args.places (flat_map (line c.args.checked.now.names) (map action_of actions))
+      c.in_ok-lines.lines.items)
+      c.as_slice.ensures.value c.in_ok-lines.ensures);
   account = c.quiet.ensures.account;
   files = subst (AreDrawn c.args.drawings.chart c.args.drawings.timeline c.args.drawings.page) (sym c.quiet.ensures.files)
       c.in_ok-files.ensures;
