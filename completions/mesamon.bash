@@ -11,13 +11,13 @@ _mesamon_words() {
         exec) echo IMAGE --steps=N --in-order --seed=N --strays=N --kills=N --trace --log=OUT --assembly --exits=RULE ;;
         replay) echo FILE SCHEDULE --steps=N --trace --log=LOG --page=OUT --assembly --image --linux --exits=RULE --hints ;;
         explain)
-            echo FILE --steps=N --seed=N --strays=N --kills=N --schedule=SCHEDULE --log=LOG
+            echo FILE --steps=N --seed=N --strays=N --kills=N --schedule=SCHEDULE --log=LOG --actions=ACTIONS
             echo --chart=OUT --from=N --to=N --timeline=OUT --page=OUT --places --linux --hints ;;
         emit) echo FILE OUT --hints ;;
         assemble) echo FILE OUT --hints ;;
         explore)
             echo FILE --states=N --strays --kills=N --ends --chart=OUT --from=N --to=N --timeline=OUT
-            echo --page=OUT --places --assembly --image --schedule=OUT --linux --exits=RULE --hints ;;
+            echo --page=OUT --places --assembly --image --schedule=OUT --actions=OUT --linux --exits=RULE --hints ;;
         fmt) echo FILE --check --hints ;;
         schedule) echo LOG OUT --steps=N --hints ;;
         shrink) echo FILE SCHEDULE OUT --linux --hints ;;
@@ -33,6 +33,7 @@ _mesamon_offer() {
         IMAGE) ending=.image ;;
         SCHEDULE) ending=.schedule ;;
         LOG) ending=.log ;;
+        ACTIONS) ending=.actions ;;
         OUT) ;;
         RULE)
             mapfile -t COMPREPLY < <(compgen -W "machine linux" -- "$2")

@@ -43,6 +43,7 @@ complete -c mesamon -n '__fish_seen_subcommand_from run exec' -l log -r -F -d 'W
 complete -c mesamon -n '__fish_seen_subcommand_from replay' -l log -x -k -a '(__fish_complete_suffix .log)' -d 'Beside SCHEDULE, where the log is written; without it, the log that is followed'
 complete -c mesamon -n '__fish_seen_subcommand_from explain' -l schedule -x -k -a '(__fish_complete_suffix .schedule)' -d 'The threads of its steps'
 complete -c mesamon -n '__fish_seen_subcommand_from explain' -l log -x -k -a '(__fish_complete_suffix .log)' -d 'The log of the run'
+complete -c mesamon -n '__fish_seen_subcommand_from explain' -l actions -x -k -a '(__fish_complete_suffix .actions)' -d 'The actions of the run, a line each'
 complete -c mesamon -n '__fish_seen_subcommand_from explain' -l chart -r -F -d 'Where the picture of the run is written'
 complete -c mesamon -n '__fish_seen_subcommand_from explore' -l chart -r -F -d 'Where the picture of what is found is written'
 complete -c mesamon -n '__fish_seen_subcommand_from explain explore' -l from -x -d 'Beside --chart: the number of the first action that is drawn'
@@ -58,6 +59,7 @@ complete -c mesamon -n '__fish_seen_subcommand_from exec' -l assembly -d 'IMAGE 
 complete -c mesamon -n '__fish_seen_subcommand_from replay explore' -l assembly -d 'FILE is an assembly text'
 complete -c mesamon -n '__fish_seen_subcommand_from replay explore' -l image -d 'FILE is an image'
 complete -c mesamon -n '__fish_seen_subcommand_from explore' -l schedule -r -F -d 'Where a schedule of what is found is written'
+complete -c mesamon -n '__fish_seen_subcommand_from explore' -l actions -r -F -d 'Where the actions of what is found are written'
 complete -c mesamon -n '__fish_seen_subcommand_from list' -l linux -d "IMAGE is a source text, whose code for Linux's rule of exits is listed"
 complete -c mesamon -n '__fish_seen_subcommand_from run replay explain explore shrink' -l linux -d "Compiles FILE for Linux's rule of exits, and goes by it"
 complete -c mesamon -n '__fish_seen_subcommand_from exec' -l exits -x -a 'machine linux' -d 'Whose rule of exits holds: machine or linux'

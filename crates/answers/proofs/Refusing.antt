@@ -33,7 +33,12 @@ use Rattle.answers.specs.Causes.{CannotRun, CannotTakeLog, FailsLines, FailsLog,
 use Rattle.answers.specs.Causes.{FailsTextTurns, FailsTurns, IsNoImage}
 use Rattle.answers.specs.Explaining.{IsRefusedExplanation}
 use Rattle.answers.specs.Failures.{IsLeftBy, IsRefusalOrMemory, OfAssembly, OfExplain, OfFault, OfImage, OfRefusal}
-use Rattle.answers.specs.Failures.{OfReplay, OfRun, OfSchedule, OfShrink, OfSourceLog, OrMemory}
+use Rattle.answers.specs.Failures.{OfFollowing, OfReplay, OfRun, OfSchedule, OfShrink, OfSourceLog, OrMemory}
+use Rattle.answers.specs.Retelling.{StopsRetelling}
+use Rattle.action_text.specs.Following.{IsRefusedText}
+use Rattle.action_text.specs.declared.following.FollowFault.{FollowFault}
+use Rattle.action_text.specs.declared.following.FollowFault.TheVariants as told
+use Rattle.program.specs.Names.{CheckedProgram}
 use Rattle.answers.specs.LogLimits.{log_bytes}
 use Rattle.answers.specs.Replaying.{IsRefusedReplay}
 use Rattle.answers.specs.Running.{IsRefusedRun}
@@ -287,3 +292,13 @@ not_followed_by image schedule turns (follow.Broken number) n same known gives =
     (subst (λ (ts : List Turn). FailsAt image ts (follow.Broken number)) same known)
 not_followed_by image schedule turns follow.Memory n same known gives =
     memory_left (λ e. ⊥) (λ e. ⊥) (FailsTurns image schedule) n gives
+
+-- actions that are no run
+module _ (c : CheckedProgram) (lines : List ℕ) where
+  pub following_left : (fault : FollowFault) (n : NoAnswer) → IsRefusedText c lines fault → OfFollowing fault n
+      → IsLeftBy (λ e. ⊥) (λ e. ⊥) (StopsRetelling c lines) n
+  following_left (told.Line number) n known gives =
+      failed_left (λ e. ⊥) (λ e. ⊥) (StopsRetelling c lines) n _ gives known
+  following_left (told.Action number) n known gives =
+      failed_left (λ e. ⊥) (λ e. ⊥) (StopsRetelling c lines) n _ gives known
+  following_left told.Memory n known gives = memory_left (λ e. ⊥) (λ e. ⊥) (StopsRetelling c lines) n gives

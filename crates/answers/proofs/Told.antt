@@ -66,9 +66,11 @@ no_memory (Err n) P U F h = subst (IsLeftBy P U F) (sym h) (inl refl)
 
 -- the file that is made alone is this one
 pub are_puts : (made files : OutFiles) (out : Option OutFile) (put : Option Put) → files ≡ made → made.out ≡ out
-    → made.timeline ≡ None → made.page ≡ None → made.schedule ≡ None → put_of out ≡ put → ArePuts put files
-are_puts made files out put is has none no_page no_schedule same =
-    subst (ArePuts put) (sym is) (ap put_of has ∙ same, ap name_of none, ap name_of no_page, ap name_of no_schedule)
+    → made.timeline ≡ None → made.page ≡ None → made.schedule ≡ None → made.actions ≡ None → put_of out ≡ put
+    → ArePuts put files
+are_puts made files out put is has none no_page no_schedule no_actions same =
+    subst (ArePuts put) (sym is)
+    (ap put_of has ∙ same, ap name_of none, ap name_of no_page, ap name_of no_schedule, ap name_of no_actions)
 
 -- a run again, by what is named
 pub replayed_as : {E : Type 0} (r : Result Report E) (v : ImageVersion) (by same : ReplayedBy) (second text : List ℕ)

@@ -34,12 +34,14 @@ name_of (Some file) = Some file.name
 -- this file is written, or none, and no other one
 abbrev pub ArePuts : Option Put → OutFiles → Type 0
 ArePuts put files =
-    (put_of files.out ≡ put) × (name_of files.timeline ≡ None) × (name_of files.page ≡ None) × (name_of files.schedule ≡ None)
+    (put_of files.out ≡ put) × (name_of files.timeline ≡ None) × (name_of files.page ≡ None)
+    × (name_of files.schedule ≡ None) × (name_of files.actions ≡ None)
 
 -- this file is written, or none, and a page to the file of this name, where there is one
 abbrev pub ArePutBeside : Option Put → (page : Option (Bor (List ℕ))) → OutFiles → Type 0
 ArePutBeside put page files =
-    (put_of files.out ≡ put) × (name_of files.timeline ≡ None) × (name_of files.page ≡ page) × (name_of files.schedule ≡ None)
+    (put_of files.out ≡ put) × (name_of files.timeline ≡ None) × (name_of files.page ≡ page)
+    × (name_of files.schedule ≡ None) × (name_of files.actions ≡ None)
 
 -- the file of a picture
 abbrev pub out_of : Option ChartOptions → Option (Bor (List ℕ))
@@ -50,7 +52,7 @@ out_of (Some chart) = Some chart.out
 abbrev pub AreDrawn : Option ChartOptions → (timeline page : Option (Bor (List ℕ))) → OutFiles → Type 0
 AreDrawn chart timeline page files =
     (name_of files.out ≡ out_of chart) × (name_of files.timeline ≡ timeline) × (name_of files.page ≡ page)
-    × (name_of files.schedule ≡ None)
+    × (name_of files.schedule ≡ None) × (name_of files.actions ≡ None)
 
 -- the command is done, tells these bytes alone, and writes this file, or none
 pub record TellsAlone (lines : List ℕ) (put : Option Put) (a : Answer) : Type 0 where
@@ -89,6 +91,7 @@ abbrev pub ArePut : (Got : List ℕ → Type 0) → OutFiles → Type 0
 ArePut Got files =
     IfSome (put_of files.out) (λ p. Got p.1) × IfSome (put_of files.timeline) (λ p. Got p.1)
     × IfSome (put_of files.page) (λ p. Got p.1) × IfSome (put_of files.schedule) (λ p. Got p.1)
+    × IfSome (put_of files.actions) (λ p. Got p.1)
 
 -- a call of the device has failed
 abbrev pub HasMetFailure : {X : Type 0} → Counted X → Type 0

@@ -1,7 +1,7 @@
 -- What a search over all runs of a source text's program answers, and what is told of it.
 use Rattle.std.specs.Prelude.{ℕ, ◌≡◌, ◌<◌, ◌^◌, ◌++◌, Bool, length, true, false, IfSome, List, [], Option, Some, None, Vec, codes, map}
 use Rattle.std.proofs.Common.{Bor}
-use Rattle.std.specs.Prelude.{is_some, if◌then◌else◌, nat_lt, ◌||◌}
+use Rattle.std.specs.Prelude.{is_some, if◌then◌else◌, nat_lt, option_map, ◌||◌}
 use Rattle.std.specs.Fmt.{decimal}
 use Rattle.std.specs.Global.{Global}
 use Rattle.std.specs.List.{flat_map}
@@ -33,10 +33,11 @@ use Rattle.source_search.specs.declared.ending.Ending.TheVariants as lost
 use Rattle.source_search.specs.declared.outside.Outside.{Outside}
 use Rattle.source_search.specs.declared.runs.Exploration.{Exploration}
 use Rattle.actionlines.specs.Lines.{line}
+use Rattle.action_text.specs.ActionText.{run_lines}
 use Rattle.commandline.specs.declared.options.ChartOptions.{ChartOptions}
 use Rattle.compiler.specs.Accepts.{AcceptsText}
 use Rattle.log_text.specs.LogLines.{line_feed}
-use Rattle.answers.specs.Answers.{AreTold, name_of, out_of, put_of}
+use Rattle.answers.specs.Answers.{AreTold, Put, name_of, out_of, put_of}
 use Rattle.answers.specs.FoundSchedule.{IsScheduled}
 use Rattle.answers.specs.declared.answer.Answer.{Answer}
 use Rattle.answers.specs.declared.answer.OutFiles.{OutFiles}
@@ -167,6 +168,39 @@ explored_status e = found_status (is_some e.stuck) (is_failed e) e.complete
 abbrev pub is_found : Exploration → Bool
 is_found e = is_some e.stuck || is_failed e
 
+-- the run at whose end some are blocked for good, where one was found
+abbrev pub blocked_run : Blocked → Option (List Action)
+blocked_run (FoundBlocked processes run) = Some run.items
+blocked_run Never = None
+blocked_run NotLookedFor = None
+blocked_run NotTold = None
+
+-- the run that can't end any more, where one was found
+abbrev pub ending_run : Ending → Option (List Action)
+ending_run (lost.Found run) = Some run.items
+ending_run lost.Never = None
+ending_run lost.NotAsked = None
+ending_run lost.NotLookedFor = None
+ending_run lost.NotTold = None
+
+-- the first of two runs, where it was found, or else the second
+abbrev pub or_run : (first second : Option (List Action)) → Option (List Action)
+or_run (Some run) second = Some run
+or_run None second = second
+
+-- the run that was found: of several the stuck one, or else the one at whose end some are blocked for good, or else the one in
+-- which a process aborts, or else that which can't end any more
+abbrev pub shown_run : Exploration → Option (List Action)
+shown_run e =
+    or_run (option_map (λ v. v.items) e.stuck) (or_run (blocked_run e.blocked)
+    (or_run (option_map (λ v. v.items) e.aborted) (ending_run e.ending)))
+
+-- the lines of this run are written to the file of this name, where both are there
+abbrev pub run_put : Naming → Option (Bor (List ℕ)) → Option (List Action) → Option Put
+run_put names None run = None
+run_put names (Some out) None = None
+run_put names (Some out) (Some run) = Some (out, run_lines names (map action_of run))
+
 -- the run that was found is drawn, timed and shown on a page, to the files of these names; where none was, no file is
 -- written
 abbrev pub AreDrawnIf : Bool → Option ChartOptions → (timeline page : Option (Bor (List ℕ))) → OutFiles → Type 0
@@ -176,9 +210,10 @@ AreDrawnIf false chart timeline page files =
     (put_of files.out ≡ None) × (name_of files.timeline ≡ None) × (name_of files.page ≡ None)
 
 -- what was found is told alone, with the places of actions where those are asked for; of the text a schedule of its image of
--- this version is written that fails alike, where it is asked for and one is known
+-- this version is written that fails alike, where it is asked for and one is known; and the actions of the run that was found
+-- are, where they are asked for
 pub record TellsFound (version : ImageVersion) (may : Outside) (places : Bool) (chart : Option ChartOptions)
-    (timeline page schedule : Option (Bor (List ℕ))) (text : List ℕ) (r : ExploredText) (a : Answer)
+    (timeline page schedule actions : Option (Bor (List ℕ))) (text : List ℕ) (r : ExploredText) (a : Answer)
     : Type 0
   where
     pub ended : a.status ≡ explored_status r.exploration
@@ -186,13 +221,14 @@ pub record TellsFound (version : ImageVersion) (may : Outside) (places : Bool) (
     pub files : AreDrawnIf (is_found r.exploration) chart timeline page a.files
     pub scheduled : IsScheduled version text r.exploration (is_found r.exploration) schedule (put_of a.files.schedule)
         a.account.items
+    pub wrote : put_of a.files.actions ≡ run_put r.checked.names actions (shown_run r.exploration)
 
 -- all runs of the text's program were searched, with as much from outside as may be and keeping so many states at most, and
 -- what was found was told, and what was asked for; of the image of this version that says what it says
 pub record HasExplored (version : ImageVersion) (may : Outside) (asked : Asked) (most : ℕ) (places : Bool)
-    (chart : Option ChartOptions) (timeline page schedule : Option (Bor (List ℕ))) (text : List ℕ) (a : Answer)
+    (chart : Option ChartOptions) (timeline page schedule actions : Option (Bor (List ℕ))) (text : List ℕ) (a : Answer)
     : Type 0
   where
     pub explored_text : ExploredText
     pub explored : IsExploredText version text may asked most explored_text
-    pub tells : TellsFound version may places chart timeline page schedule text explored_text a
+    pub tells : TellsFound version may places chart timeline page schedule actions text explored_text a

@@ -10,6 +10,8 @@ use Rattle.assembler.specs.declared.refusal.AssemblyRefusal.{AssemblyRefusal}
 use Rattle.assembler.specs.declared.refusal.AssemblyFault.TheVariants as assembly
 use Rattle.scanner.specs.declared.refusal.Refusal.{Refusal}
 use Rattle.scanner.specs.declared.refusal.RefusalKind.TheVariants as kind
+use Rattle.action_text.specs.declared.following.FollowFault.{FollowFault}
+use Rattle.action_text.specs.declared.following.FollowFault.TheVariants as follow
 use Rattle.runner.specs.declared.fault.RunFault.{RunFault}
 use Rattle.runner.specs.declared.fault.RunFault.TheVariants as fault
 use Rattle.runner.specs.declared.schedule.ScheduleFault.{ScheduleFault}
@@ -26,7 +28,7 @@ use Rattle.answers.specs.declared.source_log.SourceLogFault.{SourceLogFault}
 use Rattle.answers.specs.declared.source_log.SourceLogFault.TheVariants as log
 use Rattle.answers.specs.declared.failure.Failure.{Failure}
 use Rattle.answers.specs.declared.failure.Failure.TheVariants.{Image, Run, Schedule, Broken, NoFailure}
-use Rattle.answers.specs.declared.failure.Failure.TheVariants.{LogLine, LogEntry, LogSteps, Memory}
+use Rattle.answers.specs.declared.failure.Failure.TheVariants.{ActionLine, Action, LogLine, LogEntry, LogSteps, Memory}
 use Rattle.answers.specs.declared.failure.NoAnswer.{NoAnswer}
 use Rattle.answers.specs.declared.failure.NoAnswer.TheVariants.{Refused, Unassembled, Failed}
 
@@ -94,6 +96,12 @@ OfSourceLog (log.Line number) n = n ≡ Failed (LogLine number)
 OfSourceLog (log.Entry number) n = n ≡ Failed (LogEntry number)
 OfSourceLog (log.Steps most) n = n ≡ Failed (LogSteps most)
 OfSourceLog log.Memory n = n ≡ Failed Memory
+
+-- what comes of a fault of actions that are followed
+abbrev pub OfFollowing : FollowFault → NoAnswer → Type 0
+OfFollowing (follow.Line number) n = n ≡ Failed (ActionLine number)
+OfFollowing (follow.Action number) n = n ≡ Failed (Action number)
+OfFollowing follow.Memory n = n ≡ Failed Memory
 
 -- where it is a refusal, it is one of this kind, and else there is no memory
 abbrev pub IsRefusalOrMemory : (Refusal → Type 0) → NoAnswer → Type 0

@@ -2,6 +2,7 @@
 use Rattle.std.specs.Prelude.{ℕ, ◌≡◌, ◌⊎◌, ◌++◌, Bool, true, List, [], codes}
 use Rattle.answers.specs.declared.failure.Failure.{Failure}
 use Rattle.answers.specs.declared.failure.Failure.TheVariants.{Read, Write, FirstVersion, LogLine, LogSteps, LogBytes, Memory}
+use Rattle.answers.specs.declared.failure.Failure.TheVariants.{ActionLine}
 use Rattle.answers.specs.declared.failure.NoAnswer.{NoAnswer}
 use Rattle.answers.specs.declared.failure.NoAnswer.TheVariants.{Refused, Unassembled, Failed}
 use Rattle.hint_lines.specs.HintLines.{AreHintLines}
@@ -14,6 +15,7 @@ HasHinted wanted old new =
 -- what helps with a failure, where more is known than its line tells
 abbrev pub help_to : Failure → List ℕ
 help_to (LogLine n) = codes "  a line has a thread, its local steps, and TURN 0 or a step's name and value\n"
+help_to (ActionLine n) = codes "  a line has a process and its action, as explain shows it\n"
 help_to (LogSteps n) = codes "  --steps N takes a log of at most N steps\n"
 help_to (LogBytes n) = codes "  --steps N takes a log of at most N steps\n"
 help_to FirstVersion = codes "  --exits linux takes an image of version 2\n"

@@ -203,7 +203,7 @@ abbrev pub AreShown : SearchFiles → Sleeping → Ending → OutFiles → Type 
 AreShown wanted sleeping ending files =
     (name_of files.out ≡ name_if (finds_run sleeping ending) wanted.chart)
     × (name_of files.timeline ≡ name_if (finds_run sleeping ending) wanted.timeline) × (name_of files.page ≡ None)
-    × (put_of files.schedule ≡ found_put wanted.schedule sleeping ending)
+    × (put_of files.schedule ≡ found_put wanted.schedule sleeping ending) × (put_of files.actions ≡ None)
 
 -- what a complete search says of all runs of the image in pieces, over any number of buckets
 abbrev pub SaysNever : Program → Outside → Ending → Type 0

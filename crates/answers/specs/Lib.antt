@@ -21,3 +21,4 @@ pub mod Scheduling
 pub mod Shrinking
 pub mod Done
 pub mod Causes
+pub mod Retelling

@@ -36,6 +36,8 @@ pub struct OutFiles<'a> {
     pub page: Option<OutFile<'a>>,
     /// That of the schedule of what a search found.
     pub schedule: Option<OutFile<'a>>,
+    /// That of the actions of what a search found.
+    pub actions: Option<OutFile<'a>>,
 }
 
 impl<'a> OutFiles<'a> {
@@ -45,12 +47,14 @@ impl<'a> OutFiles<'a> {
         ensures timeline { result.timeline ≡ None }
         ensures page { result.page ≡ None }
         ensures schedule { result.schedule ≡ None }
+        ensures actions { result.actions ≡ None }
     {
         OutFiles {
             out,
             timeline: None,
             page: None,
             schedule: None,
+            actions: None,
         }
     }
 }
@@ -108,6 +112,7 @@ impl<'a> Answer<'a> {
                 timeline: None,
                 page,
                 schedule: None,
+                actions: None,
             },
         })
     }

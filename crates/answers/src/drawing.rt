@@ -57,6 +57,7 @@ impl<'a> Drawings<'a> {
             timeline,
             page,
             schedule: None,
+            actions: None,
         })
     }
 }

@@ -1,17 +1,18 @@
-ghost use Rattle.std.specs.Prelude.{◌≡◌, ◌++◌, ◌⊎◌, IfOk, IfErr, MatchResult, OnOk, is_some, string_bytes, true};
+ghost use Rattle.std.specs.Prelude.{◌≡◌, ◌++◌, ◌⊎◌, IfOk, IfErr, MatchResult, OnOk, is_some, option_map, string_bytes, true};
 ghost use Rattle.scanner.specs.Refusals.{out_of_memory};
 ghost use Rattle.program.specs.Names.{naming_of, said_by};
 ghost use Rattle.compiler.specs.Accepts.{RefusesTextAs};
 ghost use Rattle.commandline.specs.CommandLine.{version_by};
-ghost use Rattle.answers.specs.Answers.{AreTold};
+ghost use Rattle.answers.specs.Answers.{AreTold, put_of};
 ghost use Rattle.answers.specs.Exploring.{blocked_line, blocked_lines, end_lines, ending_lines, explored_lines};
 ghost use Rattle.answers.specs.Exploring.{explored_status, is_blocked, is_failed, is_found, is_lost};
 ghost use Rattle.answers.specs.Exploring.{none_aborts, process_word, states_line};
 ghost use Rattle.answers.specs.Exploring.{AreDrawnIf, HasExplored, IsExploredText, IsFoundOf, TellsFound};
+ghost use Rattle.answers.specs.Exploring.{blocked_run, ending_run, run_put, shown_run};
 ghost use Rattle.std.specs.List.{flat_map};
 ghost use Rattle.answers.specs.Failures.{IsRefusalOrMemory};
 
-use crate::answer::{Answer, OutFiles};
+use crate::answer::{Answer, OutFile, OutFiles};
 use crate::compiled::compile_checked_by;
 use crate::drawing::{Drawings, ShownRun};
 use crate::failure::NoAnswer;
@@ -21,6 +22,7 @@ use crate::hinting::SourceText;
 use crate::status::Status;
 use crate::telling::tell_found;
 use crate::titles::title_of_found;
+use action_text::run_text;
 use actionlines::action_lines;
 use commandline::Exits;
 use compiler::text_laws;
@@ -54,6 +56,15 @@ pub struct Searched {
     pub outside: Outside,
     /// What is told besides what always is.
     pub asked: Asked,
+}
+
+/// The files that have the run that was found, where they are wanted.
+#[derive(Clone, Copy)]
+pub struct FoundFiles<'a> {
+    /// The name of that of a schedule by which the text's image goes there.
+    pub schedule: Option<&'a str>,
+    /// The name of that of its actions.
+    pub actions: Option<&'a str>,
 }
 
 /// Searches all runs of the program of a source text, keeping at most so many states: for one that gets stuck, for one in
@@ -147,22 +158,22 @@ fn explore_checked<P: Progress>(
 
 /// Searches all runs of a source text, with as much from outside as may be, tells what is found and what is asked for,
 /// and shows it in other files where they are named and anything was found. A schedule by which the text's image fails as
-/// that run does is for the file of `schedule`; where none is known, standard error is told. How far the search has come is
-/// told as it goes. Where hints are wanted and the search wasn't complete, standard error is told which bound it met, and what
+/// that run does is for the file of `written.schedule`; where none is known, standard error is told. The run's actions are for
+/// that of `written.actions`. How far the search has come is told as it goes. Where hints are wanted and the search wasn't complete, standard error is told which bound it met, and what
 /// grew.
 pub fn answer_explore<'a, P: Progress>(
     alloc: Global,
     text: &SourceText<'_>,
     searched: Searched,
     drawings: Drawings<'a>,
-    schedule: Option<&'a str>,
+    written: FoundFiles<'a>,
     places: bool,
     told: &mut String,
     progress: &mut P,
 ) -> Result<Answer<'a>, NoAnswer<'a>>
     ensures done { IfOk result (HasExplored (version_by text.now.exits) searched.outside searched.asked
         searched.states places drawings.entry.chart drawings.entry.timeline drawings.entry.page
-        schedule.entry text.now.bytes.now) }
+        written.entry.schedule written.entry.actions text.now.bytes.now) }
     ensures refused { IfErr result
         (IsRefusalOrMemory (RefusesTextAs (version_by text.now.exits) text.now.bytes.now)) }
 {
@@ -185,7 +196,7 @@ pub fn answer_explore<'a, P: Progress>(
         &explored,
         searched.outside,
         drawings,
-        schedule,
+        written,
         places,
     )
 }
@@ -197,17 +208,18 @@ fn found_answer<'a>(
     explored: &ExploredText<'_>,
     outside: Outside,
     drawings: Drawings<'a>,
-    schedule: Option<&'a str>,
+    written: FoundFiles<'a>,
     places: bool,
 ) -> Result<Answer<'a>, NoAnswer<'a>>
     ensures told { IfOk result (TellsFound (version_by text.now.exits) outside places
-        drawings.entry.chart drawings.entry.timeline drawings.entry.page schedule.entry
-        text.now.bytes.now explored.now) }
+        drawings.entry.chart drawings.entry.timeline drawings.entry.page written.entry.schedule
+        written.entry.actions text.now.bytes.now explored.now) }
     ensures refused { IfErr result
         (IsRefusalOrMemory (RefusesTextAs (version_by text.now.exits) text.now.bytes.now)) }
 {
     let found = shown(&explored.exploration).is_some();
-    let scheduled = schedule_of_found(alloc, text, &explored.exploration, found, schedule)?;
+    let scheduled = schedule_of_found(alloc, text, &explored.exploration, found, written.schedule)?;
+    let actions = actions_file(alloc, explored, written.actions)?;
     let lines = told_lines(alloc, text, explored, outside, places)?;
     let files = drawn_found(alloc, drawings, text, explored)?;
     let account = Vec::from_slice(alloc, scheduled.account.as_bytes())?;
@@ -220,8 +232,28 @@ fn found_answer<'a>(
             timeline: files.timeline,
             page: files.page,
             schedule: scheduled.file,
+            actions,
         },
     })
+}
+
+// The file of the actions of the run that was found, where both are there.
+fn actions_file<'a>(
+    alloc: Global,
+    explored: &ExploredText<'_>,
+    out: Option<&'a str>,
+) -> Result<Option<OutFile<'a>>, AllocError>
+    ensures { IfOk result (λ file. put_of file
+        ≡ run_put explored.now.checked.names out.entry (shown_run explored.now.exploration)) }
+{
+    match (out, shown(&explored.exploration)) {
+        (Some(name), Some(actions)) => {
+            let bytes = run_text(alloc, explored.checked.names(), actions)?;
+            Ok(Some(OutFile { name, bytes }))
+        }
+        (None, _) => Ok(None),
+        (Some(_), None) => Ok(None),
+    }
 }
 
 // What is told, with the places of the actions behind them where those are wanted.
@@ -338,7 +370,8 @@ fn drawn_found<'a>(
 // The run that was found: of several the stuck one, or else the one at whose end some are blocked for good; that which
 // can't end any more only where it is the one.
 fn shown(found: &Exploration) -> Option<&[Action]>
-    ensures { is_some result ≡ is_found found.now }
+    ensures is { is_some result ≡ is_found found.now }
+    ensures run { option_map (λ r. r.now) result ≡ shown_run found.now }
 {
     match (&found.stuck, blocked_run(&found.blocked), &found.aborted) {
         (Some(actions), _, _) => Some(actions.as_slice()),
@@ -363,7 +396,8 @@ fn end_of_found(found: &Exploration) -> &'static str {
 
 // The run at whose end some are blocked for good, where one was found.
 fn blocked_run(blocked: &Blocked) -> Option<&[Action]>
-    ensures { is_some result ≡ is_blocked blocked.now }
+    ensures is { is_some result ≡ is_blocked blocked.now }
+    ensures run { option_map (λ r. r.now) result ≡ blocked_run blocked.now }
 {
     match blocked {
         Blocked::Found { run, .. } => Some(run.as_slice()),
@@ -373,7 +407,8 @@ fn blocked_run(blocked: &Blocked) -> Option<&[Action]>
 
 // The run that can't end any more, where one was found.
 fn ending_run(ending: &Ending) -> Option<&[Action]>
-    ensures { is_some result ≡ is_lost ending.now }
+    ensures is { is_some result ≡ is_lost ending.now }
+    ensures run { option_map (λ r. r.now) result ≡ ending_run ending.now }
 {
     match ending {
         Ending::Found(run) => Some(run.as_slice()),

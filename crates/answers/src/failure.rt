@@ -3,12 +3,13 @@ ghost use Rattle.std.specs.IoError.{error_kind};
 ghost use Rattle.answers.specs.declared.failure.Failure.TheVariants.{Memory as memory};
 ghost use Rattle.answers.specs.declared.failure.NoAnswer.TheVariants.{Failed as failed};
 ghost use Rattle.answers.specs.Failures.{OfAssembly, OfExplain, OfFault, OfImage, OfIo, OfRefusal};
-ghost use Rattle.answers.specs.Failures.{OfReplay, OfRun, OfSchedule, OfShrink, OfSource, OfSourceLog};
+ghost use Rattle.answers.specs.Failures.{OfFollowing, OfReplay, OfRun, OfSchedule, OfShrink, OfSource, OfSourceLog};
 
 use crate::explained_run::ExplainSourceFault;
 use crate::replaying::ReplayFault;
 use crate::source_log::SourceLogFault;
 use crate::source_run::RunSourceFault;
+use action_text::FollowFault;
 use assembler::{AssemblyFault, AssemblyRefusal};
 use devices::ReadFault;
 use isa::DecodeFault;
@@ -72,6 +73,12 @@ pub enum Failure<'a> {
     /// The log has more bytes than this, which is the most that one of so many steps may have.
     #[error("log of more than {0} bytes")]
     LogBytes(usize),
+    /// The line of the actions that has this number is the first that is no action's.
+    #[error("action line {0}")]
+    ActionLine(u64),
+    /// The action that has this number is the first that can't come next in a run of the program.
+    #[error("action {0} is none that can come next")]
+    Action(u64),
     /// There was no memory.
     #[error("memory")]
     Memory,
@@ -270,6 +277,18 @@ impl From<SourceLogFault> for NoAnswer<'_> {
             SourceLogFault::Entry(number) => NoAnswer::Failed(Failure::LogEntry(number)),
             SourceLogFault::Steps(most) => NoAnswer::Failed(Failure::LogSteps(most)),
             SourceLogFault::Memory => NoAnswer::Failed(Failure::Memory),
+        }
+    }
+}
+
+impl From<FollowFault> for NoAnswer<'_> {
+    ghost from_gives = { OfFollowing };
+
+    fn from(fault: FollowFault) -> Self {
+        match fault {
+            FollowFault::Line(number) => NoAnswer::Failed(Failure::ActionLine(number)),
+            FollowFault::Action(number) => NoAnswer::Failed(Failure::Action(number)),
+            FollowFault::Memory => NoAnswer::Failed(Failure::Memory),
         }
     }
 }

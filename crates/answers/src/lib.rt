@@ -20,6 +20,7 @@ mod listing;
 mod log_limits;
 mod paging;
 mod replaying;
+mod retelling;
 mod run_ends;
 mod run_entries;
 mod running;
@@ -41,7 +42,7 @@ pub use explained_run::{
     ExplainSourceFault, ExplainedRun, explain_by_seed, explain_schedule, explain_source,
 };
 pub use explaining::answer_explain;
-pub use exploring::{ExploredText, Searched, answer_explore, explore_source};
+pub use exploring::{ExploredText, FoundFiles, Searched, answer_explore, explore_source};
 pub use failure::{Failure, NoAnswer};
 pub use following::answer_follow;
 pub use formatting::answer_fmt;
@@ -50,6 +51,7 @@ pub use lines::write_text;
 pub use listing::answer_list;
 pub use log_limits::log_bytes;
 pub use replaying::{ReplayFault, replay};
+pub use retelling::answer_retell;
 pub use running::{answer_exec, answer_replay, answer_run};
 pub use scheduling::answer_schedule;
 pub use searching::answer_search;

@@ -128,6 +128,7 @@ fn found_files<'a>(
         timeline,
         page: None,
         schedule,
+        actions: None,
     })
 }
 

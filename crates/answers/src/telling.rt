@@ -22,6 +22,9 @@ use std::io::ErrorKind;
 const LINE: &str =
     "  a line has a thread, its local steps, and TURN 0 or a step's name and value\n";
 
+// What a line of actions has.
+const ACTION_LINE: &str = "  a line has a process and its action, as explain shows it\n";
+
 // What takes Linux's rule of exits.
 const SECOND: &str = "  --exits linux takes an image of version 2\n";
 
@@ -43,6 +46,7 @@ fn help_to(failure: Failure<'_>) -> &'static str
 {
     match failure {
         Failure::LogLine(_) => LINE,
+        Failure::ActionLine(_) => ACTION_LINE,
         Failure::LogSteps(_) | Failure::LogBytes(_) => LONGER,
         Failure::FirstVersion => SECOND,
         Failure::Read { .. }
@@ -54,6 +58,7 @@ fn help_to(failure: Failure<'_>) -> &'static str
         | Failure::Broken(_)
         | Failure::NoFailure
         | Failure::LogEntry(_)
+        | Failure::Action(_)
         | Failure::Memory => "",
     }
 }

@@ -1,5 +1,6 @@
 // What stands above the picture of a run: the file, which run it is, and how it ended.
 
+use action_text::RunEnd;
 use commandline::ExplainedBy;
 use run_hints::Way;
 use runner::Verdict;
@@ -104,5 +105,31 @@ pub(crate) fn title_of_found(alloc: Global, file: &str, end: &str) -> Result<Str
     let mut title = String::new(alloc);
     write!(title, "{file}: found by a search, ")?;
     title.push_str(end)?;
+    Ok(title)
+}
+
+// How a run ended whose actions stand in a file.
+fn end_of_actions(end: RunEnd) -> &'static str {
+    match end {
+        RunEnd::Over => end_of(Verdict::Done),
+        RunEnd::Stuck => end_of(Verdict::Stuck),
+        RunEnd::Open => end_of(Verdict::Limit),
+    }
+}
+
+/// The title of a run whose actions stand in the file of this name.
+///
+/// # Errors
+///
+/// Where memory runs out, and for nothing else.
+pub(crate) fn title_of_actions(
+    alloc: Global,
+    file: &str,
+    name: &str,
+    end: RunEnd,
+) -> Result<String, AllocError> {
+    let mut title = String::new(alloc);
+    write!(title, "{file}: actions {name}, ")?;
+    title.push_str(end_of_actions(end))?;
     Ok(title)
 }

@@ -14,9 +14,9 @@ use Rattle.commandline.specs.declared.options.ReplayedBy.{ReplayedBy}
 use Rattle.commandline.specs.declared.options.RunOptions.{RunOptions}
 use Rattle.commandline.specs.declared.job.Job.{Job}
 use Rattle.commandline.specs.declared.job.Job.TheVariants.{Check, Compile, List as List', Run, Exec, Replay, Explain}
-use Rattle.commandline.specs.declared.job.Job.TheVariants.{Emit, Explore, Search, Follow, Assemble, Fmt, Schedule, Shrink}
+use Rattle.commandline.specs.declared.job.Job.TheVariants.{Emit, Explore, Search, Follow, Assemble, Fmt, Schedule, Shrink, Retell}
 use Rattle.commandline.specs.declared.options.ImageForm.{ImageForm}
-use Rattle.commandline.specs.CommandLine.{IsFmtOf, ReadsExits, ReadsForm, has_any, is_written, of_source}
+use Rattle.commandline.specs.CommandLine.{IsFmtOf, ReadsExits, ReadsForm, has_any, is_written, of_runs, of_source}
 use Rattle.commandline.proofs.NoSources.{clash, no_source}
 use Rattle.commandline.proofs.Numbers.{no_value}
 
@@ -79,13 +79,28 @@ no_formed_replay rows (Replay file exits by trace page hints) none h = none None
 no_formed_replay rows (Follow file form exits by trace hints) none h = none (Some form) h.1
 no_formed_replay rows other none h = h
 
-pub no_explain : (rows : List Row) (job : Job)
+pub no_explain : (rows : List Row) (job : Job) → is_written (codes "actions") rows ≡ false
     → (first_of (codes "FILE") rows ≡ None) ⊎ (((e : ExplainedBy) → IsExplainedBy rows e → ⊥)
     ⊎ ((c : Option ChartOptions) → ReadsChart rows c → ⊥)) → IsExplainOf rows job → ⊥
-no_explain rows (Explain file exits by chart timeline page places hints) (inl none) h = no_value _ _ none h.0
-no_explain rows (Explain file exits by chart timeline page places hints) (inr (inl none)) h = none by h.2
-no_explain rows (Explain file exits by chart timeline page places hints) (inr (inr none)) h = none chart h.3
-no_explain rows other missing h = h
+no_explain rows (Explain file exits by chart timeline page places hints) out (inl none) h = no_value _ _ none h.0
+no_explain rows (Explain file exits by chart timeline page places hints) out (inr (inl none)) h = none by h.2
+no_explain rows (Explain file exits by chart timeline page places hints) out (inr (inr none)) h = none chart h.3
+no_explain rows (Retell file exits actions chart timeline page places hints) out missing h = clash _ h.8 out
+no_explain rows other out missing h = h
+
+pub no_retelling : (rows : List Row) (job : Job) → is_written (codes "actions") rows ≡ true
+    → (has_any of_runs rows ≡ true) ⊎ ((first_of (codes "FILE") rows ≡ None)
+    ⊎ ((first_of (codes "actions") rows ≡ None) ⊎ ((c : Option ChartOptions) → ReadsChart rows c → ⊥)))
+    → IsExplainOf rows job → ⊥
+no_retelling rows (Retell file exits actions chart timeline page places hints) stands (inl more) h = clash _ more h.9
+no_retelling rows (Retell file exits actions chart timeline page places hints) stands (inr (inl none)) h =
+    no_value _ _ none h.0
+no_retelling rows (Retell file exits actions chart timeline page places hints) stands (inr (inr (inl none))) h =
+    no_value _ _ none h.2
+no_retelling rows (Retell file exits actions chart timeline page places hints) stands (inr (inr (inr none))) h =
+    none chart h.3
+no_retelling rows (Explain file exits by chart timeline page places hints) stands missing h = clash _ stands h.8
+no_retelling rows other stands missing h = h
 
 pub no_emit : (rows : List Row) (job : Job)
     → (first_of (codes "FILE") rows ≡ None) ⊎ (first_of (codes "OUT") rows ≡ None) → IsEmitOf rows job → ⊥
@@ -97,15 +112,15 @@ pub no_explore : (rows : List Row) (job : Job) → ReadsForm rows None
     → (is_written (codes "exits") rows ≡ true) ⊎ ((first_of (codes "FILE") rows ≡ None)
     ⊎ (((n : ℕ) → ReadsStates rows n → ⊥) ⊎ (((n : ℕ) → ReadsKills rows n → ⊥)
     ⊎ ((c : Option ChartOptions) → ReadsChart rows c → ⊥)))) → IsExploreOf rows job → ⊥
-no_explore rows (Explore file exits states strays kills ends chart timeline page schedule places hints) source (inl more) h =
-    clash _ more h.13
-no_explore rows (Explore file exits states strays kills ends chart timeline page schedule places hints) source (inr (inl none)) h =
+no_explore rows (Explore file exits states strays kills ends chart timeline page schedule actions places hints) source (inl more) h =
+    clash _ more h.14
+no_explore rows (Explore file exits states strays kills ends chart timeline page schedule actions places hints) source (inr (inl none)) h =
     no_value _ _ none h.0
-no_explore rows (Explore file exits states strays kills ends chart timeline page schedule places hints) source (inr (inr (inl none))) h =
+no_explore rows (Explore file exits states strays kills ends chart timeline page schedule actions places hints) source (inr (inr (inl none))) h =
     none states h.2
-no_explore rows (Explore file exits states strays kills ends chart timeline page schedule places hints) source (inr (inr (inr (inl none)))) h =
+no_explore rows (Explore file exits states strays kills ends chart timeline page schedule actions places hints) source (inr (inr (inr (inl none)))) h =
     none kills h.4
-no_explore rows (Explore file exits states strays kills ends chart timeline page schedule places hints) source (inr (inr (inr (inr none)))) h =
+no_explore rows (Explore file exits states strays kills ends chart timeline page schedule actions places hints) source (inr (inr (inr (inr none)))) h =
     none chart h.6
 no_explore rows (Search file form exits states strays kills files hints) source missing h = no_source rows form source h.1
 no_explore rows other source missing h = h
@@ -114,8 +129,8 @@ pub no_search : (rows : List Row) (job : Job) (form : ImageForm) → ReadsForm r
     → (has_any of_source rows ≡ true)
     ⊎ ((first_of (codes "FILE") rows ≡ None) ⊎ (((e : Exits) → ReadsExits rows e → ⊥)
     ⊎ (((n : ℕ) → ReadsStates rows n → ⊥) ⊎ ((n : ℕ) → ReadsKills rows n → ⊥)))) → IsExploreOf rows job → ⊥
-no_search rows (Explore file exits states strays kills ends chart timeline page schedule places hints) form image missing h =
-    no_source rows form h.12 image
+no_search rows (Explore file exits states strays kills ends chart timeline page schedule actions places hints) form image missing h =
+    no_source rows form h.13 image
 no_search rows (Search file f exits states strays kills files hints) form image (inl more) h = clash _ more h.7
 no_search rows (Search file f exits states strays kills files hints) form image (inr (inl none)) h =
     no_value _ _ none h.0
@@ -128,7 +143,7 @@ no_search rows other form image missing h = h
 
 pub no_formed_search : (rows : List Row) (job : Job) → ((f : Option ImageForm) → ReadsForm rows f → ⊥)
     → IsExploreOf rows job → ⊥
-no_formed_search rows (Explore file exits states strays kills ends chart timeline page schedule places hints) none h = none None h.12
+no_formed_search rows (Explore file exits states strays kills ends chart timeline page schedule actions places hints) none h = none None h.13
 no_formed_search rows (Search file form exits states strays kills files hints) none h = none (Some form) h.1
 no_formed_search rows other none h = h
 

@@ -41,7 +41,7 @@ use Rattle.commandline.specs.declared.options.SearchFiles.{SearchFiles}
 use Rattle.commandline.specs.declared.job.Job.{Job}
 use Rattle.commandline.specs.declared.job.Job.TheVariants.{Check, Compile, List as List', Run, Exec, Replay}
 use Rattle.commandline.specs.declared.job.Job.TheVariants.{Explain, Emit, Explore, Search, Follow, Assemble, Fmt}
-use Rattle.commandline.specs.declared.job.Job.TheVariants.{Schedule, Shrink}
+use Rattle.commandline.specs.declared.job.Job.TheVariants.{Schedule, Shrink, Retell}
 
 -- an argument that has to stand, told by its position
 abbrev pub positional : Text → Rule
@@ -188,25 +188,29 @@ with_chart_options app =
     with_rule (with_rule (with_rule app (valued (codes "chart"))) (action_option (codes "from")))
     (action_option (codes "to"))
 
--- `explain FILE [[--steps N] [--seed N [--strays N] [--kills N]] | --schedule SCHEDULE | --log LOG [--steps N]]
--- [--chart OUT [--from N] [--to N]] [--timeline OUT] [--page OUT] [--places] [--linux] [--hints]`
+-- `explain FILE [[--steps N] [--seed N [--strays N] [--kills N]] | --schedule SCHEDULE | --log LOG [--steps N] |
+-- --actions ACTIONS] [--chart OUT [--from N] [--to N]] [--timeline OUT] [--page OUT] [--places] [--linux] [--hints]`
 abbrev pub explain_command : App
 explain_command =
-    with_rule (with_rule (with_rule (with_rule (with_rule (with_chart_options (with_rule (with_rule (with_rule (with_rule
-    (with_rule (with_rule (with_rule (new_app (codes "explain")) (positional (codes "FILE"))) steps_option) seed_option)
-    strays_option) kills_option) (valued (codes "schedule"))) (valued (codes "log")))) (valued (codes "timeline")))
-    (valued (codes "page"))) (flag (codes "places"))) (flag (codes "linux"))) (flag (codes "hints"))
+    with_rule (with_rule (with_rule (with_rule (with_rule (with_chart_options (with_rule (with_rule
+    (with_rule (with_rule (with_rule (with_rule (with_rule (with_rule (new_app (codes "explain"))
+    (positional (codes "FILE"))) steps_option) seed_option) strays_option) kills_option)
+    (valued (codes "schedule"))) (valued (codes "log"))) (valued (codes "actions"))))
+    (valued (codes "timeline"))) (valued (codes "page"))) (flag (codes "places")))
+    (flag (codes "linux"))) (flag (codes "hints"))
 
 -- `explore FILE [--states N] [--strays] [--kills N] [--ends] [--chart OUT [--from N] [--to N]] [--timeline OUT]
--- [--page OUT] [--schedule OUT] [--places] [--linux] [--hints]`, or of an image
+-- [--page OUT] [--schedule OUT] [--actions OUT] [--places] [--linux] [--hints]`, or of an image
 -- `explore FILE [--states N] [--strays] [--kills N] (--assembly | --image) [--schedule OUT] [--chart OUT] [--timeline OUT]
 -- [--exits RULE] [--hints]`
 abbrev pub explore_command : App
 explore_command =
-    with_rule (with_exits (with_rule (with_form (with_rule (with_rule (with_rule (with_chart_options (with_rule (with_rule
-    (with_rule (with_rule (with_rule (new_app (codes "explore")) (positional (codes "FILE"))) states_option)
-    (flag (codes "strays"))) kills_option) (flag (codes "ends")))) (valued (codes "timeline"))) (valued (codes "page"))) (flag (codes "places"))))
-    (valued (codes "schedule")))) (flag (codes "hints"))
+    with_rule (with_exits (with_rule (with_rule (with_form (with_rule (with_rule (with_rule
+    (with_chart_options (with_rule (with_rule (with_rule (with_rule (with_rule
+    (new_app (codes "explore")) (positional (codes "FILE"))) states_option) (flag (codes "strays")))
+    kills_option) (flag (codes "ends")))) (valued (codes "timeline"))) (valued (codes "page")))
+    (flag (codes "places")))) (valued (codes "schedule"))) (valued (codes "actions"))))
+    (flag (codes "hints"))
 
 -- `assemble FILE OUT [--hints]`
 abbrev pub assemble_command : App
@@ -375,7 +379,13 @@ ReadsOptions rows o =
 
 -- what a search has that is of a source text alone
 abbrev pub of_source : List Text
-of_source = codes "from" ∷ codes "to" ∷ codes "page" ∷ codes "places" ∷ codes "linux" ∷ codes "ends" ∷ []
+of_source =
+    codes "from" ∷ codes "to" ∷ codes "page" ∷ codes "places" ∷ codes "linux" ∷ codes "ends" ∷ codes "actions" ∷ []
+
+-- what says which run is made or followed, where its actions don't stand in a file
+abbrev pub of_runs : List Text
+of_runs =
+    codes "steps" ∷ codes "schedule" ∷ codes "log" ∷ codes "seed" ∷ codes "strays" ∷ codes "kills" ∷ []
 
 -- the files that show what a search over an image found
 abbrev pub ReadsSearchFiles : List Row → SearchFiles → Type 0
@@ -489,13 +499,20 @@ AsksForReplay rows (Follow file form exits by trace hints) =
     × (has_any (codes "page" ∷ codes "linux" ∷ []) rows ≡ false) × ReadsFlag (codes "hints") rows hints
 AsksForReplay rows other = ⊥
 
--- a job of explaining
+-- a job of explaining: a run that is made or followed, or the actions of a file
 abbrev pub IsExplainOf : List Row → Job → Type 0
 IsExplainOf rows (Explain file exits by chart timeline page places hints) =
     (first_of (codes "FILE") rows ≡ Some file.now) × ReadsLinux rows exits × IsExplainedBy rows by × ReadsChart rows chart
     × (first_of (codes "timeline") rows ≡ option_map (λ out. out.now) timeline)
     × (first_of (codes "page") rows ≡ option_map (λ out. out.now) page) × ReadsFlag (codes "places") rows places
-    × ReadsFlag (codes "hints") rows hints
+    × ReadsFlag (codes "hints") rows hints × (is_written (codes "actions") rows ≡ false)
+IsExplainOf rows (Retell file exits actions chart timeline page places hints) =
+    (first_of (codes "FILE") rows ≡ Some file.now) × ReadsLinux rows exits
+    × (first_of (codes "actions") rows ≡ Some actions.now) × ReadsChart rows chart
+    × (first_of (codes "timeline") rows ≡ option_map (λ out. out.now) timeline)
+    × (first_of (codes "page") rows ≡ option_map (λ out. out.now) page) × ReadsFlag (codes "places") rows places
+    × ReadsFlag (codes "hints") rows hints × (is_written (codes "actions") rows ≡ true)
+    × (has_any of_runs rows ≡ false)
 IsExplainOf rows other = ⊥
 
 -- a job of writing C
@@ -507,12 +524,13 @@ IsEmitOf rows other = ⊥
 
 -- a job of searching all runs, or all schedules of an image
 abbrev pub IsExploreOf : List Row → Job → Type 0
-IsExploreOf rows (Explore file exits states strays kills ends chart timeline page schedule places hints) =
+IsExploreOf rows (Explore file exits states strays kills ends chart timeline page schedule actions places hints) =
     (first_of (codes "FILE") rows ≡ Some file.now) × ReadsLinux rows exits × ReadsStates rows states
     × ReadsFlag (codes "strays") rows strays × ReadsKills rows kills × ReadsFlag (codes "ends") rows ends
     × ReadsChart rows chart × (first_of (codes "timeline") rows ≡ option_map (λ out. out.now) timeline)
     × (first_of (codes "page") rows ≡ option_map (λ out. out.now) page)
     × (first_of (codes "schedule") rows ≡ option_map (λ out. out.now) schedule)
+    × (first_of (codes "actions") rows ≡ option_map (λ out. out.now) actions)
     × ReadsFlag (codes "places") rows places × ReadsFlag (codes "hints") rows hints × ReadsForm rows None
     × (is_written (codes "exits") rows ≡ false)
 IsExploreOf rows (Search file form exits states strays kills files hints) =

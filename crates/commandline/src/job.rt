@@ -1,10 +1,11 @@
-ghost use Rattle.std.specs.Prelude.{IfOk, IfErr, IfSome, None, Some, true, map, ◌≡◌};
+ghost use Rattle.std.specs.Prelude.{IfOk, IfErr, IfSome, None, Some, codes, true, map, ◌≡◌};
 ghost use Rattle.clap.specs.Words.{app_of, found_of, kind_of, subcommand_rows_of, takes};
 ghost use Rattle.clap.specs.Walk.{rows_of};
 ghost use Rattle.clap.specs.declared.error.kind.ErrorKind.TheVariants.{OutOfMemory};
 ghost use Rattle.commandline.specs.CommandLine.{AreInOrder, AsksFor, IsAskedBy, IsCheckOf, IsCompileOf, IsEmitOf, IsExplainOf, IsListOf};
 ghost use Rattle.commandline.specs.CommandLine.{IsAssembleOf, IsExploreOf, IsFmtOf, IsScheduleOf, IsShrinkOf, ReadsForm};
 ghost use Rattle.commandline.specs.CommandLine.{AsksForExec, AsksForReplay, AsksForRun, command_line};
+ghost use Rattle.commandline.specs.CommandLine.{is_written as stands};
 ghost use Rattle.commandline.specs.declared.job.Job.{Job as JobOf};
 
 use crate::builder::command;
@@ -14,8 +15,8 @@ use crate::options::{
 };
 use crate::refusing::refusal_of;
 use crate::sources::{
-    exits_of, explained_by, form_of, image_form_of, linux_of, replayed_by, replays_source,
-    search_files_of, searches_source,
+    exits_of, explained_by, form_of, image_form_of, linux_of, names_run, replayed_by,
+    replays_source, search_files_of, searches_source,
 };
 use crate::values::{
     chart_of, is_written, kills_of, options_of, states_of, steps_of, version_of, workers_of,
@@ -117,6 +118,26 @@ pub enum Job<'a> {
         /// Whether hints stand behind what is told.
         hints: bool,
     },
+    /// Print the run of the source text of a file whose actions stand in another file, and draw and time it where that is
+    /// wanted.
+    Retell {
+        /// The name of the source text's file.
+        file: &'a str,
+        /// By whose rule the exits of its image's threads wake.
+        exits: Exits,
+        /// The name of the file of the actions.
+        actions: &'a str,
+        /// The picture of it, where one is wanted.
+        chart: Option<ChartOptions<'a>>,
+        /// The name of the timeline's file, where one is wanted.
+        timeline: Option<&'a str>,
+        /// The name of the page's file, where one is wanted.
+        page: Option<&'a str>,
+        /// Whether each action goes on with its place.
+        places: bool,
+        /// Whether hints stand behind what is told.
+        hints: bool,
+    },
     /// Write the program of a file as one in C.
     Emit {
         /// The name of the source text's file.
@@ -149,6 +170,8 @@ pub enum Job<'a> {
         page: Option<&'a str>,
         /// The name of the file of a schedule by which the text's image goes there, where one is wanted.
         schedule: Option<&'a str>,
+        /// The name of the file of the actions of the run that was found, where one is wanted.
+        actions: Option<&'a str>,
         /// Whether each action goes on with its place.
         places: bool,
         /// Whether hints stand behind a refusal of the source text.
@@ -450,6 +473,9 @@ fn explain_of<'a>(matches: &ArgMatches<'a>) -> Option<Job<'a>>
     ensures none { result ≡ None → (job : JobOf) → IsExplainOf (rows_of (found_of matches.now)) job
         → ⊥ }
 {
+    if is_written(matches, "actions") {
+        return retold_of(matches);
+    }
     let file = matches.get_str("FILE")?;
     let exits = linux_of(matches);
     let by = explained_by(matches)?;
@@ -462,6 +488,36 @@ fn explain_of<'a>(matches: &ArgMatches<'a>) -> Option<Job<'a>>
         file,
         exits,
         by,
+        chart,
+        timeline,
+        page,
+        places,
+        hints,
+    })
+}
+
+// A run whose actions stand in a file.
+fn retold_of<'a>(matches: &ArgMatches<'a>) -> Option<Job<'a>>
+    requires { stands (codes "actions") (rows_of (found_of matches.now)) ≡ true }
+    ensures job { IfSome result (IsExplainOf (rows_of (found_of matches.now))) }
+    ensures none { result ≡ None → (job : JobOf) → IsExplainOf (rows_of (found_of matches.now)) job
+        → ⊥ }
+{
+    if names_run(matches) {
+        return None;
+    }
+    let file = matches.get_str("FILE")?;
+    let exits = linux_of(matches);
+    let actions = matches.get_str("actions")?;
+    let chart = chart_of(matches)?;
+    let timeline = matches.get_str("timeline");
+    let page = matches.get_str("page");
+    let places = matches.get_flag("places");
+    let hints = matches.get_flag("hints");
+    Some(Job::Retell {
+        file,
+        exits,
+        actions,
         chart,
         timeline,
         page,
@@ -512,6 +568,7 @@ fn explored_of<'a>(matches: &ArgMatches<'a>) -> Option<Job<'a>>
     let timeline = matches.get_str("timeline");
     let page = matches.get_str("page");
     let schedule = matches.get_str("schedule");
+    let actions = matches.get_str("actions");
     let places = matches.get_flag("places");
     let hints = matches.get_flag("hints");
     Some(Job::Explore {
@@ -525,6 +582,7 @@ fn explored_of<'a>(matches: &ArgMatches<'a>) -> Option<Job<'a>>
         timeline,
         page,
         schedule,
+        actions,
         places,
         hints,
     })

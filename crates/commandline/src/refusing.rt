@@ -1,5 +1,5 @@
 use crate::builder::Subcommand;
-use crate::sources::{exits_of, explained_by};
+use crate::sources::{exits_of, explained_by, names_run};
 use crate::tables::{EXEC, EXPLAIN, EXPLORE, REPLAY, RUN};
 use crate::values::is_written;
 use clap::error::ErrorKind;
@@ -37,7 +37,7 @@ const PAGE_OF_IMAGE: &str =
     "the argument '--page <OUT>' cannot be used with '--assembly' or '--image'";
 
 const PICTURE_OF_IMAGE: &str =
-    "the arguments '--from <N>', '--to <N>', '--page <OUT>', '--places' and '--ends' cannot be used with '--assembly' or '--image'";
+    "the arguments '--from <N>', '--to <N>', '--page <OUT>', '--actions <OUT>', '--places' and '--ends' cannot be used with '--assembly' or '--image'";
 
 // What is said of actions that no picture has.
 const NO_CHART_FROM: &str = "the argument '--from <N>' cannot be used without '--chart <OUT>'";
@@ -188,10 +188,21 @@ fn no_seed(matches: &ArgMatches<'_>) -> &'static str {
 
 // Why the arguments of `explain` ask for nothing.
 fn no_explanation(matches: &ArgMatches<'_>) -> (ErrorKind, &'static str) {
-    if explained_by(matches).is_some() {
+    if is_written(matches, "actions") {
+        no_retelling(matches)
+    } else if explained_by(matches).is_some() {
         no_chart(matches)
     } else {
         no_run(matches)
+    }
+}
+
+// Why those that name the file of a run's actions do.
+fn no_retelling(matches: &ArgMatches<'_>) -> (ErrorKind, &'static str) {
+    if names_run(matches) {
+        (ErrorKind::ArgumentConflict, beside_actions(matches))
+    } else {
+        no_chart(matches)
     }
 }
 
@@ -244,5 +255,22 @@ fn beside_log(matches: &ArgMatches<'_>) -> &'static str {
         "the argument '--strays <N>' cannot be used with '--log <LOG>'"
     } else {
         "the argument '--kills <N>' cannot be used with '--log <LOG>'"
+    }
+}
+
+// Which argument can't stand beside the actions of a run, and does.
+fn beside_actions(matches: &ArgMatches<'_>) -> &'static str {
+    if is_written(matches, "schedule") {
+        "the argument '--schedule <SCHEDULE>' cannot be used with '--actions <ACTIONS>'"
+    } else if is_written(matches, "log") {
+        "the argument '--log <LOG>' cannot be used with '--actions <ACTIONS>'"
+    } else if is_written(matches, "seed") {
+        "the argument '--seed <N>' cannot be used with '--actions <ACTIONS>'"
+    } else if is_written(matches, "strays") {
+        "the argument '--strays <N>' cannot be used with '--actions <ACTIONS>'"
+    } else if is_written(matches, "kills") {
+        "the argument '--kills <N>' cannot be used with '--actions <ACTIONS>'"
+    } else {
+        "the argument '--steps <N>' cannot be used with '--actions <ACTIONS>'"
     }
 }

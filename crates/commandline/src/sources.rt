@@ -1,7 +1,7 @@
 ghost use Rattle.std.specs.Prelude.{IfSome, None, Option as OptionOf, Some, [], ◌∷◌, codes, true, false, ◌≡◌};
 ghost use Rattle.clap.specs.Words.{first_of, found_of};
 ghost use Rattle.clap.specs.Walk.{rows_of};
-ghost use Rattle.commandline.specs.CommandLine.{IsExplainedBy, IsReplayedBy, ReadsForm, ReadsImageForm, has_any, of_source};
+ghost use Rattle.commandline.specs.CommandLine.{IsExplainedBy, IsReplayedBy, ReadsForm, ReadsImageForm, has_any, of_runs, of_source};
 ghost use Rattle.commandline.specs.CommandLine.{IsExits, ReadsExits, ReadsLinux, ReadsSearchFiles};
 ghost use Rattle.commandline.specs.CommandLine.{is_written as stands};
 ghost use Rattle.commandline.specs.declared.options.Exits.{Exits as ExitsOf};
@@ -89,6 +89,19 @@ pub fn searches_source(matches: &ArgMatches<'_>) -> bool
         || is_written(matches, "places")
         || is_written(matches, "linux")
         || is_written(matches, "ends")
+        || is_written(matches, "actions")
+}
+
+/// Whether the words say which run is made or followed.
+pub fn names_run(matches: &ArgMatches<'_>) -> bool
+    ensures { result ≡ has_any of_runs (rows_of (found_of matches.now)) }
+{
+    is_written(matches, "steps")
+        || is_written(matches, "schedule")
+        || is_written(matches, "log")
+        || is_written(matches, "seed")
+        || is_written(matches, "strays")
+        || is_written(matches, "kills")
 }
 
 /// Whether the words have what a replay has that is of a source text alone.

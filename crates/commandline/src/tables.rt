@@ -333,6 +333,11 @@ pub(crate) const EXPLAIN: Subcommand = Subcommand {
             help: "The log of the run",
         },
         Argument {
+            name: "actions",
+            kind: Kind::Valued("ACTIONS"),
+            help: "The actions of the run, a line each",
+        },
+        Argument {
             name: "chart",
             kind: Kind::Valued("OUT"),
             help: "Where the picture of the run is written",
@@ -407,6 +412,11 @@ pub(crate) const EXPLORE: Subcommand = Subcommand {
             name: "schedule",
             kind: Kind::Valued("OUT"),
             help: "Where a schedule of what is found is written",
+        },
+        Argument {
+            name: "actions",
+            kind: Kind::Valued("OUT"),
+            help: "Where the actions of what is found are written",
         },
         LINUX,
         EXITS,

@@ -5,7 +5,7 @@ use Rattle.std.specs.Prelude.{IsErr, IsErrAnd, bytes_eq}
 use Rattle.commandline.specs.CommandLine.{AsksFor}
 use Rattle.commandline.specs.declared.job.Job.{Job}
 use Rattle.commandline.specs.declared.job.Job.TheVariants.{Check, Compile, List as ListImage, Run, Exec, Replay, Explain, Emit, Explore}
-use Rattle.commandline.specs.declared.job.Job.TheVariants.{Assemble, Fmt, Follow, Search, Shrink, Schedule as ScheduleLog}
+use Rattle.commandline.specs.declared.job.Job.TheVariants.{Assemble, Fmt, Follow, Search, Shrink, Schedule as ScheduleLog, Retell}
 use Rattle.commandline.proofs.Workers.{compiling_workers}
 use Rattle.commandline.specs.declared.options.Exits.{Exits}
 use Rattle.answers.proofs.Told.{lefts_so, ok_so}
@@ -28,6 +28,9 @@ use Rattle.image_search.specs.declared.ending.Sleeping.{Sleeping}
 use Rattle.image_search.specs.declared.ending.Sleeping.TheVariants as sleeping
 use Rattle.answers.specs.Exploring.{found_status, is_failed}
 use Rattle.answers.specs.Formatting.{layout_status}
+use Rattle.answers.specs.Retelling.{status_of_end}
+use Rattle.action_text.specs.declared.ends.RunEnd.{RunEnd}
+use Rattle.action_text.specs.declared.ends.RunEnd.TheVariants as run
 use Rattle.answers.specs.Images.{search_status, sleeping_status}
 use Rattle.answers.specs.Failures.{IsLeftBy, OrMemory}
 use Rattle.mesamon.specs.Overwriting.{overwrites}
@@ -99,8 +102,9 @@ has_workers ws (Run file exits options page hints) asks = tt
 has_workers ws (Exec image form exits options) asks = tt
 has_workers ws (Replay file exits by trace page hints) asks = tt
 has_workers ws (Explain file exits by chart timeline page places hints) asks = tt
+has_workers ws (Retell file exits actions chart timeline page places hints) asks = tt
 has_workers ws (Emit file out hints) asks = tt
-has_workers ws (Explore file exits states strays kills every chart timeline page schedule places hints) asks = tt
+has_workers ws (Explore file exits states strays kills every chart timeline page schedule actions places hints) asks = tt
 has_workers ws (Search file form exits states strays kills files hints) asks = tt
 has_workers ws (Follow file form exits by trace hints) asks = tt
 has_workers ws (Assemble file out hints) asks = tt
@@ -143,6 +147,11 @@ search_end s (ending.Failed turns) = tt
 search_end s (ending.Broken turns) = tt
 search_end s (ending.Bounded bound) = tt
 
+told_end : (e : RunEnd) → IsEnd (status_of_end e)
+told_end run.Over = tt
+told_end run.Stuck = tt
+told_end run.Open = tt
+
 layout_end : (check same : Bool) → IsEnd (layout_status check same)
 layout_end false same = tt
 layout_end true true = tt
@@ -160,8 +169,10 @@ ends (Exec image form exits options) bytes second a h = end_as a.status _ h.runs
 ends (Replay file exits by trace page hints) bytes second a h = end_as a.status _ h.tells.ended (verdict_end h.report.verdict)
 ends (Explain file exits by chart timeline page places hints) bytes second a h =
     end_as a.status _ h.tells.ended (verdict_end h.explained_run.report.verdict)
+ends (Retell file exits actions chart timeline page places hints) bytes second a h =
+    end_as a.status _ h.retells.tells.ended (told_end h.retells.end)
 ends (Emit file out hints) bytes second a h = end_as a.status Done h.tells.tells.ended tt
-ends (Explore file exits states strays kills every chart timeline page schedule places hints) bytes second a h =
+ends (Explore file exits states strays kills every chart timeline page schedule actions places hints) bytes second a h =
     let e = h.explored_text.exploration in
     end_as a.status _ h.tells.ended (found_end (is_some e.stuck) (is_failed e) e.complete)
 ends (Search file form exits states strays kills files hints) bytes second a h =

@@ -6,7 +6,7 @@ use Rattle.commandline.specs.declared.options.ExplainedBy.{ExplainedBy}
 use Rattle.commandline.specs.declared.options.ExplainedBy.TheVariants.{Order, Seed, Schedule, Log}
 use Rattle.commandline.specs.declared.job.Job.{Job}
 use Rattle.commandline.specs.declared.job.Job.TheVariants.{Check, Compile, List as ListImage, Run, Exec, Replay, Explain, Emit, Explore}
-use Rattle.commandline.specs.declared.job.Job.TheVariants.{Assemble, Fmt, Follow, Search, Shrink, Schedule as ScheduleLog}
+use Rattle.commandline.specs.declared.job.Job.TheVariants.{Assemble, Fmt, Follow, Search, Shrink, Schedule as ScheduleLog, Retell}
 use Rattle.commandline.specs.declared.options.Exits.{Exits}
 use Rattle.commandline.specs.declared.options.Exits.TheVariants as rule
 use Rattle.commandline.specs.declared.options.ImageForm.{ImageForm}
@@ -28,8 +28,9 @@ asks_for_hints (Run file exits options page hints) = hints
 asks_for_hints (Exec image form exits options) = false
 asks_for_hints (Replay file exits by trace page hints) = hints
 asks_for_hints (Explain file exits by chart timeline page places hints) = hints
+asks_for_hints (Retell file exits actions chart timeline page places hints) = hints
 asks_for_hints (Emit file out hints) = hints
-asks_for_hints (Explore file exits states strays kills ends chart timeline page schedule places hints) = hints
+asks_for_hints (Explore file exits states strays kills ends chart timeline page schedule actions places hints) = hints
 asks_for_hints (Search file form exits states strays kills files hints) = hints
 asks_for_hints (Follow file form exits by trace hints) = hints
 asks_for_hints (Assemble file out hints) = hints
@@ -46,8 +47,9 @@ exits_of (Run file exits options page hints) = exits
 exits_of (Exec image form exits options) = exits
 exits_of (Replay file exits by trace page hints) = exits
 exits_of (Explain file exits by chart timeline page places hints) = exits
+exits_of (Retell file exits actions chart timeline page places hints) = exits
 exits_of (Emit file out hints) = rule.Machine
-exits_of (Explore file exits states strays kills ends chart timeline page schedule places hints) = exits
+exits_of (Explore file exits states strays kills ends chart timeline page schedule actions places hints) = exits
 exits_of (Search file form exits states strays kills files hints) = exits
 exits_of (Follow file form exits by trace hints) = exits
 exits_of (Assemble file out hints) = rule.Machine
@@ -60,7 +62,7 @@ abbrev pub most_read : ℕ
 most_read = most_bytes + 1
 
 -- how many bytes are read, at most, of the second file of a job, where it has one: the source beside an image, a schedule,
--- or a log
+-- a log, or the actions of a run, of which all are
 abbrev pub read_of_source : Option (Bor (List ℕ)) → Option ℕ
 read_of_source None = None
 read_of_source (Some name) = Some most_read
@@ -79,12 +81,13 @@ abbrev pub read_second : Job → Option ℕ
 read_second (ListImage image linux source hints) = read_of_source source
 read_second (Replay file exits by trace page hints) = read_of_replay by
 read_second (Explain file exits by chart timeline page places hints) = read_of_explained by
+read_second (Retell file exits actions chart timeline page places hints) = Some (2 ^ 62)
 read_second (Check file hints) = None
 read_second (Compile file out workers version hints) = None
 read_second (Run file exits options page hints) = None
 read_second (Exec image form exits options) = None
 read_second (Emit file out hints) = None
-read_second (Explore file exits states strays kills ends chart timeline page schedule places hints) = None
+read_second (Explore file exits states strays kills ends chart timeline page schedule actions places hints) = None
 read_second (Search file form exits states strays kills files hints) = None
 read_second (Follow file form exits by trace hints) = read_of_replay by
 read_second (Assemble file out hints) = None
@@ -96,6 +99,7 @@ read_second (Shrink file exits schedule out hints) = Some most_read
 abbrev pub most_of : Second → Option ℕ
 most_of also.None = None
 most_of (also.Text name) = Some most_read
+most_of (also.All name) = Some (2 ^ 62)
 most_of (also.Log name steps) = Some (log_bytes steps + 1)
 
 -- of an image, by its form: of an assembly text all
@@ -118,8 +122,9 @@ first_most (Run file exits options page hints) = most_read
 first_most (Exec image form exits options) = most_formed form
 first_most (Replay file exits by trace page hints) = most_read
 first_most (Explain file exits by chart timeline page places hints) = most_read
+first_most (Retell file exits actions chart timeline page places hints) = most_read
 first_most (Emit file out hints) = most_read
-first_most (Explore file exits states strays kills ends chart timeline page schedule places hints) = most_read
+first_most (Explore file exits states strays kills ends chart timeline page schedule actions places hints) = most_read
 first_most (Search file form exits states strays kills files hints) = most_formed form
 first_most (Follow file form exits by trace hints) = most_formed form
 first_most (Assemble file out hints) = 2 ^ 62

@@ -11,7 +11,7 @@ use Rattle.log_text.specs.LogLines.{line_feed}
 use Rattle.commandline.specs.CommandLine.{AsksFor, command_line, version_by}
 use Rattle.commandline.specs.declared.job.Job.{Job}
 use Rattle.commandline.specs.declared.job.Job.TheVariants.{Check, Compile, List as ListImage, Run, Exec, Replay, Explain, Emit, Explore}
-use Rattle.commandline.specs.declared.job.Job.TheVariants.{Assemble, Fmt, Follow, Search, Shrink, Schedule as ScheduleLog}
+use Rattle.commandline.specs.declared.job.Job.TheVariants.{Assemble, Fmt, Follow, Search, Shrink, Schedule as ScheduleLog, Retell}
 use Rattle.compiler.specs.Accepts.{RefusesProgram, RefusesTextAs}
 use Rattle.answers.specs.declared.answer.Answer.{Answer}
 use Rattle.answers.specs.declared.failure.Failure.{Failure}
@@ -34,6 +34,7 @@ use Rattle.answers.specs.Done.{RefusesListing}
 use Rattle.mesamon.specs.Asked.{AreRead, asks_for_hints}
 use Rattle.answers.specs.Exploring.{HasExplored}
 use Rattle.answers.specs.Formatting.{HasLaidOut}
+use Rattle.answers.specs.Retelling.{FailsRetelling, HasRetold}
 use Rattle.answers.specs.Scheduling.{HasScheduled}
 use Rattle.answers.specs.Shrinking.{HasShrunk}
 use Rattle.answers.specs.Images.{HasFollowed, HasSearched, UnassemblesAs}
@@ -53,10 +54,12 @@ HasDone (Replay file exits by trace page hints) bytes second a =
     HasRun (IsReplayedAs (version_by exits) by second) trace (log_beside by) page bytes a
 HasDone (Explain file exits by chart timeline page places hints) bytes second a =
     HasExplained (version_by exits) by second places chart timeline page bytes a
+HasDone (Retell file exits actions chart timeline page places hints) bytes second a =
+    HasRetold second places chart timeline page bytes a
 HasDone (Emit file out hints) bytes second a = HasEmitted out bytes a
-HasDone (Explore file exits states strays kills ends chart timeline page schedule places hints) bytes second a =
+HasDone (Explore file exits states strays kills ends chart timeline page schedule actions places hints) bytes second a =
     HasExplored (version_by exits) (record { strays = strays; kills = kills }) (record { ends = ends }) states places chart
-    timeline page schedule bytes a
+    timeline page schedule actions bytes a
 HasDone (Search file form exits states strays kills files hints) bytes second a =
     HasSearched exits form (record { strays = strays; kills = kills }) states files bytes a
 HasDone (Follow file form exits by trace hints) bytes second a = HasFollowed exits form by trace bytes second a
@@ -75,8 +78,10 @@ RefusesJob (Run file exits options page hints) bytes second e = RefusesTextAs (v
 RefusesJob (Replay file exits by trace page hints) bytes second e = RefusesTextAs (version_by exits) bytes e
 RefusesJob (Explain file exits by chart timeline page places hints) bytes second e =
     RefusesTextAs (version_by exits) bytes e
+RefusesJob (Retell file exits actions chart timeline page places hints) bytes second e =
+    RefusesTextAs (version_by exits) bytes e
 RefusesJob (Emit file out hints) bytes second e = RefusesTextAs Linux bytes e
-RefusesJob (Explore file exits states strays kills ends chart timeline page schedule places hints) bytes second e =
+RefusesJob (Explore file exits states strays kills ends chart timeline page schedule actions places hints) bytes second e =
     RefusesTextAs (version_by exits) bytes e
 RefusesJob (Search file form exits states strays kills files hints) bytes second e = ⊥
 RefusesJob (Follow file form exits by trace hints) bytes second e = ⊥
@@ -94,8 +99,9 @@ UnassemblesJob (Exec image form exits options) bytes e = UnassemblesAs form byte
 UnassemblesJob (Run file exits options page hints) bytes e = ⊥
 UnassemblesJob (Replay file exits by trace page hints) bytes e = ⊥
 UnassemblesJob (Explain file exits by chart timeline page places hints) bytes e = ⊥
+UnassemblesJob (Retell file exits actions chart timeline page places hints) bytes e = ⊥
 UnassemblesJob (Emit file out hints) bytes e = ⊥
-UnassemblesJob (Explore file exits states strays kills ends chart timeline page schedule places hints) bytes e = ⊥
+UnassemblesJob (Explore file exits states strays kills ends chart timeline page schedule actions places hints) bytes e = ⊥
 UnassemblesJob (Search file form exits states strays kills files hints) bytes e = UnassemblesAs form bytes e
 UnassemblesJob (Follow file form exits by trace hints) bytes e = UnassemblesAs form bytes e
 UnassemblesJob (Assemble file out hints) bytes e = RefusesAssembly bytes e
@@ -114,8 +120,10 @@ FailsJob (Exec image form exits options) bytes second f = FailsRun exits form op
 FailsJob (Replay file exits by trace page hints) bytes second f = FailsReplay (version_by exits) by bytes second f
 FailsJob (Explain file exits by chart timeline page places hints) bytes second f =
     FailsExplanation (version_by exits) by bytes second f
+FailsJob (Retell file exits actions chart timeline page places hints) bytes second f =
+    FailsRetelling bytes second f
 FailsJob (Emit file out hints) bytes second f = ⊥
-FailsJob (Explore file exits states strays kills ends chart timeline page schedule places hints) bytes second f = ⊥
+FailsJob (Explore file exits states strays kills ends chart timeline page schedule actions places hints) bytes second f = ⊥
 FailsJob (Search file form exits states strays kills files hints) bytes second f = FailsImage exits form bytes f
 FailsJob (Follow file form exits by trace hints) bytes second f = FailsFollowing exits form by bytes second f
 FailsJob (Assemble file out hints) bytes second f = ⊥

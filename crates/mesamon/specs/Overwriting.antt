@@ -3,7 +3,7 @@ use Rattle.std.proofs.Common.{Bor}
 use Rattle.std.specs.Prelude.{ℕ, Bool, false, List, Option, Some, None, ◌||◌, bytes_eq}
 use Rattle.commandline.specs.declared.job.Job.{Job}
 use Rattle.commandline.specs.declared.job.Job.TheVariants.{Check, Compile, List as ListImage, Run, Exec, Replay, Explain, Emit, Explore}
-use Rattle.commandline.specs.declared.job.Job.TheVariants.{Assemble, Fmt, Follow, Search, Shrink, Schedule as ScheduleLog}
+use Rattle.commandline.specs.declared.job.Job.TheVariants.{Assemble, Fmt, Follow, Search, Shrink, Schedule as ScheduleLog, Retell}
 use Rattle.answers.specs.Answers.{out_of}
 use Rattle.commandline.specs.declared.options.ExplainedBy.{ExplainedBy}
 use Rattle.commandline.specs.declared.options.ExplainedBy.TheVariants.{Order, Seed, Schedule, Log}
@@ -27,11 +27,16 @@ abbrev pub draws_over : (read also_read chart timeline page : Option (Bor (List 
 draws_over read also_read chart timeline page =
     is_twice read also_read chart timeline || is_twice read also_read chart page || is_same timeline page
 
--- the same of what shows a run of the text in a file: its picture, its timeline, its page and a schedule
-abbrev pub finds_over : (file : Bor (List ℕ)) (chart timeline page schedule : Option (Bor (List ℕ))) → Bool
-finds_over file chart timeline page schedule =
-    draws_over (Some file) None chart timeline page || is_same schedule (Some file) || is_same schedule chart
-    || is_same schedule timeline || is_same schedule page
+-- whether a file is one of these four
+abbrev pub is_one_of : (name first second third fourth : Option (Bor (List ℕ))) → Bool
+is_one_of name first second third fourth =
+    is_same name first || is_same name second || is_same name third || is_same name fourth
+
+-- the same of what shows a run of the text in a file: its picture, its timeline, its page, a schedule and its actions
+abbrev pub finds_over : (file : Bor (List ℕ)) (chart timeline page schedule actions : Option (Bor (List ℕ))) → Bool
+finds_over file chart timeline page schedule actions =
+    draws_over (Some file) None chart timeline page || is_one_of schedule (Some file) chart timeline page
+    || is_one_of actions (Some file) chart timeline page || is_same actions schedule
 
 -- the file that says which run is explained
 abbrev pub read_by : ExplainedBy → Option (Bor (List ℕ))
@@ -60,5 +65,7 @@ overwrites (Shrink file exits schedule out hints) = is_twice (Some file) (Some s
 overwrites (Exec image form exits options) = is_twice (Some image) None options.log None
 overwrites (Replay file exits by trace page hints) = replay_overwrites file by page
 overwrites (Explain file exits by chart timeline page places hints) = draws_over (Some file) (read_by by) (out_of chart) timeline page
-overwrites (Explore file exits states strays kills ends chart timeline page schedule places hints) =
-    finds_over file (out_of chart) timeline page schedule
+overwrites (Retell file exits actions chart timeline page places hints) =
+    draws_over (Some file) (Some actions) (out_of chart) timeline page
+overwrites (Explore file exits states strays kills ends chart timeline page schedule actions places hints) =
+    finds_over file (out_of chart) timeline page schedule actions

@@ -77,7 +77,8 @@ pub fn put_files<'a, R: Files + AllocGlobal>(
     put_wanted(rt, failures, &files.out)?;
     put_wanted(rt, failures, &files.timeline)?;
     put_wanted(rt, failures, &files.page)?;
-    put_wanted(rt, failures, &files.schedule)
+    put_wanted(rt, failures, &files.schedule)?;
+    put_wanted(rt, failures, &files.actions)
 }
 
 // Writes a file, where there is one, in place of what it held, as `put_counted` does; the failure names it.

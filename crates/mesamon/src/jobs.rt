@@ -9,10 +9,10 @@ ghost use Rattle.answers.specs.Failures.{IsLeftBy, OrMemory};
 
 use crate::files::{bytes_of, front_of};
 use answers::{
-    Answer, Drawings, Failure, NoAnswer, Searched, SourceText, answer_assemble, answer_check,
-    answer_compile, answer_emit, answer_exec, answer_explain, answer_explore, answer_fmt,
-    answer_follow, answer_list, answer_replay, answer_run, answer_schedule, answer_search,
-    answer_shrink, log_bytes, tell_refused,
+    Answer, Drawings, Failure, FoundFiles, NoAnswer, Searched, SourceText, answer_assemble,
+    answer_check, answer_compile, answer_emit, answer_exec, answer_explain, answer_explore,
+    answer_fmt, answer_follow, answer_list, answer_replay, answer_retell, answer_run,
+    answer_schedule, answer_search, answer_shrink, log_bytes, tell_refused,
 };
 use commandline::{Exits, ExplainedBy, ImageForm, Job, ReplayedBy};
 use devices::FileFailures;
@@ -33,6 +33,7 @@ pub fn asks_for_hints(job: &Job<'_>) -> bool
         | Job::Run { hints, .. }
         | Job::Replay { hints, .. }
         | Job::Explain { hints, .. }
+        | Job::Retell { hints, .. }
         | Job::Emit { hints, .. }
         | Job::Explore { hints, .. }
         | Job::Search { hints, .. }
@@ -54,6 +55,7 @@ fn exits_of(job: Job<'_>) -> Exits
         | Job::Exec { exits, .. }
         | Job::Replay { exits, .. }
         | Job::Explain { exits, .. }
+        | Job::Retell { exits, .. }
         | Job::Explore { exits, .. }
         | Job::Search { exits, .. }
         | Job::Follow { exits, .. }
@@ -76,6 +78,7 @@ fn file_of<'a>(job: Job<'a>) -> &'a str {
         | Job::Run { file, .. }
         | Job::Replay { file, .. }
         | Job::Explain { file, .. }
+        | Job::Retell { file, .. }
         | Job::Emit { file, .. }
         | Job::Explore { file, .. }
         | Job::Search { file, .. }
@@ -107,6 +110,8 @@ enum Second<'a> {
     None,
     // A source text, or a schedule.
     Text(&'a str),
+    // The actions of a run, all of them.
+    All(&'a str),
     // A log of at most so many steps.
     Log { name: &'a str, steps: u32 },
 }
@@ -150,6 +155,7 @@ fn second_of<'a>(job: Job<'a>) -> Second<'a>
         Job::List { source, .. } => second_of_list(source),
         Job::Replay { by, .. } | Job::Follow { by, .. } => second_of_replay(by),
         Job::Explain { by, .. } => second_of_explained(by),
+        Job::Retell { actions, .. } => Second::All(actions),
         Job::Shrink { schedule, .. } => Second::Text(schedule),
         Job::Check { .. }
         | Job::Compile { .. }
@@ -194,6 +200,7 @@ fn first_of(job: Job<'_>) -> First
         | Job::Run { .. }
         | Job::Replay { .. }
         | Job::Explain { .. }
+        | Job::Retell { .. }
         | Job::Emit { .. }
         | Job::Explore { .. }
         | Job::Fmt { .. }
@@ -240,6 +247,7 @@ fn second_bytes<'a, R: Files + AllocGlobal>(
     match second {
         Second::None => Ok(Vec::new(rt.alloc())),
         Second::Text(name) => bytes_of(rt, failures, name),
+        Second::All(name) => front_of(rt, failures, name, ALL),
         Second::Log { name, steps } => front_of(rt, failures, name, log_bytes(steps) + 1),
     }
 }
@@ -265,7 +273,7 @@ pub fn do_job<'a, R: Files + AllocGlobal + Threads + Wait + Sync, P: Progress>(
 }
 
 /// Does a job, with these bytes in the file that it is about, and these in the second one that it names: `second` is the
-/// source text beside an image, the schedule or the log, and is not looked at where the job has no second file. It reads
+/// source text beside an image, the schedule, the log or the actions, and is not looked at where the job has no second file. It reads
 /// and writes no file.
 ///
 /// The answer has the exit status, what standard output and standard error get, and the files that are to be written.
@@ -275,8 +283,8 @@ pub fn do_job<'a, R: Files + AllocGlobal + Threads + Wait + Sync, P: Progress>(
 ///
 /// The refusal of the text that the job is about, or of the source text beside an image. Else the failure: bytes that are
 /// no image, the image of another text, or one of the first version that is to be run by Linux's rule of exits; an
-/// entry of the schedule or of the log, or a line of the log, that is refused, or a log that is too long; a schedule whose
-/// run doesn't fail; a fault of the run of an image; or want of memory. Each but the last has its cause in the bytes
+/// entry of the schedule or of the log, or a line of the log, that is refused, or a log that is too long; a line that is no
+/// action's, or an action that can't come next; a schedule whose run doesn't fail; a fault of the run of an image; or want of memory. Each but the last has its cause in the bytes
 /// (`FailsJob`). A job on a source text that makes no run by a schedule or a log fails for want of memory alone.
 pub fn answer_job<'a, R: AllocGlobal + Threads + Wait + Sync, P: Progress>(
     rt: &R,
@@ -358,6 +366,21 @@ fn answer_of<'a, R: AllocGlobal + Threads + Wait + Sync, P: Progress>(
             };
             answer_explain(alloc, text, second, by, drawings, places, told)
         }
+        Job::Retell {
+            actions,
+            chart,
+            timeline,
+            page,
+            places,
+            ..
+        } => {
+            let drawings = Drawings {
+                chart,
+                timeline,
+                page,
+            };
+            answer_retell(alloc, text, second, actions, drawings, places, told)
+        }
         Job::Emit { out, .. } => answer_emit(alloc, text, out),
         Job::Assemble { out, .. } => answer_assemble(alloc, text, out),
         Job::Fmt { check, .. } => answer_fmt(alloc, text, check),
@@ -389,6 +412,7 @@ fn answer_of<'a, R: AllocGlobal + Threads + Wait + Sync, P: Progress>(
             timeline,
             page,
             schedule,
+            actions,
             places,
             ..
         } => {
@@ -397,13 +421,14 @@ fn answer_of<'a, R: AllocGlobal + Threads + Wait + Sync, P: Progress>(
                 timeline,
                 page,
             };
+            let written = FoundFiles { schedule, actions };
             let searched = Searched {
                 states,
                 outside: Outside { strays, kills },
                 asked: Asked { ends },
             };
             answer_explore(
-                alloc, text, searched, drawings, schedule, places, told, progress,
+                alloc, text, searched, drawings, written, places, told, progress,
             )
         }
     }

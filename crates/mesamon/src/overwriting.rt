@@ -1,6 +1,6 @@
 ghost use Rattle.std.specs.Prelude.{◌≡◌};
 ghost use Rattle.answers.specs.Answers.{out_of};
-ghost use Rattle.mesamon.specs.Overwriting.{draws_over, finds_over, is_same, is_twice, overwrites, read_by, replay_overwrites};
+ghost use Rattle.mesamon.specs.Overwriting.{draws_over, finds_over, is_one_of, is_same, is_twice, overwrites, read_by, replay_overwrites};
 
 use commandline::{ChartOptions, ExplainedBy, Job, ReplayedBy};
 
@@ -46,21 +46,36 @@ fn draws_over(
         || is_same(timeline, page)
 }
 
-// The same of what shows a run of the text in a file: its picture, its timeline, its page and a schedule.
+// Whether a file is one of these four.
+fn is_one_of(
+    name: Option<&str>,
+    first: Option<&str>,
+    second: Option<&str>,
+    third: Option<&str>,
+    fourth: Option<&str>,
+) -> bool
+    ensures { result
+        ≡ is_one_of name.entry first.entry second.entry third.entry fourth.entry }
+{
+    is_same(name, first) || is_same(name, second) || is_same(name, third) || is_same(name, fourth)
+}
+
+// The same of what shows a run of the text in a file: its picture, its timeline, its page, a schedule and its actions.
 fn finds_over(
     file: &str,
     chart: Option<&str>,
     timeline: Option<&str>,
     page: Option<&str>,
     schedule: Option<&str>,
+    actions: Option<&str>,
 ) -> bool
-    ensures { result ≡ finds_over file.entry chart.entry timeline.entry page.entry schedule.entry }
+    ensures { result ≡ finds_over file.entry chart.entry timeline.entry page.entry schedule.entry
+        actions.entry }
 {
     draws_over(Some(file), None, chart, timeline, page)
-        || is_same(schedule, Some(file))
-        || is_same(schedule, chart)
-        || is_same(schedule, timeline)
-        || is_same(schedule, page)
+        || is_one_of(schedule, Some(file), chart, timeline, page)
+        || is_one_of(actions, Some(file), chart, timeline, page)
+        || is_same(actions, schedule)
 }
 
 // The file of a picture.
@@ -131,8 +146,17 @@ pub fn overwrites(job: &Job<'_>) -> bool
             timeline,
             page,
             schedule,
+            actions,
             ..
-        } => finds_over(file, out_of(chart), timeline, page, schedule),
+        } => finds_over(file, out_of(chart), timeline, page, schedule, actions),
+        Job::Retell {
+            file,
+            actions,
+            chart,
+            timeline,
+            page,
+            ..
+        } => draws_over(Some(file), Some(actions), out_of(chart), timeline, page),
     }
 }
 

@@ -7,5 +7,5 @@ returns-clause-told c = record {
   ended = c.quiet.ensures.status;
   output = search rules;
   account = c.quiet.ensures.account;
-  files = are_puts _ _ _ _ c.quiet.ensures.files c.only.ensures.out c.only.ensures.timeline c.only.ensures.page c.only.ensures.schedule refl;
+  files = are_puts _ _ _ _ c.quiet.ensures.files c.only.ensures.out c.only.ensures.timeline c.only.ensures.page c.only.ensures.schedule c.only.ensures.actions refl;
 }

@@ -19,6 +19,6 @@ returns-clause-done c = record {
       (subst (λ (xs : List ℕ). AreTold (is_some c.args.source) xs c.in_ok-output.output.items) c.in_ok-lines.ensures
       c.in_ok-output.ensures.told);
   account = c.quiet.ensures.account;
-  files = are_puts _ _ _ _ c.quiet.ensures.files c.only.ensures.out c.only.ensures.timeline c.only.ensures.page c.only.ensures.schedule
+  files = are_puts _ _ _ _ c.quiet.ensures.files c.only.ensures.out c.only.ensures.timeline c.only.ensures.page c.only.ensures.schedule c.only.ensures.actions
       refl;
 }

@@ -15,6 +15,6 @@ returns-clause-told c =
           ∙ ap (λ (ts : List Turn). steps_line (length ts)) turns;
       account = c.quiet.ensures.account;
       files = are_puts _ _ _ _ c.quiet.ensures.files c.only.ensures.out c.only.ensures.timeline c.only.ensures.page
-          c.only.ensures.schedule
+          c.only.ensures.schedule c.only.ensures.actions
           (c.in_ok-file.ensures ∙ ap (λ (ts : List Turn). Some (c.args.out, schedule_text ts)) turns);
     }

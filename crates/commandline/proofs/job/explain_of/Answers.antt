@@ -8,15 +8,15 @@ use Rattle.commandline.proofs.job.explain_of.Goals as goal
 pub returns-in_err-file-clause-none : goal.returns-in_err-file-clause-none
 returns-in_err-file-clause-none c =
     let file = first_value-rows (found_of c.args.matches.now) (codes "FILE") in
-    λ _ job. no_explain (rows_of (found_of c.args.matches.now)) job (inl (search rules))
+    λ _ job. no_explain (rows_of (found_of c.args.matches.now)) job (search rules) (inl (search rules))
 
 pub returns-in_err-by-clause-none : goal.returns-in_err-by-clause-none
 returns-in_err-by-clause-none c = λ _ job.
-    no_explain (rows_of (found_of c.args.matches.now)) job (inr (inl (c.in_err-by.ensures.none refl)))
+    no_explain (rows_of (found_of c.args.matches.now)) job (search rules) (inr (inl (c.in_err-by.ensures.none refl)))
 
 pub returns-in_err-chart-clause-none : goal.returns-in_err-chart-clause-none
 returns-in_err-chart-clause-none c = λ _ job.
-    no_explain (rows_of (found_of c.args.matches.now)) job (inr (inr (c.in_err-chart.ensures.none refl)))
+    no_explain (rows_of (found_of c.args.matches.now)) job (search rules) (inr (inr (c.in_err-chart.ensures.none refl)))
 
 pub returns-clause-job : goal.returns-clause-job
 returns-clause-job c =
@@ -34,4 +34,5 @@ returns-clause-job c =
       sym page ∙ sym c.get_str-page.ensures,
       (search rules, search rules),
       (search rules, search rules),
+      search rules,
     )

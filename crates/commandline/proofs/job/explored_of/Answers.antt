@@ -34,6 +34,7 @@ returns-clause-job c =
     let timeline = first_value-rows found (codes "timeline") in
     let page = first_value-rows found (codes "page") in
     let schedule = first_value-rows found (codes "schedule") in
+    let actions = first_value-rows found (codes "actions") in
     let places = one_text-rows found (codes "places") in
     let hints = one_text-rows found (codes "hints") in (
       search rules,
@@ -46,6 +47,7 @@ returns-clause-job c =
       sym timeline ∙ sym c.get_str-timeline.ensures,
       sym page ∙ sym c.get_str-page.ensures,
       sym schedule ∙ sym c.get_str-schedule.ensures,
+      sym actions ∙ sym c.get_str-actions.ensures,
       (search rules, search rules),
       (search rules, search rules),
       c.requires,

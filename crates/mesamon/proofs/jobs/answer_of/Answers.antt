@@ -6,6 +6,7 @@ use Rattle.answers.specs.Asked.{IsReplayedAs, IsRunAs, log_beside}
 use Rattle.answers.specs.Causes.{FailsExplanation, FailsFollowing, FailsImage, FailsReplay, FailsRun, FailsShrinking}
 use Rattle.answers.specs.Done.{HasExecuted, HasExplained, HasRun}
 use Rattle.answers.specs.Exploring.{HasExplored}
+use Rattle.answers.specs.Retelling.{FailsRetelling}
 use Rattle.answers.specs.Images.{HasFollowed, HasSearched, UnassemblesAs}
 use Rattle.answers.specs.Shrinking.{HasShrunk}
 use Rattle.answers.proofs.Told.{or_memory}
@@ -94,6 +95,16 @@ returns-in-Explain-clause-left g c =
     _ _ _ _ _ c.in-Explain.is c.requires.exits (λ x h. h) (λ x h. absurd h) (λ f h. h)
     c.answer_explain.ensures.left
 
+pub returns-in-Retell-clause-done : goal.returns-in-Retell-clause-done
+returns-in-Retell-clause-done g c = done_as _ _ _ _ _ c.in-Retell.is c.answer_retell.ensures.done
+
+pub returns-in-Retell-clause-left : goal.returns-in-Retell-clause-left
+returns-in-Retell-clause-left g c =
+    left_by _ (λ e. RefusesTextAs (version_by e) c.args.text.now.bytes.now) (λ e. ⊥)
+    (λ e. FailsRetelling c.args.text.now.bytes.now c.args.second.now)
+    _ _ _ _ _ c.in-Retell.is c.requires.exits (λ x h. h) (λ x h. absurd h) (λ f h. h)
+    c.answer_retell.ensures.left
+
 pub returns-in-Emit-clause-done : goal.returns-in-Emit-clause-done
 returns-in-Emit-clause-done g c = done_as _ _ _ _ _ c.in-Emit.is c.answer_emit.ensures.done
 
@@ -107,7 +118,7 @@ returns-in-Explore-clause-done g c =
     done_by _ _ _ _ _ _
     (λ e. HasExplored (version_by e) (record { strays = c.in-Explore.strays; kills = c.in-Explore.kills })
     (record { ends = c.in-Explore.ends }) c.in-Explore.states c.in-Explore.places c.in-Explore.chart c.in-Explore.timeline c.in-Explore.page
-    c.in-Explore.schedule c.args.text.now.bytes.now)
+    c.in-Explore.schedule c.in-Explore.actions c.args.text.now.bytes.now)
     c.in-Explore.is c.requires.exits (λ a h. h) c.answer_explore.ensures.done
 
 pub returns-in-Explore-clause-left : goal.returns-in-Explore-clause-left

@@ -7,5 +7,5 @@ returns-clause-told c = record {
   ended = c.status_of.ensures;
   output = c.in_ok-output.ensures;
   account = c.in_ok-account.ensures;
-  files = (c.in_ok-out.ensures ∙ ap (log_put c.args.log) c.iter.ensures, refl, refl, refl);
+  files = (c.in_ok-out.ensures ∙ ap (log_put c.args.log) c.iter.ensures, refl, refl, refl, refl);
 }

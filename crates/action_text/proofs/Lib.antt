@@ -1,0 +1,9 @@
+pub mod Shown
+pub mod Numbers
+pub mod Called
+pub mod Forms
+pub mod Lines
+pub mod Members
+pub mod Passing
+pub mod Refused
+pub mod Ending

@@ -1,0 +1,4 @@
+pub mod ActionText
+pub mod Sized
+pub mod Reading
+pub mod Following
