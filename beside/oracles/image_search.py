@@ -14,7 +14,9 @@ whether a thread sleeps for good, and how many steps lead there. The steps of a 
 that comes to more than N states, 1,000,000 where it isn't said, it says that.
 
 With --rows it searches the texts and images that rows of crates/test_commands explore, those that keep 10,000 states at most
-where it isn't said, and says which rows have another verdict, another number of states, or another length of a run.
+where it isn't said, and says which rows have another verdict, another length of a run, another number of states, or came to
+another number on the way. Where a row shows a run it may have more states: a run is shown only where the machine's own choice
+of sleepers leads to its end, and else the search goes on.
 """
 
 import argparse
@@ -35,8 +37,9 @@ MOST_AT_ONCE = 4096
 # For how many states that are kept a search tells once how far it has come, in rows.
 EACH = 2000
 ADDRESS, PRINT, REQUEUE = 0x1B, 0x27, 0x2A
-# What a search found: how many states, whether these are all, the verdict, how many steps lead there, and who sleeps for good.
-Found = namedtuple("Found", "states complete verdict steps sleepers")
+# What a search found: how many states, whether these are all, the verdict, how many steps lead there, how many of them are
+# lines of a run, and who sleeps for good.
+Found = namedtuple("Found", "states complete verdict steps lines sleepers", defaults=[None] * 4)
 
 
 class Words(dict):
@@ -235,6 +238,12 @@ class Search:
                 return "stuck"
         return None
 
+    def is_line(self, state, number):
+        """Whether a thread's next step is a line of a run: one of its exit isn't, nor a local one, by which it fails."""
+        if self.locals[state[3][number - 1]][0] != "run":
+            return self.locals[state[3][number - 1]][0] == "dying"
+        return not self.enter(state, number, []).is_local(number)
+
     def used(self, state, number):
         """The words that a thread's next step uses, but for its own words of its exit."""
         machine = self.enter(state, number, [])
@@ -273,34 +282,36 @@ class Search:
     def try_run(self, most):
         """The same; None where a thread's next step sees an exit that was taken alone."""
         opening = self.opening()
-        self.depths, self.behind, self.told = {opening: 0}, {}, []
+        # Of each state how many steps lead there, and how many of these are lines of a run.
+        self.depths, self.behind, self.told = {opening: (0, 0)}, {}, []
         kept = [opening]
         for looked, state in enumerate(kept, 1):
             if self.alone and not self.is_apart(state):
                 return None
             depth, verdict = self.depths[state], self.verdict(state)
             if verdict:
-                return Found(len(kept), True, verdict, depth, None)
+                return Found(len(kept), True, verdict, *depth)
             own, nexts = [], []
             for number in range(1, len(state[3]) + 1):
                 try:
                     after = list(self.own(state, number)) if self.can_move(state, number) else []
                 except Broken:
-                    return Found(len(kept), True, "broken", depth, None)
+                    return Found(len(kept), True, "broken", *depth)
                 own += after
-                nexts += [*after, *self.outside(state, number)]
+                line = self.is_line(state, number)
+                nexts += [*((new, line) for new in after), *((new, 1) for new in self.outside(state, number))]
             self.behind[state] = own
             # The last ones are kept first. How many states are kept before an end is found depends on that, and nothing else.
-            for after in reversed(nexts):
+            for after, line in reversed(nexts):
                 if after not in self.depths:
                     if len(kept) == most:
-                        return Found(most, False, None, None, None)
-                    self.depths[after] = depth + 1
+                        return Found(most, False)
+                    self.depths[after] = depth[0] + 1, depth[1] + line
                     kept.append(after)
             if len(kept) >= EACH * (len(self.told) + 1):
                 self.told.append(f"explore: {len(kept)} states kept, {len(kept) - looked} yet to be looked at")
         if self.strays:
-            return Found(len(kept), True, None, None, None)
+            return Found(len(kept), True)
         return self.told_sleepers(kept)
 
     def told_sleepers(self, kept):
@@ -323,8 +334,8 @@ class Search:
                     lost.setdefault(state, []).append(number)
         first = next((state for state in kept if state in lost), None)
         if first is None:
-            return Found(len(kept), True, None, None, ())
-        return Found(len(kept), True, None, self.depths[first], tuple(lost[first]))
+            return Found(len(kept), True, sleepers=())
+        return Found(len(kept), True, None, *self.depths[first], tuple(lost[first]))
 
 
 def searched(found):
@@ -367,8 +378,9 @@ def is_said(row, found, told):
         return False
     if not found.complete:
         return output[0] == f"{found.states} states, not all" and status == 4
-    run = [line for line in output if line[:1].isdigit()][1:]
-    if output[0] != f"{found.states} states" or len(run) != (found.steps or 0):
+    states = int(output[0].removesuffix(" states"))
+    run = [line for line in output if line[:1].isdigit() and not line.endswith("states") and "may not be" not in line]
+    if len(run) != (found.lines or 0) or states < found.states or not found.verdict and states > found.states:
         return False
     if found.verdict:
         return output[1] == found.verdict and status == {"stuck": 3}.get(found.verdict, 7)
