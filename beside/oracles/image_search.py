@@ -399,7 +399,8 @@ def compare_rows(most, only):
             rows = rows_of(file.read().split("\n")[:-1])
         for row in rows:
             words, said = words_of(row), row.lines.get("output", [""])[0].split(" ")
-            if words is None or only not in row.name or said[1:2] != ["states"] and said[1:2] != ["states,"]:
+            chosen = not only or any(word in row.name for word in only)
+            if words is None or not chosen or said[1:2] not in (["states"], ["states,"]):
                 continue
             if int(said[0]) > most:
                 cut += 1
@@ -422,7 +423,7 @@ def main():
     parser.add_argument("--exits", choices=["linux"])
     for word in ("--strays", "--image", "--rows"):
         parser.add_argument(word, action="store_true")
-    parser.add_argument("--only", default="")
+    parser.add_argument("--only", action="append", default=[])
     parser.add_argument("files", nargs="*")
     words = parser.parse_args()
     if words.rows:
