@@ -102,8 +102,8 @@ class Search:
         self.first = tuple((address, word) for address, word in enumerate(self.machine.words) if word)
         # Exits are taken alone, unless the code takes the address of an id word or a thread's next step sees it.
         self.alone = (ADDRESS, ID) not in self.machine.code
-        self.memories, self.locals = [], []
-        self.numbers = {}
+        # The memories and the threads' own states, by their numbers; and which of these have a step that is a line.
+        self.memories, self.locals, self.numbers, self.lines = [], [], {}, {}
         self.start = self.packed(self.machine.threads[0])
 
     # ---- Between states and the machine ----
@@ -240,9 +240,12 @@ class Search:
 
     def is_line(self, state, number):
         """Whether a thread's next step is a line of a run: one of its exit isn't, nor a local one, by which it fails."""
-        if self.locals[state[3][number - 1]][0] != "run":
-            return self.locals[state[3][number - 1]][0] == "dying"
-        return not self.enter(state, number, []).is_local(number)
+        local = state[3][number - 1]
+        if local not in self.lines:
+            phase = self.locals[local][0]
+            fails = phase == "run" and self.enter(state, number, []).is_local(number)
+            self.lines[local] = phase in ("run", "dying") and not fails
+        return self.lines[local]
 
     def used(self, state, number):
         """The words that a thread's next step uses, but for its own words of its exit."""
@@ -371,7 +374,7 @@ def words_of(row):
 
 
 def is_said(row, found, told):
-    """Whether a row says this: the verdict, the length of the run that is found, how many states there are, and how far it came."""
+    """Whether a row says this: the verdict, the length of the run, how many states there are, and how far it came."""
     output, errors = row.lines.get("output", []), row.lines.get("errors", [])
     status = int(row.lines.get("status", ["0"])[0])
     if [line for line in errors if line.startswith("explore: ")] != told or not output:
